@@ -1,0 +1,79 @@
+-- Admission (paper 01, 'Admission' and refusals 11 to 16). 'Admission tries 1, then 11 to 16.' Assumes nothing.
+use Prim.Native.Nat.{ℕ, suc, _+_}
+use mathlib.Core.Bool.{Bool, false, not, _&&_, cond}
+use mathlib.Core.List.{List, [], _∷_, _++_, map}
+use lib.Dec.{leb, ltb, eqb}
+use lib.ListN.{length}
+use Rattle.rules.specs.Lists.{some-of, firstOf}
+use Rattle.rules.specs.Bus.{places, most-admitted, Discipline, PRI, RTDG, RTVC, Packet, Station, Bus}
+use Rattle.rules.specs.Standing.{value-fits, length-fits, stands}
+
+-- 'An admission names an address, a value and a length.'
+pub record Arrival : Type 0 where
+  pub address : ℕ
+  pub value : ℕ
+  pub length : ℕ
+
+-- the refusal number, or 0; 'the number is the answer', and 0 where refused
+pub record Admitted : Type 0 where
+  pub refusal : ℕ
+  pub number : ℕ
+
+-- whether this is the station named: addresses are compared in full
+abbrev pub named : Arrival → Station → Bool
+named a s = eqb (a .address) (s .address)
+
+-- 'RTDG latest start below the present clock'
+abbrev pub too-late : Discipline → ℕ → ℕ → Bool
+too-late PRI clock value = false
+too-late RTDG clock value = ltb value clock
+too-late RTVC clock value = false
+
+abbrev pub admissionTests : Bus → Arrival → List (ℕ × Bool)
+admissionTests b a =
+    (1, not (stands b))
+    ∷ (11, not (some-of (named a) (b .stations)))
+    ∷ (12, not (value-fits (b .discipline) (b .D) (a .value)))
+    ∷ (13, not (length-fits (a .length)))
+    ∷ (14, too-late (b .discipline) (b .clock) (a .value))
+    ∷ (15, some-of (λ s. named a s && leb places (length (s .queue))) (b .stations))
+    ∷ (16, leb most-admitted (b .admitted))
+    ∷ []
+
+abbrev pub admissionRefusal : Bus → Arrival → ℕ
+admissionRefusal b a = firstOf 0 (admissionTests b a)
+
+-- 'An accepted packet is numbered 1, 2, 3 and so on.'
+abbrev pub newPacket : Bus → Arrival → Packet
+newPacket b a = record { number = suc (b .admitted); value = a .value; length = a .length }
+
+-- the packet goes to the end of its station's queue; 'a packet admitted while a contention is under way does not join it'
+abbrev pub queued : Packet → Station → Station
+queued p s = record { address = s .address; capability = s .capability; queue = s .queue ++ (p ∷ []); offer = s .offer }
+
+abbrev pub joined : Bus → Arrival → Station → Station
+joined b a s = cond (named a s) (queued (newPacket b a) s) s
+
+abbrev pub withPacket : Bus → Arrival → Bus
+withPacket b a =
+    record {
+      discipline = b .discipline;
+      D = b .D;
+      A = b .A;
+      q = b .q;
+      stations = map (joined b a) (b .stations);
+      clock = b .clock;
+      admitted = suc (b .admitted);
+      sent = b .sent;
+      lost = b .lost;
+      last = b .last;
+      contention = b .contention;
+    }
+
+-- 'Any other refusal hands back the number, zero in the answer's other fields, and the state exactly as lent.'
+abbrev pub admit : Bus → Arrival → Admitted × Bus
+admit b a =
+    cond
+    (eqb (admissionRefusal b a) 0)
+    (record { refusal = 0; number = suc (b .admitted) }, withPacket b a)
+    (record { refusal = admissionRefusal b a; number = 0 }, b)

@@ -1,0 +1,108 @@
+-- The bus and its numbers (paper 01), and the machine's state: no padding, no arrays.
+--
+-- The ranges are those of paper 01's table. A station that contends keeps its offer with it, so that a station contends with
+-- one packet at the most. `last` is the capability of the round's last winner. Assumes nothing.
+use Prim.Native.Nat.{ℕ, _+_}
+use mathlib.Core.Option.{Option, none}
+use mathlib.Core.List.{List, [], _∷_, _++_, map}
+use lib.ListN.{length}
+use Rattle.window.specs.declared.Window.{Window}
+use Rattle.rules.specs.Lists.{total}
+
+-- 'stations N: 1 to 64'
+abbrev pub most-stations : ℕ
+most-stations = 64
+
+-- 'parameter space D', 'address space A: 2 to 65,536'
+abbrev pub least-space : ℕ
+least-space = 2
+
+abbrev pub most-space : ℕ
+most-space = 65_536
+
+-- 'laxity step q: RTDG: 1 to 65,535'
+abbrev pub most-step : ℕ
+most-step = 65_535
+
+-- 'queue: 16 packets a station'
+abbrev pub places : ℕ
+places = 16
+
+-- 'packet length: 1 to 4,096 slots'
+abbrev pub longest-packet : ℕ
+longest-packet = 4_096
+
+-- 'clock: slots 0 to 1,073,741,824'
+abbrev pub clock-end : ℕ
+clock-end = 1_073_741_824
+
+-- '17: step with the clock above 1,073,737,728'
+abbrev pub last-slot : ℕ
+last-slot = 1_073_737_728
+
+-- 'packets admitted: at most 4,294,967,295'
+abbrev pub most-admitted : ℕ
+most-admitted = 4_294_967_295
+
+-- 'by priority', 'by laxity', 'by virtual circuit'
+pub data Discipline : Type 0 where
+  PRI RTDG RTVC : Discipline
+
+-- '0 PRI, 1 RTDG, 2 RTVC'
+abbrev pub code : Discipline → ℕ
+code PRI = 0
+code RTDG = 1
+code RTVC = 2
+
+-- the value is a priority (PRI), the latest slot in which the packet may start (RTDG), or 0 (RTVC)
+pub record Packet : Type 0 where
+  pub number : ℕ
+  pub value : ℕ
+  pub length : ℕ
+
+-- the packet that a station contends with, and its parameter, 'fixed for the whole contention'
+pub record Offer : Type 0 where
+  pub parameter : ℕ
+  pub packet : Packet
+
+pub record Station : Type 0 where
+  pub address : ℕ
+  pub capability : ℕ
+  pub queue : List Packet
+  pub offer : Option Offer
+
+-- a contention under way; `tie` is the tied parameter in the tie phase, and none before it
+pub record Contention : Type 0 where
+  pub window : Window
+  pub tie : Option ℕ
+
+pub record Bus : Type 0 where
+  pub discipline : Discipline
+  pub D : ℕ
+  pub A : ℕ
+  pub q : ℕ
+  pub stations : List Station
+  pub clock : ℕ
+  pub admitted : ℕ
+  pub sent : ℕ
+  pub lost : ℕ
+  pub last : Option ℕ
+  pub contention : Option Contention
+
+-- 'waiting is the number of packets in the queues'
+abbrev pub waiting : List Station → ℕ
+waiting stations = total (λ s. length (s .queue)) stations
+
+-- the packets' numbers in one queue, and in all queues
+abbrev pub numbersIn : List Packet → List ℕ
+numbersIn queue = map (λ p. p .number) queue
+
+abbrev pub numbers : List Station → List ℕ
+numbers [] = []
+numbers (s ∷ stations) = numbersIn (s .queue) ++ numbers stations
+
+-- 'an all-zero state'
+abbrev pub nothing : Bus
+nothing =
+    record
+    { discipline = PRI; D = 0; A = 0; q = 0; stations = []; clock = 0; admitted = 0; sent = 0; lost = 0; last = none; contention = none }

@@ -1,0 +1,205 @@
+-- The demands, and what else paper 01 promises of its machine, as statements. The theorems that prove them bear the same names
+-- in small letters, in proofs/. `r` is a set-up as asked for, `calls` are the calls after it, `later` are the calls after those.
+-- Assumes nothing.
+use Prim.Native.Nat.{ℕ, suc, _+_, _-_, _*_, _≤_, _<_, max}
+use mathlib.Core.Path.{_≡_}
+use mathlib.Core.Logic.{_⊎_, _↔_}
+use mathlib.Core.Bool.{Bool, true, _&&_, cond}
+use mathlib.Core.Option.{none}
+use mathlib.Core.List.{List, [], _∷_, map}
+use lib.Dec.{eqb}
+use lib.ListN.{length}
+use Rattle.window.specs.Splitting.{exponentOf}
+use Rattle.rules.specs.Lists.{bit, count, some-of, total, Among, All, Distinct}
+use Rattle.rules.specs.Bus.{Discipline, PRI, RTDG, RTVC, Packet, Station, Bus, nothing, waiting}
+use Rattle.rules.specs.SetUp.{Request, setUp}
+use Rattle.rules.specs.Standing.{Standing}
+use Rattle.rules.specs.Admission.{Arrival, admit}
+use Rattle.rules.specs.Probe.{Answer, Contender, able, contenders, transmitters, idle, collision, success, refusedAnswer}
+use Rattle.rules.specs.Step.{opened, step}
+use Rattle.rules.specs.Engine.{Engine, machine, Call, admission, Reply, admitted, stepped, replies, reach, answers}
+
+-- ---- demand 2
+
+-- 'Each slot's event, winner, drops and clock are those of the window procedure': after any set-up and any calls, the replies are the machine's.
+pub record Demand2 (E : Engine) : Type 0 where
+  pub setUps : (r : Request) → E .setUp r .0 ≡ setUp r .0
+  pub calls : (r : Request) (calls : List Call) → replies E (E .setUp r .1) calls ≡ replies machine (setUp r .1) calls
+
+-- a smaller parameter; 'among equals, the smallest full address'
+abbrev pub Ahead : Contender → Contender → Type 0
+Ahead x y = (x .parameter < y .parameter) ⊎ ((x .parameter ≡ y .parameter) × (x .address ≤ y .address))
+
+-- the contenders in the slot that the next step probes, those of them still able to start in it, and those who transmit
+abbrev pub contendersAt : Bus → List Contender
+contendersAt b = contenders (opened b .bus .stations)
+
+abbrev pub StillAble : Bus → Contender → Type 0
+StillAble b x = able (b .discipline) (b .clock) x ≡ true
+
+abbrev pub transmittersAt : Bus → List Contender
+transmittersAt b = transmitters (opened b .bus) (opened b .contention)
+
+-- An answer names a contender, and 'whoever wins has the smallest parameter among the contenders still able to start in that slot'.
+pub record Least (b : Bus) (a : Answer) : Type 0 where
+  pub winner : Contender
+  pub contends : Among winner (contendersAt b)
+  pub is-able : StillAble b winner
+  pub address : a .address ≡ winner .address
+  pub number : a .number ≡ winner .packet .number
+  pub length : a .length ≡ winner .packet .length
+  pub least : All (λ x. StillAble b x → Ahead winner x) (contendersAt b)
+
+abbrev pub WinnerIsLeast : Engine → Type 0
+WinnerIsLeast E =
+    (r : Request) (calls : List Call) → E .step (reach E r calls) .0 .event ≡ success → Least (reach machine r calls) (E .step (reach E r calls) .0)
+
+-- 'collisions were booked as lone wins': an accepted step's event says how many contenders transmit, in any state whatever
+pub record Heard (n : ℕ) (event : ℕ) : Type 0 where
+  pub lone : (event ≡ success) ↔ (n ≡ 1)
+  pub several : (event ≡ collision) ↔ (2 ≤ n)
+  pub none-sends : (event ≡ idle) ↔ (n ≡ 0)
+
+abbrev pub NoFalseWin : Type 0
+NoFalseWin = (b : Bus) → step b .0 .refusal ≡ 0 → Heard (length (transmittersAt b)) (step b .0 .event)
+
+-- and so does any engine's, in reached states
+abbrev pub EventsAreTrue : Engine → Type 0
+EventsAreTrue E =
+    (r : Request) (calls : List Call) → E .step (reach E r calls) .0 .refusal ≡ 0
+    → Heard (length (transmittersAt (reach machine r calls))) (E .step (reach E r calls) .0 .event)
+
+-- 'stations 0007 and 0107 became one sender': two stations of a set-up never share a full address
+abbrev pub AddressesApart : Type 0
+AddressesApart = (r : Request) (calls : List Call) → Distinct (map (λ s. s .address) (reach machine r calls .stations))
+
+-- ---- the standing conditions and refusals
+
+-- 'Every call that accepts keeps these conditions.'
+pub record KeepsStanding : Type 0 where
+  pub set-up : (r : Request) → setUp r .0 .refusal ≡ 0 → Standing (setUp r .1)
+  pub admission : (b : Bus) (a : Arrival) → admit b a .0 .refusal ≡ 0 → Standing (admit b a .1)
+  pub step : (b : Bus) → step b .0 .refusal ≡ 0 → Standing (step b .1)
+
+-- so that no call after an accepted set-up is refused with 1
+abbrev pub ReachedStands : Type 0
+ReachedStands = (r : Request) (calls : List Call) → setUp r .0 .refusal ≡ 0 → Standing (reach machine r calls)
+
+-- 'A refused set-up hands back its number and an all-zero state, which refusal 1 catches. Any other refusal hands back the number, zero
+-- in the answer's other fields, and the state exactly as lent.'
+pub record HandsBack : Type 0 where
+  pub set-up : (r : Request) → ¬ (setUp r .0 .refusal ≡ 0) → setUp r .1 ≡ nothing
+  pub admission : (b : Bus) (a : Arrival) → ¬ (admit b a .0 .refusal ≡ 0) → admit b a ≡ (record { refusal = admit b a .0 .refusal; number = 0 }, b)
+  pub step : (b : Bus) → ¬ (step b .0 .refusal ≡ 0) → step b ≡ (refusedAnswer (step b .0 .refusal), b)
+  pub caught : ¬ Standing nothing
+
+-- ---- probes
+
+-- 'the number of steps whose answers belong to the contention': accepted answers up to the one that ends it
+abbrev pub probes : List Answer → ℕ
+probes [] = 0
+probes (a ∷ rest) = cond (eqb (a .refusal) 0) (suc (cond (eqb (a .ended) 1) 0 (probes rest))) (probes rest)
+
+-- 'at most 2L in RTVC, 2L + 2M + 1 in PRI and 2L + 2M + 2 in RTDG'
+abbrev pub mostProbes : Discipline → ℕ → ℕ → ℕ
+mostProbes PRI L M = 2 * L + 2 * M + 1
+mostProbes RTDG L M = 2 * L + 2 * M + 2
+mostProbes RTVC L M = 2 * L
+
+abbrev pub ProbesBounded : Engine → Type 0
+ProbesBounded E =
+    (r : Request) (calls : List Call) → reach machine r calls .contention ≡ none → (later : List Call)
+    → probes (answers E (reach E r calls) later)
+    ≤ mostProbes (reach machine r calls .discipline) (exponentOf (reach machine r calls .D)) (exponentOf (reach machine r calls .A))
+
+-- ---- counts
+
+-- the slots that a step took: a packet's length on success, else 1, and none if it was refused
+abbrev pub slotsOf : Answer → ℕ
+slotsOf a = cond (eqb (a .refusal) 0) (cond (eqb (a .event) success) (a .length) 1) 0
+
+-- what one reply adds to the packets admitted, sent and lost, and to the clock
+abbrev pub adds-admitted : Reply → ℕ
+adds-admitted (admitted a) = bit (eqb (a .refusal) 0)
+adds-admitted (stepped a) = 0
+
+abbrev pub adds-sent : Reply → ℕ
+adds-sent (admitted a) = 0
+adds-sent (stepped a) = bit (eqb (a .event) success)
+
+abbrev pub adds-lost : Reply → ℕ
+adds-lost (admitted a) = 0
+adds-lost (stepped a) = a .drops
+
+abbrev pub adds-slots : Reply → ℕ
+adds-slots (admitted a) = 0
+adds-slots (stepped a) = slotsOf a
+
+-- 'Counted over all answers since set-up, admitted = sent + lost + waiting', and the machine's own counts are those, its clock too
+pub record Counted (b : Bus) (rs : List Reply) : Type 0 where
+  pub balance : total adds-admitted rs ≡ total adds-sent rs + total adds-lost rs + waiting (b .stations)
+  pub admitted : b .admitted ≡ total adds-admitted rs
+  pub sent : b .sent ≡ total adds-sent rs
+  pub lost : b .lost ≡ total adds-lost rs
+  pub clock : b .clock ≡ total adds-slots rs
+
+abbrev pub CountsAreTrue : Engine → Type 0
+CountsAreTrue E = (r : Request) (calls : List Call) → Counted (reach machine r calls) (replies E (E .setUp r .1) calls)
+
+-- ---- demand 3
+
+-- 'N × (2L − 1 + P) + 1 slots'
+abbrev pub mostSlots : ℕ → ℕ → ℕ → ℕ
+mostSlots N L P = N * (2 * L - 1 + P) + 1
+
+-- contentions that ended among answers, and those that ended idle
+abbrev pub contentionsIn : List Answer → ℕ
+contentionsIn said = count (λ a. eqb (a .ended) 1) said
+
+abbrev pub idleContentionsIn : List Answer → ℕ
+idleContentionsIn said = count (λ a. eqb (a .ended) 1 && eqb (a .event) idle) said
+
+-- the slots that steps took
+abbrev pub slotsIn : List Answer → ℕ
+slotsIn said = total slotsOf said
+
+-- 'the longest packet sent meanwhile'
+abbrev pub longestIn : List Answer → ℕ
+longestIn [] = 0
+longestIn (a ∷ said) = max (a .length) (longestIn said)
+
+-- whether an answer says that this station's packet was sent
+abbrev pub sends : Station → Packet → Answer → Bool
+sends s p a = eqb (a .event) success && eqb (a .address) (s .address) && eqb (a .number) (p .number)
+
+-- the answers up to the one that says so, and with it
+abbrev pub upTo : (Answer → Bool) → List Answer → List Answer
+upTo says [] = []
+upTo says (a ∷ said) = a ∷ cond (says a) [] (upTo says said)
+
+-- 'its oldest packet has ended within N + 1 contentions, at most one of them idle, and within N × (2L − 1 + P) + 1 slots'. The first three
+-- say so of the answers up to its end; the last two, that it ends: it has been sent once so many contentions, or slots, have gone by.
+pub record Served (N L : ℕ) (s : Station) (p : Packet) (said : List Answer) : Type 0 where
+  pub contentions : contentionsIn (upTo (sends s p) said) ≤ N + 1
+  pub one-idle : idleContentionsIn (upTo (sends s p) said) ≤ 1
+  pub slots : slotsIn (upTo (sends s p) said) ≤ mostSlots N L (longestIn (upTo (sends s p) said))
+  pub ends : N + 1 ≤ contentionsIn said → some-of (sends s p) said ≡ true
+  pub ends-in-time : (P : ℕ) → p .length ≤ P → longestIn said ≤ P → mostSlots N L P ≤ slotsIn said → some-of (sends s p) said ≡ true
+
+-- 'Under RTVC with N circuits, from any state reached from set-up: if a circuit has a packet when a contention begins, ..
+-- if no step is refused for the clock's end. Other stations may admit as they like.'
+abbrev pub Demand3 : Engine → Type 0
+Demand3 E =
+    (r : Request) (calls : List Call) → reach machine r calls .discipline ≡ RTVC → reach machine r calls .contention ≡ none
+    → (s : Station) → Among s (reach machine r calls .stations) → (p : Packet) (rest : List Packet) → s .queue ≡ p ∷ rest
+    → (later : List Call) → All (λ a. a .refusal ≡ 0) (answers E (reach E r calls) later)
+    → Served (length (reach machine r calls .stations)) (exponentOf (reach machine r calls .D)) s p (answers E (reach E r calls) later)
+
+-- ---- what demand 2 gives an engine
+
+pub record Promised (E : Engine) : Type 0 where
+  pub winnerIsLeast : WinnerIsLeast E
+  pub eventsAreTrue : EventsAreTrue E
+  pub probesBounded : ProbesBounded E
+  pub countsAreTrue : CountsAreTrue E
+  pub demand3 : Demand3 E

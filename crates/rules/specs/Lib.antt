@@ -1,0 +1,13 @@
+pub mod Lists
+pub mod Bus
+pub mod SetUp
+pub mod Standing
+pub mod Admission
+pub mod Begin
+pub mod Probe
+pub mod Step
+pub mod Conditions
+pub mod Engine
+pub mod Demands
+pub mod Examples
+pub mod WrongEngines

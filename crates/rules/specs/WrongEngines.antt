@@ -1,0 +1,123 @@
+-- Engines that break the rules, each the machine with one thing changed. 'Try these and see them rejected' (paper 01, 'What the
+-- histories may rely on'): proofs/WrongEngines.antt refutes demand 2 of each of them, and demand 3 of `firstStation`.
+-- Assumes nothing.
+use Prim.Native.Nat.{ℕ, zero, suc, _+_, _%_}
+use mathlib.Core.Bool.{Bool, true, false, not, _||_, cond}
+use mathlib.Core.Option.{none}
+use mathlib.Core.List.{List, [], _∷_, map}
+use lib.Dec.{eqb}
+use Rattle.rules.specs.Lists.{keep}
+use Rattle.rules.specs.Bus.{Packet, Station, Bus, nothing}
+use Rattle.rules.specs.SetUp.{fault, setUp}
+use Rattle.rules.specs.Admission.{admit}
+use Rattle.rules.specs.Probe.{Contender, transmitters, Answer, refusedAnswer, Open, sentBy, withdrawn, lastWinner, heard, probe}
+use Rattle.rules.specs.Step.{opened, stepRefusal, step}
+use Rattle.rules.specs.Engine.{Engine}
+use Rattle.rules.specs.Examples.{dropping}
+
+-- refuses every call, set-up too, with one and the same number
+abbrev pub refusesAll : ℕ → Engine
+refusesAll n =
+    record {
+      State = Bus;
+      setUp = λ r. (fault (suc n) 0, nothing);
+      admit = λ b a. (record { refusal = suc n; number = 0 }, b);
+      step = λ b. (refusedAnswer (suc n), b);
+    }
+
+-- sets up as the machine does, and refuses every call after it
+abbrev pub refusesCalls : ℕ → Engine
+refusesCalls n =
+    record {
+      State = Bus;
+      setUp = setUp;
+      admit = λ b a. (record { refusal = suc n; number = 0 }, b);
+      step = λ b. (refusedAnswer (suc n), b);
+    }
+
+-- gives the machine's answers, and hands the state back untouched
+abbrev pub untouched : Engine
+untouched = record { State = Bus; setUp = setUp; admit = λ b a. (admit b a .0, b); step = λ b. (step b .0, b) }
+
+-- the machine with another way to probe
+abbrev pub probing : (Open → Answer × Bus) → Engine
+probing other =
+    record {
+      State = Bus;
+      setUp = setUp;
+      admit = admit;
+      step = λ b. cond (eqb (stepRefusal b) 0) (other (opened b)) (refusedAnswer (stepRefusal b), b);
+    }
+
+-- says idle each time, as if none transmitted
+abbrev pub alwaysIdle : Engine
+alwaysIdle = probing λ o. heard o []
+
+-- makes up drops: one more at each step
+abbrev pub madeUpDrops : Engine
+madeUpDrops = probing λ o. (dropping (suc (probe o .0 .drops)) (probe o .0), probe o .1)
+
+-- makes up sent counts: on success the packet stays in its queue, and is sent again
+abbrev pub stays : Bus → Contender → Bus
+stays b x =
+    record {
+      discipline = b .discipline;
+      D = b .D;
+      A = b .A;
+      q = b .q;
+      stations = map withdrawn (b .stations);
+      clock = b .clock + x .packet .length;
+      admitted = b .admitted;
+      sent = b .sent;
+      lost = b .lost;
+      last = lastWinner (b .discipline) x;
+      contention = none;
+    }
+
+abbrev pub heardStaying : Open → List Contender → Answer × Bus
+heardStaying o [] = heard o []
+heardStaying o (x ∷ []) = (sentBy o x, stays (o .bus) x)
+heardStaying o (x ∷ y ∷ more) = heard o (x ∷ y ∷ more)
+
+abbrev pub madeUpSent : Engine
+madeUpSent = probing λ o. heardStaying o (transmitters (o .bus) (o .contention))
+
+-- compares addresses without their upper byte: of transmitters whose addresses agree in the lower byte only the first is heard,
+-- so that a collision between 7 and 263 is booked as a lone win
+abbrev pub senders : List Contender → List Contender
+senders [] = []
+senders (x ∷ more) = x ∷ keep (λ y. not (eqb (x .address % 256) (y .address % 256))) (senders more)
+
+abbrev pub lowByte : Engine
+lowByte = probing λ o. heard o (senders (transmitters (o .bus) (o .contention)))
+
+-- makes up probes: plays the contention to its end in one call, in n steps more at the most, and answers its last probe alone
+abbrev pub playedOut : ℕ → Bus → Answer × Bus
+playedOut zero b = step b
+playedOut (suc n) b = elim (eqb (step b .0 .ended) 1 || not (eqb (step b .0 .refusal) 0)) [ true ↦ step b | false ↦ playedOut n (step b .1) ]
+
+abbrev pub madeUpProbes : Engine
+madeUpProbes = record { State = Bus; setUp = setUp; admit = admit; step = playedOut 66 }
+
+-- arbitrates the first contention truly, and thereafter names the first listed station with a success each step, whether or not it has
+-- a packet; beside the bus it keeps whether the first contention is over
+abbrev pub firstPacket : List Packet → Packet
+firstPacket [] = record { number = 0; value = 0; length = 1 }
+firstPacket (p ∷ queue) = p
+
+abbrev pub firstListed : List Station → List Contender
+firstListed [] = []
+firstListed (s ∷ stations) = record { address = s .address; capability = s .capability; parameter = 0; packet = firstPacket (s .queue) } ∷ []
+
+abbrev pub arbitrates : Bus → Bool → Answer × (Bus × Bool)
+arbitrates b false = (step b .0, (step b .1, eqb (step b .0 .ended) 1))
+arbitrates b true = let said = heard (opened b) (firstListed (b .stations)) in (said .0, (said .1, true))
+
+abbrev pub firstStation : Engine
+firstStation =
+    record {
+      State = Bus × Bool;
+      setUp = λ r. (setUp r .0, (setUp r .1, false));
+      admit = λ s a. (admit (s .0) a .0, (admit (s .0) a .1, s .1));
+      step = λ s. arbitrates (s .0) (s .1);
+    }
