@@ -1,0 +1,352 @@
+-- A circuit with a waiting packet, step by step: what one step does to its turn. Assumes nothing.
+use Prim.Native.Nat.{ℕ, _+_, _<_}
+use mathlib.Core.Path.{_≡_, refl, sym, ap, _∙_, subst}
+use mathlib.Core.Logic.{inl, inr}
+use mathlib.Core.Bool.{Bool, true, false, not, _&&_, cond}
+use mathlib.Core.Option.{Option, none, some}
+use mathlib.Core.List.{List, [], _∷_, _++_, map}
+use native.Mathlib.Omega.{arith}
+use lib.Dec.{eqb}
+use borrow.Author.Tests.{eqb-true, eqb-false, eq-eqb, ne-eqb, le-ltb}
+use Rattle.window.specs.declared.Side.{Side}
+use Rattle.window.specs.declared.Side.the-variants.{Left, Right}
+use Rattle.window.specs.Splitting.{moveRight}
+use Rattle.rules.specs.Lists.{keep, Among, at-head}
+use Rattle.rules.specs.Bus.{RTDG, RTVC, code, Packet, Station, Contention, Bus}
+use Rattle.rules.specs.Standing.{Rising, Standing}
+use Rattle.rules.specs.Admission.{Arrival, named, newPacket, queued, joined, withPacket}
+use Rattle.rules.specs.Begin.{late, goes-before, chosen, choice, sits-out, offers, inTime, entered, begin, parameterOf}
+use Rattle.rules.specs.Probe.{Answer, Contender, contenderOf, able, transmits, transmitters, goesOn, withdrawn, unwon, left, lastWinner, won, split, unheard, heard, success, idle}
+use Rattle.rules.specs.Step.{openedBy, opened, stepRefusal, step}
+use Rattle.rules.specs.Demands.{contendersAt, Ahead, Least, sends}
+use Rattle.rules.proofs.Laws.{true-and, among-none, keep-all, keep-from, map-into, map-map, map-same}
+use Rattle.rules.proofs.Numbers.{same-apart}
+use Rattle.rules.proofs.Contenders.{contender-from, contender-into, joined-alike, same-address, same-capability}
+use Rattle.rules.proofs.Enabled.{Enabled, opened-enabled}
+use Rattle.rules.proofs.Standing.{SetUpStands, set-up-stands, step-is}
+use Rattle.rules.proofs.Keeps.{opened-stands, opened-contention, opened-same}
+use Rattle.rules.proofs.Least.{Cleared, least-wins}
+use Rattle.rules.proofs.Probes.{Crowded, contender-stands, unwon-empty}
+
+-- ---- the oldest packet is the one offered
+
+-- the packet chosen of a rising queue comes after what stands before the queue
+choice-above : (n m : ℕ) (queue : List Packet) (p : Packet) → Rising n m queue → choice RTVC queue ≡ some p → n < p .number
+choice-above n m [] p h e = let z : _≡_ {A = ℕ} 0 1 = cc in absurd (omega arith)
+choice-above n m (q ∷ queue) p h e = go (choice RTVC queue) refl e (choice-above (q .number) m queue)
+  where
+    some-of-two : (t : Bool) (q′ : Packet) → q .number < q′ .number → some (cond t q′ q) ≡ some p → n < p .number
+    some-of-two true q′ l f = let g : q′ ≡ p = cc in let k = ap (λ (r : Packet). r .number) g in let a = h .0 in omega arith
+    some-of-two false q′ l f = let g : q ≡ p = cc in let k = ap (λ (r : Packet). r .number) g in let a = h .0 in omega arith
+
+    go :
+        (c : Option Packet) → choice RTVC queue ≡ c → chosen RTVC q c ≡ some p
+        → ((q′ : Packet) → Rising (q .number) m queue → choice RTVC queue ≡ some q′ → q .number < q′ .number) → n < p .number
+    go none f g more = let k : q ≡ p = cc in let j = ap (λ (r : Packet). r .number) k in let a = h .0 in omega arith
+    go (some q′) f g more = some-of-two (goes-before RTVC q′ q) q′ (more q′ (h .1) f) g
+
+oldest-chosen : (n m : ℕ) (p : Packet) (rest : List Packet) → Rising n m (p ∷ rest) → choice RTVC (p ∷ rest) ≡ some p
+oldest-chosen n m p rest h = go (choice RTVC rest) refl
+  where
+    go : (c : Option Packet) → choice RTVC rest ≡ c → chosen RTVC p c ≡ some p
+    go none e = refl
+    go (some q) e = let l = choice-above (p .number) m rest q (h .1) e in rw (le-ltb (q .number) (p .number) (omega arith))
+
+-- opening a contention leaves the last winner
+opened-last : (b : Bus) → opened b .bus .last ≡ b .last
+opened-last b = opened-same (λ (m : Bus). m .last) b refl
+
+-- ---- a circuit waits
+
+-- The circuit s waits with its oldest packet p on the bus b, and contends with it unless it sits out. `circuits` are the capabilities
+-- of all circuits and D is the parameter space: no call changes them.
+pub record Waits (circuits : List ℕ) (D : ℕ) (s : Station) (p : Packet) (b : Bus) : Type 0 where
+  pub by-circuit : b .discipline ≡ RTVC
+  pub space : b .D ≡ D
+  pub capabilities : map (λ t. t .capability) (b .stations) ≡ circuits
+  pub station : Station
+  pub listed : Among station (b .stations)
+  pub address : station .address ≡ s .address
+  pub capability : station .capability ≡ s .capability
+  pub rest : List Packet
+  pub oldest : station .queue ≡ p ∷ rest
+  pub contends :
+      (c : Contention) → b .contention ≡ some c → sits-out RTVC (b .last) (s .capability) ≡ false
+      → station .offer ≡ some (record { parameter = s .capability; packet = p })
+
+module _ (circuits : List ℕ) (D : ℕ) (s : Station) (p : Packet) where
+  -- stations changed one by one, their capabilities not
+  same-capabilities :
+      (f : Station → Station) (stations : List Station) → ((t : Station) → f t .capability ≡ t .capability) → map (λ t. t .capability) stations ≡ circuits
+      → map (λ t. t .capability) (map f stations) ≡ circuits
+  same-capabilities f stations h e = map-map (λ t. t .capability) f stations ∙ map-same stations (λ t i. h t) ∙ e
+
+  pub waits-admission : (b : Bus) (a : Arrival) → Waits circuits D s p b → Waits circuits D s p (withPacket b a)
+  waits-admission b a w =
+      record {
+        by-circuit = w .by-circuit;
+        space = w .space;
+        capabilities = same-capabilities (joined b a) (b .stations) (λ t. joined-alike b a t .1) (w .capabilities);
+        station = joined b a (w .station);
+        listed = map-into (joined b a) (b .stations) (w .listed);
+        address = joined-alike b a (w .station) .0 ∙ w .address;
+        capability = joined-alike b a (w .station) .1 ∙ w .capability;
+        rest = cond (named a (w .station)) (w .rest ++ (newPacket b a ∷ [])) (w .rest);
+        oldest = longer (named a (w .station));
+        contends = λ c e out. joined-alike b a (w .station) .2 ∙ w .contends c e out;
+      }
+    where
+      longer :
+          (t : Bool) → cond t (queued (newPacket b a) (w .station)) (w .station) .queue ≡ p ∷ cond t (w .rest ++ (newPacket b a ∷ [])) (w .rest)
+      longer true = ap (λ ps. ps ++ (newPacket b a ∷ [])) (w .oldest)
+      longer false = w .oldest
+
+  -- as a contention begins
+  waits-begin : (b : Bus) → Standing b → Waits circuits D s p b → Waits circuits D s p (begin b)
+  waits-begin b h w =
+      record {
+        by-circuit = w .by-circuit;
+        space = w .space;
+        capabilities = same-capabilities (entered b) (b .stations) (λ t. refl) (w .capabilities);
+        station = entered b (w .station);
+        listed = map-into (entered b) (b .stations) (w .listed);
+        address = w .address;
+        capability = w .capability;
+        rest = w .rest;
+        oldest = in-time;
+        contends = λ c e out. offered out;
+      }
+    where
+      never-late : (q : Packet) → not (late (b .discipline) (b .clock) q) ≡ true
+      never-late q = ap (λ d. not (late d (b .clock) q)) (w .by-circuit)
+
+      in-time : inTime b (w .station) ≡ p ∷ w .rest
+      in-time = keep-all (λ q. not (late (b .discipline) (b .clock) q)) (w .station .queue) (λ q i. never-late q) ∙ w .oldest
+
+      rises : Rising 0 (b .admitted) (p ∷ w .rest)
+      rises = subst (Rising 0 (b .admitted)) (w .oldest) (h .each-station (w .station) (w .listed) .rises)
+
+      chooses : choice (b .discipline) (inTime b (w .station)) ≡ some p
+      chooses = ap (λ d. choice d (inTime b (w .station))) (w .by-circuit) ∙ ap (choice RTVC) in-time ∙ (oldest-chosen 0 (b .admitted) p (w .rest) rises)
+
+      offered : sits-out RTVC (b .last) (s .capability) ≡ false → entered b (w .station) .offer ≡ some (record { parameter = s .capability; packet = p })
+      offered out =
+          ap (offers b (w .station)) chooses
+          ∙ ap
+          (λ d. cond (sits-out d (b .last) (w .station .capability)) none (some (record { parameter = parameterOf d b (w .station) p; packet = p })))
+          (w .by-circuit)
+          ∙ ap (λ k. cond (sits-out RTVC (b .last) k) none (some (record { parameter = k; packet = p }))) (w .capability)
+          ∙ ap (λ t. cond t none (some (record { parameter = s .capability; packet = p }))) out
+
+  waits-opened : (b : Bus) → Standing b → Waits circuits D s p b → Waits circuits D s p (opened b .bus)
+  waits-opened b h w = go (b .contention)
+    where
+      go : (c : Option Contention) → Waits circuits D s p (openedBy b c .bus)
+      go none = waits-begin b h w
+      go (some c) = w
+
+  -- while a contention goes on
+  waits-on : (b : Bus) (c c′ : Contention) → b .contention ≡ some c → Waits circuits D s p b → Waits circuits D s p (goesOn b c′)
+  waits-on b c c′ e w =
+      record {
+        by-circuit = w .by-circuit;
+        space = w .space;
+        capabilities = w .capabilities;
+        station = w .station;
+        listed = w .listed;
+        address = w .address;
+        capability = w .capability;
+        rest = w .rest;
+        oldest = w .oldest;
+        contends = λ c″ e″ out. w .contends c e out;
+      }
+
+  -- once a contention has ended: f is what becomes of the stations, and leaves the circuit's own queue alone
+  waits-ended :
+      (b b′ : Bus) (f : Station → Station) (w : Waits circuits D s p b) → b′ .discipline ≡ b .discipline → b′ .D ≡ b .D → b′ .stations ≡ map f (b .stations)
+      → b′ .contention ≡ none → ((t : Station) → (f t .address ≡ t .address) × (f t .capability ≡ t .capability)) → f (w .station) .queue ≡ w .station .queue
+      → Waits circuits D s p b′
+  waits-ended b b′ f w d D′ ss c keeps q =
+      record {
+        by-circuit = d ∙ w .by-circuit;
+        space = D′ ∙ w .space;
+        capabilities = ap (map (λ t. t .capability)) ss ∙ same-capabilities f (b .stations) (λ t. keeps t .1) (w .capabilities);
+        station = f (w .station);
+        listed = subst (Among (f (w .station))) (sym ss) (map-into f (b .stations) (w .listed));
+        address = keeps (w .station) .0 ∙ w .address;
+        capability = keeps (w .station) .1 ∙ w .capability;
+        rest = w .rest;
+        oldest = q ∙ w .oldest;
+        contends = λ c″ e″ out. let z : _≡_ {A = ℕ} 0 1 = cc in absurd (omega arith);
+      }
+
+  waits-unwon : (b : Bus) → Waits circuits D s p b → Waits circuits D s p (unwon b)
+  waits-unwon b w = waits-ended b (unwon b) withdrawn w refl refl refl refl (λ t. (refl, refl)) refl
+
+  waits-won : (b : Bus) (x : Contender) → ¬ (x .address ≡ s .address) → Waits circuits D s p b → Waits circuits D s p (won b x)
+  waits-won b x other w =
+      waits-ended
+      b
+      (won b x)
+      (left x)
+      w
+      refl
+      refl
+      refl
+      refl
+      (λ t. (refl, refl))
+      (ap
+      (λ t. cond t (keep (λ q. not (eqb (x .packet .number) (q .number))) (w .station .queue)) (w .station .queue))
+      (ne-eqb (x .address) (w .station .address) (λ e. other (e ∙ w .address))))
+
+  -- ---- one step
+
+  -- What an accepted step does to the circuit's turn: its contention goes on; the circuit sends p; another circuit wins, which does
+  -- not sit out and, unless s does, is below s; or nobody contends, s sits out, and the round ends.
+  pub data Turn (b : Bus) (out : Answer × Bus) : Type 0 where
+    goes-on :
+        out .0 .ended ≡ 0 → ¬ (out .0 .event ≡ success) → out .1 .last ≡ b .last → Waits circuits D s p (out .1) → Turn b out
+    its-own : out .0 .ended ≡ 1 → out .0 .event ≡ success → sends s p (out .0) ≡ true → Turn b out
+    anothers :
+        {x : ℕ} → out .0 .ended ≡ 1 → out .0 .event ≡ success → sends s p (out .0) ≡ false → out .1 .last ≡ some x → Among x circuits
+        → sits-out RTVC (b .last) x ≡ false → (sits-out RTVC (b .last) (s .capability) ≡ false → x < s .capability) → out .1 .contention ≡ none
+        → Waits circuits D s p (out .1) → Turn b out
+    nobodys :
+        out .0 .ended ≡ 1 → out .0 .event ≡ idle → b .contention ≡ none → sits-out RTVC (b .last) (s .capability) ≡ true
+        → out .1 .last ≡ none → out .1 .contention ≡ none → Waits circuits D s p (out .1) → Turn b out
+
+  -- a bus as reached, on which s waits, and an accepted step
+  module _
+      (b : Bus)
+      (h : Standing b)
+      (cleared : Cleared b)
+      (crowded : Crowded b)
+      (enabled : Enabled b)
+      (w : Waits circuits D s p b)
+      (z : stepRefusal b ≡ 0)
+    where
+      wo : Waits circuits D s p (opened b .bus)
+      wo = waits-opened b h w
+
+      -- what s contends with
+      abbrev mine : Contender
+      mine = contenderOf (wo .station) (record { parameter = s .capability; packet = p })
+
+      -- s contends, unless it sits out
+      contends-too : sits-out RTVC (b .last) (s .capability) ≡ false → Among mine (contendersAt b)
+      contends-too out =
+          contender-into
+          (opened b .bus .stations)
+          (wo .listed)
+          (wo .contends (opened b .contention) (opened-contention b) (ap (λ l. sits-out RTVC l (s .capability)) (opened-last b) ∙ out))
+
+      -- a contender does not sit out
+      not-out : (x : Contender) → Among x (contendersAt b) → sits-out RTVC (b .last) (x .capability) ≡ false
+      not-out x i =
+          sym (ap (λ l. sits-out RTVC l (x .capability)) (opened-last b))
+          ∙ sym (ap (λ d. sits-out d (opened b .bus .last) (x .capability)) (wo .by-circuit))
+          ∙ opened-enabled b (b .contention) enabled x i
+
+      -- a contender is a circuit
+      a-circuit : (x : Contender) → Among x (contendersAt b) → Among (x .capability) circuits
+      a-circuit x i =
+          let f = contender-from (opened b .bus .stations) i in
+          let j : Among (f .station .capability) circuits =
+          subst (Among (f .station .capability)) (wo .capabilities) (map-into (λ t. t .capability) (opened b .bus .stations) (f .listed)) in
+          subst (λ n. Among n circuits) (ap (λ (y : Contender). y .capability) (sym (f .is))) j
+
+      -- the bus probed has distinct addresses and capabilities
+      apart : SetUpStands (opened b .bus)
+      apart = set-up-stands (opened b .bus) (opened-stands b h)
+
+      -- where the probe is silent and the window is a right one, nobody contends, so that s sits out
+      silent : step b .0 .ended ≡ 1 → step b .0 .event ≡ idle → (b .contention ≡ none) × (sits-out RTVC (b .last) (s .capability) ≡ true)
+      silent ended unheard-event = (k .0, go (sits-out RTVC (b .last) (s .capability)) refl)
+        where
+          not-laxity : ¬ (b .discipline ≡ RTDG)
+          not-laxity e = let y : _≡_ {A = ℕ} 2 1 = ap code (sym (w .by-circuit) ∙ e) in omega arith
+
+          k : (b .contention ≡ none) × (contendersAt b ≡ [])
+          k = unwon-empty b h crowded z not-laxity ended unheard-event
+
+          go : (t : Bool) → sits-out RTVC (b .last) (s .capability) ≡ t → t ≡ true
+          go true e = refl
+          go false e = absurd (among-none (subst (Among mine) (k .1) (contends-too e)))
+
+      -- the lone transmitter is s with its oldest packet
+      sends-own : (x : Contender) → Among x (contendersAt b) → x .address ≡ s .address → x .packet ≡ p
+      sends-own x i e =
+          let f = contender-from (opened b .bus .stations) i in
+          let address : f .station .address ≡ wo .station .address = sym (ap (λ (y : Contender). y .address) (f .is)) ∙ e ∙ sym (wo .address) in
+          let station = same-apart (λ t. t .address) (opened b .bus .stations) (apart .addresses-apart) (f .listed) (wo .listed) address in
+          let capability : x .capability ≡ s .capability =
+          ap (λ (y : Contender). y .capability) (f .is) ∙ ap (λ (t : Station). t .capability) station ∙ wo .capability in
+          let out : sits-out RTVC (b .last) (s .capability) ≡ false = ap (sits-out RTVC (b .last)) (sym capability) ∙ not-out x i in
+          ap (λ (y : Contender). y .packet) (same-address (opened b .bus .stations) (apart .addresses-apart) i (contends-too out) (e ∙ sym (wo .address)))
+
+      -- another winner is below s, unless s sits out
+      another-below :
+          (x : Contender) → Among x (contendersAt b) → ¬ (x .address ≡ s .address) → step b .0 .event ≡ success → step b .0 .address ≡ x .address
+          → sits-out RTVC (b .last) (s .capability) ≡ false → x .capability < s .capability
+      another-below x i other won-event named-x out = go (subst (λ v. Ahead v mine) same (l .least mine (contends-too out) in-time))
+        where
+          l : Least b (step b .0)
+          l = least-wins b cleared z won-event
+
+          same : l .winner ≡ x
+          same = same-address (opened b .bus .stations) (apart .addresses-apart) (l .contends) i (sym (l .address) ∙ named-x)
+
+          in-time : able (b .discipline) (b .clock) mine ≡ true
+          in-time = ap (λ d. not (late d (b .clock) p)) (w .by-circuit)
+
+          circuit : x .parameter ≡ x .capability
+          circuit = contender-stands (opened b) (opened-stands b h) (opened-contention b) x i .circuit (wo .by-circuit)
+
+          one : x .capability ≡ mine .capability → x ≡ mine
+          one = same-capability (opened b .bus .stations) (apart .capabilities-apart (wo .by-circuit)) i (contends-too out)
+
+          go : Ahead x mine → x .capability < s .capability
+          go (inl below) = let c = circuit in omega arith
+          go (inr tied) =
+              let e : x ≡ mine = one (sym circuit ∙ tied .0 ∙ sym (wo .capability)) in
+              absurd (other (ap (λ (y : Contender). y .address) e ∙ wo .address))
+
+      pub turn : Turn b (step b)
+      turn = subst (Turn b) (sym (step-is b z)) (go (transmitters (opened b .bus) (opened b .contention)) refl)
+        where
+          waits-here : (c : Contention) → Waits circuits D s p (goesOn (opened b .bus) c)
+          waits-here c = waits-on (opened b .bus) (opened b .contention) c (opened-contention b) wo
+
+          by-side : (d : Side) → step b ≡ unheard (opened b) d → Turn b (unheard (opened b) d)
+          by-side Left f =
+              let c : Contention = record { window = moveRight (opened b .contention .window); tie = opened b .contention .tie } in
+              goes-on refl (λ y. omega arith) (opened-last b) (waits-here c)
+          by-side Right f =
+              let k = silent (ap (λ (m : Answer × Bus). m .0 .ended) f) (ap (λ (m : Answer × Bus). m .0 .event) f) in
+              nobodys refl refl (k .0) (k .1) refl refl (waits-unwon (opened b .bus) wo)
+
+          lone :
+              (x : Contender) → Among x (contendersAt b) → step b ≡ heard (opened b) (x ∷ []) → (t : Bool) → eqb (x .address) (s .address) ≡ t
+              → Turn b (heard (opened b) (x ∷ []))
+          lone x i f true e =
+              let number = ap (λ (q : Packet). q .number) (sends-own x i (eqb-true (x .address) (s .address) e)) in
+              its-own refl refl (true-and e (eq-eqb (x .packet .number) (p .number) number))
+          lone x i f false e =
+              let other = eqb-false (x .address) (s .address) e in
+              anothers
+              refl
+              refl
+              (ap (λ t. t && eqb (x .packet .number) (p .number)) e)
+              (ap (λ d. lastWinner d x) (wo .by-circuit))
+              (a-circuit x i)
+              (not-out x i)
+              (another-below x i other (ap (λ (m : Answer × Bus). m .0 .event) f) (ap (λ (m : Answer × Bus). m .0 .address) f))
+              refl
+              (waits-won (opened b .bus) x other wo)
+
+          go : (xs : List Contender) → transmitters (opened b .bus) (opened b .contention) ≡ xs → Turn b (heard (opened b) xs)
+          go [] e = by-side (opened b .contention .window .side) (step-is b z ∙ ap (heard (opened b)) e)
+          go (x ∷ []) e =
+              let i = keep-from (transmits (opened b .bus) (opened b .contention)) (contendersAt b) (subst (Among x) (sym e) (at-head refl)) in
+              lone x (i .0) (step-is b z ∙ ap (heard (opened b)) e) (eqb (x .address) (s .address)) refl
+          go (x ∷ y ∷ more) e = goes-on refl (λ y. omega arith) (opened-last b) (waits-here (split (opened b .bus) (opened b .contention)))

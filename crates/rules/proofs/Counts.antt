@@ -1,0 +1,117 @@
+-- Counted over all answers since set-up, admitted = sent + lost + waiting, and the machine's own counts and clock are those. Assumes nothing.
+use Prim.Native.Nat.{_+_}
+use mathlib.Core.Path.{_≡_, refl, sym, subst}
+use mathlib.Core.Logic.{_⊎_, inl, inr}
+use mathlib.Core.Bool.{Bool, true, false, cond}
+use mathlib.Core.Option.{Option, none, some}
+use mathlib.Core.List.{List, [], _∷_}
+use native.Mathlib.Omega.{arith}
+use lib.Dec.{eqb}
+use borrow.Author.Tests.{ne-eqb}
+use Rattle.window.specs.declared.Side.{Side}
+use Rattle.window.specs.declared.Side.the-variants.{Left, Right}
+use Rattle.rules.specs.Lists.{total}
+use Rattle.rules.specs.Bus.{Bus, Contention, nothing, waiting}
+use Rattle.rules.specs.SetUp.{Request, setUp, setUpVerdict, freshBus}
+use Rattle.rules.specs.Standing.{Standing}
+use Rattle.rules.specs.Admission.{Admitted}
+use Rattle.rules.specs.Probe.{Answer, Contender, Open, transmitters, unheard, heard, probe}
+use Rattle.rules.specs.Step.{openedBy, opened}
+use Rattle.rules.specs.Engine.{Engine, machine, Call, Reply, admitted, stepped, reply, next, after, replies, reach}
+use Rattle.rules.specs.Demands.{Demand2, slotsOf, adds-admitted, adds-sent, adds-lost, adds-slots, Counted, CountsAreTrue}
+use Rattle.rules.proofs.Keeps.{opened-same}
+use Rattle.rules.proofs.Reach.{Does, refuses, admits, holds, probes-one, does, standing-reached, replies-agree}
+
+-- from b to b′ the counts and the clock rise by what the replies say
+record Rise (b b′ : Bus) (rs : List Reply) : Type 0 where
+  in-admitted : b′ .admitted ≡ b .admitted + total adds-admitted rs
+  in-sent : b′ .sent ≡ b .sent + total adds-sent rs
+  in-lost : b′ .lost ≡ b .lost + total adds-lost rs
+  in-clock : b′ .clock ≡ b .clock + total adds-slots rs
+
+-- a probe, whoever transmits
+record Told (o : Open) (out : Answer × Bus) : Type 0 where
+  of-admitted : out .1 .admitted ≡ o .bus .admitted
+  of-sent : out .1 .sent ≡ o .bus .sent + adds-sent (stepped (out .0))
+  of-lost : out .1 .lost ≡ o .bus .lost
+  of-drops : out .0 .drops ≡ o .drops
+  of-clock : out .1 .clock ≡ o .bus .clock + slotsOf (out .0)
+
+told : (o : Open) (xs : List Contender) → Told o (heard o xs)
+told o [] = go (o .contention .window .side)
+  where
+    go : (s : Side) → Told o (unheard o s)
+    go Left = record { of-admitted = refl; of-sent = omega arith; of-lost = refl; of-drops = refl; of-clock = omega arith }
+    go Right = record { of-admitted = refl; of-sent = omega arith; of-lost = refl; of-drops = refl; of-clock = omega arith }
+told o (x ∷ []) = record { of-admitted = refl; of-sent = omega arith; of-lost = refl; of-drops = refl; of-clock = omega arith }
+told o (x ∷ y ∷ more) = record { of-admitted = refl; of-sent = omega arith; of-lost = refl; of-drops = refl; of-clock = omega arith }
+
+-- what beginning a contention adds to the lost is what it drops
+opened-lost : (b : Bus) (c : Option Contention) → openedBy b c .bus .lost ≡ b .lost + openedBy b c .drops
+opened-lost b none = refl
+opened-lost b (some c) = omega arith
+
+step-rise : (b : Bus) → Rise b (probe (opened b) .1) (stepped (probe (opened b) .0) ∷ [])
+step-rise b =
+    let h = told (opened b) (transmitters (opened b .bus) (opened b .contention)) in
+    let admitted = opened-same (λ (m : Bus). m .admitted) b refl in
+    let sent = opened-same (λ (m : Bus). m .sent) b refl in
+    let lost = opened-lost b (b .contention) in
+    let clock = opened-same (λ (m : Bus). m .clock) b refl in
+    record { in-admitted = omega arith; in-sent = omega arith; in-lost = omega arith; in-clock = omega arith }
+
+-- any call, refused or not
+call-rise : (b : Bus) (c : Call) → Rise b (next machine b c) (reply machine b c ∷ [])
+call-rise b c = go c (does b c)
+  where
+    go : (k : Call) → Does b k → Rise b (next machine b k) (reply machine b k ∷ [])
+    go k (refuses a n z e) =
+        subst (λ (o : Admitted × Bus). Rise b (o .1) (admitted (o .0) ∷ [])) (sym e)
+        (record { in-admitted = rw (ne-eqb n 0 z) (omega arith); in-sent = omega arith; in-lost = omega arith; in-clock = omega arith })
+    go k (admits a z e) =
+        subst (λ (o : Admitted × Bus). Rise b (o .1) (admitted (o .0) ∷ [])) (sym e)
+        (record { in-admitted = omega arith; in-sent = omega arith; in-lost = omega arith; in-clock = omega arith })
+    go k (holds n z e) =
+        subst (λ (o : Answer × Bus). Rise b (o .1) (stepped (o .0) ∷ [])) (sym e)
+        (record { in-admitted = omega arith; in-sent = omega arith; in-lost = omega arith; in-clock = rw (ne-eqb n 0 z) (omega arith) })
+    go k (probes-one z a e) = subst (λ (o : Answer × Bus). Rise b (o .1) (stepped (o .0) ∷ [])) (sym e) (step-rise b)
+
+-- many calls
+calls-rise : (b : Bus) (calls : List Call) → Rise b (after machine b calls) (replies machine b calls)
+calls-rise b [] = record { in-admitted = omega arith; in-sent = omega arith; in-lost = omega arith; in-clock = omega arith }
+calls-rise b (c ∷ calls) =
+    let h = call-rise b c in
+    let k = calls-rise (next machine b c) calls in
+    record { in-admitted = omega arith; in-sent = omega arith; in-lost = omega arith; in-clock = omega arith }
+
+-- all of them are 0 after set-up, accepted or refused
+fresh-zero : {X : Type 0} (f : Bus → X) (r : Request) → f (freshBus r) ≡ f nothing → f (setUp r .1) ≡ f nothing
+fresh-zero f r e = go (eqb (setUpVerdict r .refusal) 0)
+  where
+    go : (t : Bool) → f (cond t (freshBus r) nothing) ≡ f nothing
+    go true = e
+    go false = refl
+
+-- the machine's own counts balance
+abbrev Balanced : Bus → Type 0
+Balanced b = b .admitted ≡ b .sent + b .lost + waiting (b .stations)
+
+balanced : (r : Request) (calls : List Call) → Balanced (reach machine r calls)
+balanced r calls = go (standing-reached r calls)
+  where
+    go : Standing (reach machine r calls) ⊎ (reach machine r calls ≡ nothing) → Balanced (reach machine r calls)
+    go (inl h) = h .counts
+    go (inr e) = subst Balanced (sym e) refl
+
+machine-counts : CountsAreTrue machine
+machine-counts r calls =
+    let admitted = fresh-zero (λ (m : Bus). m .admitted) r refl in
+    let sent = fresh-zero (λ (m : Bus). m .sent) r refl in
+    let lost = fresh-zero (λ (m : Bus). m .lost) r refl in
+    let clock = fresh-zero (λ (m : Bus). m .clock) r refl in
+    let k = calls-rise (setUp r .1) calls in
+    let e = balanced r calls in
+    record { balance = omega arith; admitted = omega arith; sent = omega arith; lost = omega arith; clock = omega arith }
+
+pub countsAreTrue : (E : Engine) → Demand2 E → CountsAreTrue E
+countsAreTrue E d r calls = subst (Counted (reach machine r calls)) (sym (replies-agree E d r [] calls)) (machine-counts r calls)

@@ -1,0 +1,312 @@
+-- Demand 3: a waiting circuit's oldest packet ends within N + 1 contentions, at most one of them idle, and within
+-- N × (2L − 1 + P) + 1 slots, for every engine that meets demand 2, and for the machine itself. Assumes nothing.
+use Prim.Native.Nat.{ℕ, suc, _+_, _-_, _*_, _≤_}
+use mathlib.Core.Path.{_≡_, refl, sym, ap, _∙_, subst}
+use mathlib.Core.Logic.{_⊎_, inl, inr}
+use mathlib.Core.Bool.{Bool, true, false, _&&_, cond}
+use mathlib.Core.Option.{Option, none}
+use mathlib.Core.List.{List, [], _∷_, _++_, map}
+use native.Mathlib.Omega.{arith}
+use native.Mathlib.Nat.{mul-le-mul-right, suc-mul}
+use lib.Dec.{eqb}
+use lib.ListN.{length, length-map}
+use borrow.Author.Tests.{ne-eqb}
+use Rattle.window.specs.Splitting.{exponentOf}
+use Rattle.rules.specs.Lists.{bit, some-of, Among, at-head, in-tail, All}
+use Rattle.rules.specs.Bus.{Discipline, RTVC, code, Packet, Station, Bus, nothing}
+use Rattle.rules.specs.SetUp.{Request, setUp}
+use Rattle.rules.specs.Standing.{Standing}
+use Rattle.rules.specs.Admission.{Arrival, Admitted, admit, withPacket}
+use Rattle.rules.specs.Begin.{sits-out}
+use Rattle.rules.specs.Probe.{Answer, success, idle}
+use Rattle.rules.specs.Step.{stepRefusal, step}
+use Rattle.rules.specs.Engine.{Engine, machine, Call, admission, one-step, next, reach, answers}
+use Rattle.rules.specs.Demands.{Demand2, mostProbes, slotsOf, contentionsIn, idleContentionsIn, slotsIn, longestIn, sends, upTo, Served, Demand3}
+use Rattle.rules.proofs.Laws.{clash, or-false, map-into}
+use Rattle.rules.proofs.Reach.{Does, refuses, admits, holds, probes-one, does, standing-reached, after-more, answers-agree}
+use Rattle.rules.proofs.Least.{Cleared, cleared-reached}
+use Rattle.rules.proofs.Probes.{Crowded, crowded-reached, probesLeft, probes-at-begin, probes-left, probes-fall}
+use Rattle.rules.proofs.Enabled.{Enabled, enabled-reached}
+use Rattle.rules.proofs.Round.{winsLeft, idlesLeft, wins-left, wins-most, other-wins, idle-ends}
+use Rattle.rules.proofs.Circuit.{Waits, waits-admission, Turn, goes-on, its-own, anothers, nobodys, turn}
+
+-- ---- answers, one after the other
+
+-- The answers `said` keep within w contentions won and i idle ones, and within the slots that those take if the contention under
+-- way has `left` probes left. L is the number of halvings; `mine` is the length of the waiting packet.
+record Within (L mine : ℕ) (says : Answer → Bool) (w i left : ℕ) (said : List Answer) : Type 0 where
+  contentions : contentionsIn (upTo says said) ≤ w + i
+  idle-ones : idleContentionsIn (upTo says said) ≤ i
+  slots : (P : ℕ) → longestIn (upTo says said) ≤ P → slotsIn (upTo says said) + 2 * L ≤ w * (2 * L - 1 + P) + i + left
+  open-contentions : some-of says said ≡ false → suc (contentionsIn said) ≤ w + i
+  open-slots : (P : ℕ) → mine ≤ P → longestIn said ≤ P → some-of says said ≡ false → suc (slotsIn said + 2 * L) ≤ w * (2 * L - 1 + P) + i + left
+
+-- w contentions take at least the slots of one
+one-takes : (w X : ℕ) → 1 ≤ w → X ≤ w * X
+one-takes w X h = let k = mul-le-mul-right X h in omega arith
+
+-- a step takes at most a packet's length on success, and else at most one slot
+slots-most : (a : Answer) → slotsOf a ≤ cond (eqb (a .event) success) (a .length) 1
+slots-most a = go (eqb (a .refusal) 0)
+  where
+    go : (t : Bool) → cond t (cond (eqb (a .event) success) (a .length) 1) 0 ≤ cond (eqb (a .event) success) (a .length) 1
+    go true = omega arith
+    go false = omega arith
+
+module _ {L mine : ℕ} {says : Answer → Bool} where
+  -- no answer yet
+  within-none : {w i left : ℕ} → 1 ≤ w → 1 ≤ left → 1 ≤ mine → Within L mine says w i left []
+  within-none {w} hw hl hm =
+      record {
+        contentions = omega arith;
+        idle-ones = omega arith;
+        slots = λ P h. let k = one-takes w (2 * L - 1 + P) hw in omega arith;
+        open-contentions = λ e. omega arith;
+        open-slots = λ P a c e. let k = one-takes w (2 * L - 1 + P) hw in omega arith;
+      }
+
+  -- an answer that does not say it, and the answers after it
+  within-more :
+      {w i left w′ i′ left′ : ℕ} (a : Answer) (said : List Answer) → says a ≡ false → bit (eqb (a .ended) 1) + (w′ + i′) ≤ w + i
+      → bit (eqb (a .ended) 1 && eqb (a .event) idle) + i′ ≤ i
+      → ((P : ℕ) → a .length ≤ P → cond (eqb (a .event) success) (a .length) 1 + (w′ * (2 * L - 1 + P) + i′ + left′) ≤ w * (2 * L - 1 + P) + i + left)
+      → Within L mine says w′ i′ left′ said → Within L mine says w i left (a ∷ said)
+  within-more a said e hc hi hs k =
+      record {
+        contentions = rw e (let c = k .contentions in omega arith);
+        idle-ones = rw e (let c = k .idle-ones in omega arith);
+        slots = rw e (λ P m. let c = k .slots P (omega arith) in let d = hs P (omega arith) in let t = slots-most a in omega arith);
+        open-contentions = λ f. let c = k .open-contentions (or-false (says a) (some-of says said) f .1) in omega arith;
+        open-slots = λ P n m f.
+            let c = k .open-slots P n (omega arith) (or-false (says a) (some-of says said) f .1) in
+            let d = hs P (omega arith) in
+            let t = slots-most a in
+            omega arith;
+      }
+
+  -- a probe after which the contention goes on
+  within-on :
+      {w i left left′ : ℕ} (a : Answer) (said : List Answer) → says a ≡ false → a .ended ≡ 0 → ¬ (a .event ≡ success) → suc left′ ≤ left
+      → Within L mine says w i left′ said → Within L mine says w i left (a ∷ said)
+  within-on {w} {i} {left} {left′} a said e ended event fewer =
+      within-more a said e (rw ended (omega arith)) (rw ended (omega arith)) (λ P m. rw (ne-eqb (a .event) success event) (omega arith))
+
+  -- another circuit's success
+  within-other :
+      {w i left w′ i′ : ℕ} (a : Answer) (said : List Answer) → says a ≡ false → a .ended ≡ 1 → a .event ≡ success → suc w′ ≤ w → i′ ≤ i → 1 ≤ left
+      → Within L mine says w′ i′ (2 * L) said → Within L mine says w i left (a ∷ said)
+  within-other {w} {i} {left} {w′} {i′} a said e ended event fewer idles hl =
+      within-more a said e (rw ended (omega arith)) (rw (ended, event) (omega arith)) (λ P m.
+      let k = mul-le-mul-right (2 * L - 1 + P) fewer in
+      let q = suc-mul w′ (2 * L - 1 + P) in
+      rw event (omega arith))
+
+  -- an idle contention: one probe
+  within-idle :
+      {w i w′ i′ : ℕ} (a : Answer) (said : List Answer) → says a ≡ false → a .ended ≡ 1 → a .event ≡ idle → w′ ≤ w → suc i′ ≤ i
+      → Within L mine says w′ i′ (2 * L) said → Within L mine says w i (2 * L) (a ∷ said)
+  within-idle {w} {i} {w′} {i′} a said e ended event wins fewer =
+      within-more a said e (rw ended (omega arith)) (rw (ended, event) (omega arith)) (λ P m.
+      let k = mul-le-mul-right (2 * L - 1 + P) wins in
+      rw event (omega arith))
+
+  -- the answer that says it
+  within-said :
+      {w i left : ℕ} (a : Answer) (said : List Answer) → says a ≡ true → a .ended ≡ 1 → a .event ≡ success → 1 ≤ w → 1 ≤ left
+      → Within L mine says w i left (a ∷ said)
+  within-said {w} a said e ended event hw hl =
+      record {
+        contentions = rw (e, ended) (omega arith);
+        idle-ones = rw (e, event, ended) (omega arith);
+        slots = rw e (λ P m. let k = one-takes w (2 * L - 1 + P) hw in let t : slotsOf a ≤ a .length = subst (λ n. slotsOf a ≤ cond (eqb n success) (a .length) 1) event (slots-most a) in omega arith);
+        open-contentions = λ f. clash (rw e) f;
+        open-slots = λ P n m f. clash (rw e) f;
+      }
+
+-- ---- the machine's run
+
+-- a state reached from set-up by any calls
+abbrev Reached : Bus → Type 0
+Reached b = (r : Request) × (calls : List Call) × (reach machine r calls ≡ b)
+
+reached-next : {b : Bus} → Reached b → (c : Call) → Reached (next machine b c)
+reached-next {b} h c =
+    (h .0, h .1 ++ (c ∷ []), after-more machine (setUp (h .0) .1) (h .1) (c ∷ []) ∙ ap (λ (d : Bus). next machine d c) (h .2))
+
+-- a reached state that goes by circuits stands, since what a refused set-up hands back does not go by circuits
+reached-stands : {b : Bus} → Reached b → b .discipline ≡ RTVC → Standing b
+reached-stands {b} h d = go (standing-reached (h .0) (h .1))
+  where
+    go : Standing (reach machine (h .0) (h .1)) ⊎ (reach machine (h .0) (h .1) ≡ nothing) → Standing b
+    go (inl k) = subst Standing (h .2) k
+    go (inr e) = let y : _≡_ {A = ℕ} 2 0 = ap code (sym d) ∙ ap (λ (m : Bus). code (m .discipline)) (sym (h .2) ∙ e) in absurd (omega arith)
+
+-- the probes left between contentions are 2L
+left-at-begin : (b : Bus) (D : ℕ) → b .discipline ≡ RTVC → b .D ≡ D → b .contention ≡ none → probesLeft b ≡ 2 * exponentOf D
+left-at-begin b D d e c = probes-at-begin b c ∙ ap (λ (m : Discipline). mostProbes m (exponentOf (b .D)) (exponentOf (b .A))) d ∙ ap (λ n. 2 * exponentOf n) e
+
+module _ (circuits : List ℕ) (D : ℕ) (s : Station) (p : Packet) (own : Among (s .capability) circuits) (some-slots : 1 ≤ p .length) where
+  -- what is left of the round and of the contention, at the last winner `last` and with `left` probes left
+  abbrev Keeping : Option ℕ → ℕ → List Answer → Type 0
+  Keeping last left said = Within (exponentOf D) (p .length) (sends s p) (winsLeft circuits (s .capability) last) (idlesLeft (s .capability) last) left said
+
+  -- an answer without success does not send p
+  unsent-says : (a : Answer) → ¬ (a .event ≡ success) → sends s p a ≡ false
+  unsent-says a h = rw (ne-eqb (a .event) success h)
+
+  -- after a step that ended a contention all 2L probes are left
+  next-begins :
+      (b : Bus) (said : List Answer) {last : Option ℕ} → step b .1 .last ≡ last → step b .1 .contention ≡ none → Waits circuits D s p (step b .1)
+      → Keeping (step b .1 .last) (probesLeft (step b .1)) said → Keeping last (2 * exponentOf D) said
+  next-begins b said e c w k =
+      subst (λ l. Keeping l (2 * exponentOf D) said) e
+      (subst (λ n. Keeping (step b .1 .last) n said) (left-at-begin (step b .1) D (w .by-circuit) (w .space) c) k)
+
+  -- one step, and the answers after it
+  keeping-step :
+      (b : Bus) (said : List Answer) → Standing b → Crowded b → stepRefusal b ≡ 0 → Waits circuits D s p b → Turn circuits D s p b (step b)
+      → (Waits circuits D s p (step b .1) → Keeping (step b .1 .last) (probesLeft (step b .1)) said) → Keeping (b .last) (probesLeft b) (step b .0 ∷ said)
+  keeping-step b said h crowded z w (goes-on ended event last w′) more =
+      within-on (step b .0) said (unsent-says (step b .0) event) ended event (probes-fall b h z ended)
+      (subst (λ l. Keeping l (probesLeft (step b .1)) said) last (more w′))
+  keeping-step b said h crowded z w (its-own ended event it) more =
+      within-said (step b .0) said it ended event (wins-left circuits (s .capability) own (b .last)) (probes-left b h crowded)
+  keeping-step b said h crowded z w (anothers ended event it last i out below c w′) more =
+      let fewer = other-wins circuits (s .capability) own (b .last) i out below in
+      within-other (step b .0) said it ended event (fewer .0) (fewer .1) (probes-left b h crowded) (next-begins b said last c w′ (more w′))
+  keeping-step b said h crowded z w (nobodys ended event c out last c′ w′) more =
+      let fewer = idle-ends circuits (s .capability) own (b .last) out in
+      let unsent = unsent-says (step b .0) (λ e. let y : _≡_ {A = ℕ} 0 2 = sym event ∙ e in omega arith) in
+      subst (λ n. Keeping (b .last) n (step b .0 ∷ said)) (sym (left-at-begin b D (w .by-circuit) (w .space) c))
+      (within-idle (step b .0) said unsent ended event (fewer .0) (fewer .1) (next-begins b said last c′ w′ (more w′)))
+
+  -- from any reached state on which s waits, over these calls
+  abbrev Kept : List Call → Type 0
+  Kept later =
+      (b : Bus) → Reached b → Waits circuits D s p b → All (λ a. a .refusal ≡ 0) (answers machine b later)
+      → Keeping (b .last) (probesLeft b) (answers machine b later)
+
+  -- what is left to show of the calls after a call that led to b′
+  abbrev Then : Bus → List Call → Bus → Type 0
+  Then b later b′ = All (λ x. x .refusal ≡ 0) (answers machine b′ later) → Keeping (b .last) (probesLeft b) (answers machine b′ later)
+
+  kept-admission : (a : Arrival) (later : List Call) → Kept later → Kept (admission a ∷ later)
+  kept-admission a later kept b r w = go a (does b (admission a)) (reached-next r (admission a))
+    where
+      go : (a : Arrival) → Does b (admission a) → Reached (admit b a .1) → Then b later (admit b a .1)
+      go a (refuses a′ n z e) r′ = subst (λ (o : Admitted × Bus). Then b later (o .1)) (sym e) (kept b r w)
+      go a (admits a′ z e) r′ =
+          subst
+          (λ (o : Admitted × Bus). Then b later (o .1))
+          (sym e)
+          (kept (withPacket b a′) (subst (λ (o : Admitted × Bus). Reached (o .1)) e r′) (waits-admission circuits D s p b a′ w))
+
+  kept-step : (later : List Call) → Kept later → Kept (one-step ∷ later)
+  kept-step later kept b r w none-refused = go one-step (does b one-step) refl
+    where
+      h : Standing b
+      h = reached-stands r (w .by-circuit)
+
+      go : (c : Call) → Does b c → c ≡ one-step → Keeping (b .last) (probesLeft b) (step b .0 ∷ answers machine (step b .1) later)
+      go c (refuses a n z e) f = let y : _≡_ {A = ℕ} 0 1 = cc in absurd (omega arith)
+      go c (admits a z e) f = let y : _≡_ {A = ℕ} 0 1 = cc in absurd (omega arith)
+      go c (holds n z e) f = absurd (z (sym (ap (λ (o : Answer × Bus). o .0 .refusal) e) ∙ none-refused (step b .0) (at-head refl)))
+      go c (probes-one z a e) f =
+          let crowded = subst Crowded (r .2) (crowded-reached (r .0) (r .1)) in
+          keeping-step
+          b
+          (answers machine (step b .1) later)
+          h
+          crowded
+          z
+          w
+          (turn circuits D s p b h (subst Cleared (r .2) (cleared-reached (r .0) (r .1))) crowded (subst Enabled (r .2) (enabled-reached (r .0) (r .1))) w z)
+          (λ w′. kept (step b .1) (reached-next r one-step) w′ (λ x i. none-refused x (in-tail i)))
+
+  kept-all : (later : List Call) → Kept later
+  kept-all [] = λ b r w none-refused.
+      within-none (wins-left circuits (s .capability) own (b .last))
+      (probes-left b (reached-stands r (w .by-circuit)) (subst Crowded (r .2) (crowded-reached (r .0) (r .1)))) some-slots
+  kept-all (admission a ∷ later) = kept-admission a later (kept-all later)
+  kept-all (one-step ∷ later) = kept-step later (kept-all later)
+
+-- ---- the demand
+
+-- a circuit with a packet, as a contention begins
+waits-first :
+    (b : Bus) → b .discipline ≡ RTVC → b .contention ≡ none → (s : Station) → Among s (b .stations) → (p : Packet) (rest : List Packet) → s .queue ≡ p ∷ rest
+    → Waits (map (λ t. t .capability) (b .stations)) (b .D) s p b
+waits-first b d c s i p rest q =
+    record {
+      by-circuit = d;
+      space = refl;
+      capabilities = refl;
+      station = s;
+      listed = i;
+      address = refl;
+      capability = refl;
+      rest = rest;
+      oldest = q;
+      contends = λ c′ e out. let y : _≡_ {A = ℕ} 0 1 = cc in absurd (omega arith);
+    }
+
+-- what is kept within is served
+served : (N L w i : ℕ) (s : Station) (p : Packet) (said : List Answer) → w ≤ N → i ≤ 1 → Within L (p .length) (sends s p) w i (2 * L) said → Served N L s p said
+served N L w i s p said hw hi k =
+    record {
+      contentions = let c = k .contentions in omega arith;
+      one-idle = let c = k .idle-ones in omega arith;
+      slots = let c = k .slots (longestIn (upTo (sends s p) said)) (omega arith) in let m = mul-le-mul-right (2 * L - 1 + longestIn (upTo (sends s p) said)) hw in omega arith;
+      ends = λ h. go (some-of (sends s p) said) refl (λ e. let c = k .open-contentions e in omega arith);
+      ends-in-time = λ P n m h. go (some-of (sends s p) said) refl (λ e. let c = k .open-slots P n m e in let l = mul-le-mul-right (2 * L - 1 + P) hw in omega arith);
+    }
+  where
+    go : (t : Bool) → some-of (sends s p) said ≡ t → (some-of (sends s p) said ≡ false → ⊥) → t ≡ true
+    go true e h = refl
+    go false e h = absurd (h e)
+
+bit-most : (t : Bool) → bit t ≤ 1
+bit-most true = omega arith
+bit-most false = omega arith
+
+served-at :
+    (b : Bus) → Reached b → b .discipline ≡ RTVC → b .contention ≡ none → (s : Station) → Among s (b .stations) → (p : Packet) (rest : List Packet)
+    → s .queue ≡ p ∷ rest → (later : List Call) → All (λ a. a .refusal ≡ 0) (answers machine b later)
+    → Served (length (b .stations)) (exponentOf (b .D)) s p (answers machine b later)
+served-at b r d c s i p rest q later none-refused =
+    served
+    (length (b .stations))
+    (exponentOf (b .D))
+    (winsLeft circuits (s .capability) (b .last))
+    (idlesLeft (s .capability) (b .last))
+    s
+    p
+    (answers machine b later)
+    (subst (λ n. winsLeft circuits (s .capability) (b .last) ≤ n) (length-map (b .stations) (λ t. t .capability)) (wins-most circuits (s .capability) own (b .last)))
+    (bit-most (sits-out RTVC (b .last) (s .capability)))
+    (subst
+    (λ n. Within (exponentOf (b .D)) (p .length) (sends s p) (winsLeft circuits (s .capability) (b .last)) (idlesLeft (s .capability) (b .last)) n (answers machine b later))
+    (left-at-begin b (b .D) d refl c)
+    (kept-all circuits (b .D) s p own some-slots later b r (waits-first b d c s i p rest q) none-refused))
+  where
+    circuits : List ℕ
+    circuits = map (λ t. t .capability) (b .stations)
+
+    own : Among (s .capability) circuits
+    own = map-into (λ t. t .capability) (b .stations) i
+
+    some-slots : 1 ≤ p .length
+    some-slots = reached-stands r d .each-station s i .packets p (subst (Among p) (sym q) (at-head refl)) .least
+
+-- the machine itself
+pub demand3-machine : Demand3 machine
+demand3-machine r calls = served-at (reach machine r calls) (r, calls, refl)
+
+-- every engine that meets demand 2
+pub demand3 : (E : Engine) → Demand2 E → Demand3 E
+demand3 E meets r calls d c s i p rest q later none-refused =
+    let e = answers-agree E meets r calls later in
+    subst
+    (Served (length (reach machine r calls .stations)) (exponentOf (reach machine r calls .D)) s p)
+    (sym e)
+    (demand3-machine r calls d c s i p rest q later (subst (All (λ a. a .refusal ≡ 0)) e none-refused))

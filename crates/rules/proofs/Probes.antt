@@ -1,0 +1,476 @@
+-- How many probes a contention takes, and that one with contenders who are never late has a winner. Assumes nothing.
+use Prim.Native.Nat.{ℕ, zero, suc, _+_, _*_, _/_, _^_, _≤_, _<_}
+use mathlib.Core.Path.{_≡_, refl, sym, ap, _∙_, subst}
+use mathlib.Core.Logic.{_⊎_, inl, inr}
+use mathlib.Core.Bool.{Bool, true, false, _&&_, _||_, cond}
+use mathlib.Core.Option.{Option, none, some}
+use mathlib.Core.List.{List, [], _∷_}
+use native.Mathlib.Nat.{le-refl, le-trans, lt-of-not-le, le-antisymm, pow-suc}
+use native.Mathlib.Omega.{arith}
+use lib.Dec.{leb, eqb}
+use lib.ListN.{length}
+use lib.Pow.{pow-pos, pow-mono}
+use borrow.Author.Tests.{leb-true, leb-false, eqb-true, eq-eqb}
+use Rattle.window.specs.declared.Side.{Side}
+use Rattle.window.specs.declared.Side.the-variants.{Left, Right}
+use Rattle.window.specs.declared.Window.{Window}
+use Rattle.window.specs.Splitting.{exponentOf, firstWindow, leftHalf, moveRight, inWindow, placed}
+use Rattle.window.proofs.Powers.{pow-le}
+use Rattle.window.proofs.Facts.{exponent-le, covers, least, in-window-test, halves, halves-apart, single, placed-view}
+use Rattle.rules.specs.Lists.{bit, count, at-head, All}
+use Rattle.rules.specs.Bus.{most-space, Discipline, PRI, RTDG, RTVC, code, Contention, Bus}
+use Rattle.rules.specs.SetUp.{Request}
+use Rattle.rules.specs.Standing.{OfferStands, WindowStands, ContentionStands, Standing}
+use Rattle.rules.specs.Admission.{Arrival, Admitted, admissionRefusal, withPacket}
+use Rattle.rules.specs.Probe.{Contender, contenders, able, lies-in, transmits, transmitters, idle, collision, Answer, refusedAnswer, Open, unsent, sentBy, goesOn, unwon, won, tiedAt, unheard, heard, probe}
+use Rattle.rules.specs.Step.{opened, openedBy, stepRefusal, step}
+use Rattle.rules.specs.Engine.{Engine, machine, Call, admission, one-step, reach, answers}
+use Rattle.rules.specs.Demands.{Demand2, contendersAt, probes, mostProbes, ProbesBounded}
+use Rattle.rules.proofs.Laws.{and-true, true-and, length-keep, count-same, none-counted, count-parts, count-mono, clash}
+use Rattle.rules.proofs.Standing.{set-up-stands, step-accepted, step-is}
+use Rattle.rules.proofs.Keeps.{opened-stands, opened-contention}
+use Rattle.rules.proofs.Reach.{reach-holds, answers-agree}
+use Rattle.rules.proofs.Contenders.{contender-from, contenders-admitted, one-address, one-capability}
+
+-- ---- the definitions
+
+-- a left half's parent: the half and the half moved right
+abbrev pub parent : Window → Window
+parent w = record { start = w .start; size = 2 * w .size; side = Left }
+
+-- what is still to be probed of a window's parent: of a left half all of it, of a right one, and of a first window, the window itself
+abbrev pub spanned : Window → Side → Window
+spanned w Left = parent w
+spanned w Right = w
+
+abbrev pub span : Window → Window
+span w = spanned w (w .side)
+
+-- of these contenders two or more are in the span, where nobody is ever late; and RTVC has no ties
+pub record Crowds (d : Discipline) (xs : List Contender) (c : Contention) : Type 0 where
+  pub several : ¬ (d ≡ RTDG) → 2 ≤ count (lies-in (span (c .window)) (c .tie)) xs
+  pub untied : d ≡ RTVC → c .tie ≡ none
+
+abbrev pub CrowdedBy : Discipline → List Contender → Option Contention → Type 0
+CrowdedBy d xs none = Unit {0}
+CrowdedBy d xs (some c) = Crowds d xs c
+
+-- what is true of every reached state: in PRI and RTVC two contenders or more are in the window or, of a left half, in its parent
+abbrev pub Crowded : Bus → Type 0
+Crowded b = CrowdedBy (b .discipline) (contenders (b .stations)) (b .contention)
+
+-- The probes that can still come once the window is a right one of one number. Addresses, and in RTVC capabilities, are distinct: two
+-- contenders are never in it, and it is not probed, but in RTDG, where those who collided earlier can be late by then. Equal parameters
+-- are: it is probed, and a tie phase follows.
+abbrev pub following : Discipline → ℕ → Option ℕ → ℕ
+following PRI M none = 2 * M + 1
+following RTDG M none = 2 * M + 2
+following RTVC M none = 0
+following PRI M (some tied) = 0
+following RTDG M (some tied) = 1
+following RTVC M (some tied) = 0
+
+-- after a left half, the half moved right can be probed
+abbrev pub otherHalf : Side → ℕ
+otherHalf Left = 1
+otherHalf Right = 0
+
+abbrev pub leftBy : Discipline → ℕ → ℕ → Option Contention → ℕ
+leftBy d L M none = mostProbes d L M
+leftBy d L M (some c) = 2 * exponentOf (c .window .size) + following d M (c .tie) + otherHalf (c .window .side)
+
+-- the probes that the contention under way, or the next one, has left at the most
+abbrev pub probesLeft : Bus → ℕ
+probesLeft b = leftBy (b .discipline) (exponentOf (b .D)) (exponentOf (b .A)) (b .contention)
+
+pub probes-at-begin : (b : Bus) → b .contention ≡ none → probesLeft b ≡ mostProbes (b .discipline) (exponentOf (b .D)) (exponentOf (b .A))
+probes-at-begin b e = ap (leftBy (b .discipline) (exponentOf (b .D)) (exponentOf (b .A))) e
+
+-- ---- windows
+
+exponent-power : (k : ℕ) → k ≤ 32 → exponentOf (2 ^ k) ≡ k
+exponent-power k h = le-antisymm (least (2 ^ k) k (pow-mono h) (le-refl _)) (pow-le _ _ (covers (2 ^ k) (pow-mono h)))
+
+-- a window's size is a power of two
+record Level (w : Window) : Type 0 where
+  level : ℕ
+  small : level ≤ 32
+  size-is : w .size ≡ 2 ^ level
+
+placed-level : (space : ℕ) (w : Window) → placed space w ≡ true → Level w
+placed-level space w e =
+    let p = placed-view space w e in
+    record { level = p .level; small = omega (arith, p .level-le, exponent-le space); size-is = p .size-is }
+
+unit-size : (w : Window) → Level w → exponentOf (w .size) ≡ 0 → w .size ≡ 1
+unit-size w l e = l .size-is ∙ ap (λ (k : ℕ). 2 ^ k) (sym (ap exponentOf (l .size-is) ∙ exponent-power (l .level) (l .small)) ∙ e)
+
+-- a window that can be halved is twice its half, which is one level down
+record Halvable (w : Window) : Type 0 where
+  size-is : 2 * (w .size / 2) ≡ w .size
+  down : suc (exponentOf (w .size / 2)) ≡ exponentOf (w .size)
+
+half-level : (w : Window) → Level w → 2 ≤ w .size → Halvable w
+half-level w l h = go (l .level) (l .small) (l .size-is)
+  where
+    go : (k : ℕ) → k ≤ 32 → w .size ≡ 2 ^ k → Halvable w
+    go zero small e = absurd (omega arith)
+    go (suc k) small e =
+        let half : w .size / 2 ≡ 2 ^ k = omega (arith, pow-suc 2 k) in
+        record {
+          size-is = omega (arith, pow-suc 2 k);
+          down = ap (λ (n : ℕ). suc (exponentOf n)) half ∙ ap suc (exponent-power k (omega arith)) ∙ sym (ap exponentOf e ∙ exponent-power (suc k) small);
+        }
+
+-- the first window of a space holds all of it
+first-holds : (space n : ℕ) → space ≤ most-space → n < space → inWindow (firstWindow space) n ≡ true
+first-holds space n m l = in-window-test (firstWindow space) n (omega arith) (omega (arith, covers space (omega arith)))
+
+bit-or : (a b : Bool) → (a && b) ≡ false → bit (a || b) ≡ bit a + bit b
+bit-or true true e = clash refl e
+bit-or true false e = refl
+bit-or false b e = omega arith
+
+-- a number in a left half's parent is either in the half or in the half moved right
+parent-parts : (w : Window) (n : ℕ) → bit (inWindow (parent w) n) ≡ bit (inWindow w n) + bit (inWindow (moveRight w) n)
+parent-parts w n =
+    let same : 2 * w .size / 2 ≡ w .size = omega arith in
+    ap bit (rw same at (halves (parent w) (w .size) n refl))
+    ∙ bit-or (inWindow w n) (inWindow (moveRight w) n) (rw same at (halves-apart (parent w) (w .size) n refl))
+
+-- the same of contenders
+lies-in-parts : (w : Window) (tie : Option ℕ) (x : Contender) → bit (lies-in (parent w) tie x) ≡ bit (lies-in w tie x) + bit (lies-in (moveRight w) tie x)
+lies-in-parts w none x = parent-parts w (x .parameter)
+lies-in-parts w (some tied) x = go (eqb (x .parameter) tied)
+  where
+    go : (t : Bool) → bit (t && inWindow (parent w) (x .address)) ≡ bit (t && inWindow w (x .address)) + bit (t && inWindow (moveRight w) (x .address))
+    go true = parent-parts w (x .address)
+    go false = refl
+
+-- who lies in a window goes by its start and size
+lies-in-same : (w w′ : Window) (tie : Option ℕ) (x : Contender) → w .start ≡ w′ .start → w .size ≡ w′ .size → lies-in w tie x ≡ lies-in w′ tie x
+lies-in-same w w′ none x p q = rw (p, q)
+lies-in-same w w′ (some tied) x p q = rw (p, q)
+
+-- in a crowded right window itself are two or more
+in-right :
+    {d : Discipline} {xs : List Contender} {c : Contention} → Crowds d xs c → ¬ (d ≡ RTDG) → c .window .side ≡ Right
+    → 2 ≤ count (lies-in (c .window) (c .tie)) xs
+in-right {d} {xs} {c} k f s = subst (λ (w : Window). 2 ≤ count (lies-in w (c .tie)) xs) (ap (spanned (c .window)) s) (k .several f)
+
+-- ---- one probe
+
+abbrev window : Open → Window
+window o = o .contention .window
+
+abbrev tie : Open → Option ℕ
+tie o = o .contention .tie
+
+-- the contenders, how many of them lie in the window, and how many transmit
+abbrev everyone : Open → List Contender
+everyone o = contenders (o .bus .stations)
+
+abbrev inside : Open → ℕ
+inside o = count (lies-in (window o) (tie o)) (everyone o)
+
+abbrev senders : Open → ℕ
+senders o = count (transmits (o .bus) (o .contention)) (everyone o)
+
+-- the contention with the window moved right, with its left half, and in the tie phase
+abbrev moved : Open → Contention
+moved o = record { window = moveRight (window o); tie = tie o }
+
+abbrev halved : Open → Contention
+halved o = record { window = leftHalf (window o); tie = tie o }
+
+abbrev tied : Open → Contention
+tied o = record { window = firstWindow (o .bus .A); tie = some (tiedAt (window o) (tie o)) }
+
+-- what holds of each of the five ways that a probe can go holds of the probe
+module _
+    (o : Open)
+    (P : Answer × Bus → Type 0)
+    (moves : senders o ≡ 0 → window o .side ≡ Left → P (unsent o idle 0, goesOn (o .bus) (moved o)))
+    (ends : senders o ≡ 0 → window o .side ≡ Right → P (unsent o idle 1, unwon (o .bus)))
+    (wins : (x : Contender) → P (sentBy o x, won (o .bus) x))
+    (splits : 2 ≤ senders o → 2 ≤ window o .size → P (unsent o collision 0, goesOn (o .bus) (halved o)))
+    (ties : 2 ≤ senders o → window o .size < 2 → P (unsent o collision 0, goesOn (o .bus) (tied o)))
+  where
+    probe-ways : P (probe o)
+    probe-ways = go (transmitters (o .bus) (o .contention)) (length-keep (transmits (o .bus) (o .contention)) (everyone o))
+      where
+        idly : senders o ≡ 0 → (s : Side) → window o .side ≡ s → P (unheard o s)
+        idly n Left e = moves n e
+        idly n Right e = ends n e
+
+        together :
+            2 ≤ senders o → (t : Bool) → leb 2 (window o .size) ≡ t → P (unsent o collision 0, goesOn (o .bus) (cond t (halved o) (tied o)))
+        together n true e = splits n (leb-true _ _ e)
+        together n false e = ties n (leb-false _ _ e)
+
+        go : (xs : List Contender) → length xs ≡ senders o → P (heard o xs)
+        go [] e = idly (sym e) (window o .side) refl
+        go (x ∷ []) e = wins x
+        go (x ∷ y ∷ more) e = together (omega arith) (leb 2 (window o .size)) refl
+
+-- a probe that ends the contention without a winner is of a right window in which nobody transmits
+ends-idle : (o : Open) → probe o .0 .ended ≡ 1 → probe o .0 .event ≡ idle → (senders o ≡ 0) × (window o .side ≡ Right)
+ends-idle o =
+    probe-ways o (λ r. r .0 .ended ≡ 1 → r .0 .event ≡ idle → (senders o ≡ 0) × (window o .side ≡ Right)) (λ n s x y. absurd (omega arith))
+    (λ n s x y. (n, s)) (λ c x y. absurd (omega arith)) (λ n l x y. absurd (omega arith)) (λ n l x y. absurd (omega arith))
+
+-- only those in the window transmit, and in PRI and RTVC, where nobody is late, all of them do
+only-they-send : (o : Open) → senders o ≤ inside o
+only-they-send o = count-mono (everyone o) (λ x i t. and-true (lies-in (window o) (tie o) x) (able (o .bus .discipline) (o .bus .clock) x) t .0)
+
+all-send : (o : Open) → ¬ (o .bus .discipline ≡ RTDG) → inside o ≤ senders o
+all-send o f = count-mono (everyone o) (λ x i l. true-and l (never-late (o .bus .discipline) f x))
+  where
+    never-late : (d : Discipline) → ¬ (d ≡ RTDG) → (x : Contender) → able d (o .bus .clock) x ≡ true
+    never-late PRI f x = refl
+    never-late RTDG f x = absurd (f refl)
+    never-late RTVC f x = refl
+
+-- the probes that the contention under way has left
+abbrev openLeft : Open → ℕ
+openLeft o = leftBy (o .bus .discipline) (exponentOf (o .bus .D)) (exponentOf (o .bus .A)) (some (o .contention))
+
+-- what a probe does: it is accepted, and ends the contention or leaves fewer probes than n
+abbrev Fewer : ℕ → Answer × Bus → Type 0
+Fewer n r = (r .0 .refusal ≡ 0) × ((r .0 .ended ≡ 1) ⊎ ((r .0 .ended ≡ 0) × (suc (probesLeft (r .1)) ≤ n)))
+
+-- what a contender is on a bus that stands
+pub record ContenderStands (b : Bus) (x : Contender) : Type 0 where
+  pub parameter-in : x .parameter < b .D
+  pub address-in : x .address < b .A
+  pub circuit : b .discipline ≡ RTVC → x .parameter ≡ x .capability
+
+-- a bus that stands, with its contention under way
+module _ (o : Open) (h : Standing (o .bus)) (e : o .bus .contention ≡ some (o .contention)) where
+  pub contender-stands : All (ContenderStands (o .bus)) (everyone o)
+  contender-stands x i =
+      let f = contender-from (o .bus .stations) i in
+      let s : OfferStands (o .bus) (f .station) (some (o .contention)) (some (f .offer)) =
+      rw (e, f .offered) at (h .each-station (f .station) (f .listed) .offered) in
+      let a = set-up-stands (o .bus) h .addresses-in (f .station) (f .listed) in
+      subst (ContenderStands (o .bus)) (sym (f .is)) (record { parameter-in = s .1; address-in = a; circuit = λ d. rw d at (s .2) })
+
+  window-level : Level (window o)
+  window-level = go (tie o) (subst (ContentionStands (o .bus)) e (h .window))
+    where
+      go : (t : Option ℕ) → WindowStands (o .bus) (o .contention) t → Level (window o)
+      go none p = placed-level (o .bus .D) (window o) p
+      go (some v) p = placed-level (o .bus .A) (window o) (p .1)
+
+  -- a window that cannot be halved has one number
+  one-number : window o .size < 2 → window o .size ≡ 1
+  one-number l = omega (arith, window-level .size-is, pow-pos (window-level .level))
+
+  -- in a window of one address, or of one capability, lies one contender at the most
+  alone : (w : Window) (t : Option ℕ) → w .size ≡ 1 → (t ≡ none → o .bus .discipline ≡ RTVC) → count (lies-in w t) (everyone o) ≤ 1
+  alone w none s circuits =
+      let d = circuits refl in
+      le-trans (count-mono (everyone o) (λ x i l. eq-eqb _ _ (sym (contender-stands x i .circuit d) ∙ single w (x .parameter) s l)))
+      (one-capability (w .start) (o .bus .stations) (set-up-stands (o .bus) h .capabilities-apart d))
+  alone w (some v) s circuits =
+      le-trans (count-mono (everyone o) (λ x i l. eq-eqb _ _ (single w (x .address) s (and-true (eqb (x .parameter) v) (inWindow w (x .address)) l .1))))
+      (one-address (w .start) (o .bus .stations) (set-up-stands (o .bus) h .addresses-apart))
+
+  -- so a collision in a window of one number is in the parameter phase, and not in RTVC
+  tie-begins : 2 ≤ senders o → window o .size < 2 → (tie o ≡ none) × (¬ (o .bus .discipline ≡ RTVC))
+  tie-begins n l = go (tie o) refl
+    where
+      not-alone : (tie o ≡ none → o .bus .discipline ≡ RTVC) → ⊥
+      not-alone f = omega (arith, only-they-send o, alone (window o) (tie o) (one-number l) f)
+
+      go : (t : Option ℕ) → tie o ≡ t → (t ≡ none) × (¬ (o .bus .discipline ≡ RTVC))
+      go none t = (refl, λ d. not-alone (λ _. d))
+      go (some v) t = absurd (not-alone (λ z. let no-tie : _≡_ {A = ℕ} 0 1 = cc in absurd (omega arith)))
+
+  probe-fewer : Fewer (openLeft o) (probe o)
+  probe-fewer = probe-ways o (Fewer (openLeft o)) moves (λ n s. (refl, inl refl)) (λ x. (refl, inl refl)) splits ties
+    where
+      moves : senders o ≡ 0 → window o .side ≡ Left → Fewer (openLeft o) (unsent o idle 0, goesOn (o .bus) (moved o))
+      moves n s = (refl, inr (refl, rw s (omega arith)))
+
+      splits : 2 ≤ senders o → 2 ≤ window o .size → Fewer (openLeft o) (unsent o collision 0, goesOn (o .bus) (halved o))
+      splits n l = let half = half-level (window o) window-level l .down in (refl, inr (refl, omega arith))
+
+      -- the tie phase has fewer probes than can follow the parameter phase
+      fewer : (d : Discipline) (M v : ℕ) → ¬ (d ≡ RTVC) → suc (2 * M + following d M (some v)) ≤ following d M none
+      fewer PRI M v f = omega arith
+      fewer RTDG M v f = omega arith
+      fewer RTVC M v f = absurd (f refl)
+
+      ties : 2 ≤ senders o → window o .size < 2 → Fewer (openLeft o) (unsent o collision 0, goesOn (o .bus) (tied o))
+      ties n l =
+          let t = tie-begins n l in
+          let first = exponent-power (exponentOf (o .bus .A)) (exponent-le (o .bus .A)) in
+          let less = fewer (o .bus .discipline) (exponentOf (o .bus .A)) (window o .start) (t .1) in
+          (refl, inr (refl, rw (t .0, first) (omega arith)))
+
+  -- a probe leaves a bus crowded, if it is, or if this is the first window
+  probe-crowded :
+      (¬ (o .bus .discipline ≡ RTDG) → window o .side ≡ Left → 2 ≤ count (lies-in (parent (window o)) (tie o)) (everyone o))
+      → (o .bus .discipline ≡ RTVC → tie o ≡ none) → Crowded (probe o .1)
+  probe-crowded above untied = probe-ways o (λ r. Crowded (r .1)) moves (λ n s. tt) (λ x. tt) splits ties
+    where
+      moves : senders o ≡ 0 → window o .side ≡ Left → Crowded (goesOn (o .bus) (moved o))
+      moves n s =
+          let parts = count-parts (lies-in (parent (window o)) (tie o)) (lies-in (window o) (tie o)) (lies-in (moveRight (window o)) (tie o)) (everyone o) in
+          let sum = parts (λ x i. lies-in-parts (window o) (tie o) x) in
+          record { several = λ f. omega (arith, above f s, all-send o f); untied = untied }
+
+      splits : 2 ≤ senders o → 2 ≤ window o .size → Crowded (goesOn (o .bus) (halved o))
+      splits n l =
+          let whole = half-level (window o) window-level l .size-is in
+          let same = count-same (everyone o) (λ x i. lies-in-same (parent (leftHalf (window o))) (window o) (tie o) x refl whole) in
+          record { several = λ f. omega (arith, only-they-send o); untied = untied }
+
+      -- all who lie in a window of one parameter lie in the first window of the tie phase
+      ties : 2 ≤ senders o → window o .size < 2 → Crowded (goesOn (o .bus) (tied o))
+      ties n l =
+          let t = tie-begins n l in
+          let lie : 2 ≤ inside o = omega (arith, only-they-send o) in
+          let all : count (lies-in (window o) none) (everyone o) ≤ count (lies-in (firstWindow (o .bus .A)) (some (window o .start))) (everyone o) =
+          count-mono (everyone o) (λ x i m. true-and (eq-eqb _ _ (single (window o) (x .parameter) (one-number l) m))
+          (first-holds (o .bus .A) (x .address) (set-up-stands (o .bus) h .A-most) (contender-stands x i .address-in))) in
+          record { several = λ f. rw (t .0) (le-trans (rw (t .0) at lie) all); untied = λ d. absurd (t .1 d) }
+
+-- ---- calls
+
+-- what a step probes has as many probes left as the bus
+opened-left : (b : Bus) (c : Option Contention) → openLeft (openedBy b c) ≡ leftBy (b .discipline) (exponentOf (b .D)) (exponentOf (b .A)) c
+opened-left b none = rw (exponent-power (exponentOf (b .D)) (exponent-le (b .D))) (go (b .discipline) (exponentOf (b .D)) (exponentOf (b .A)))
+  where
+    go : (d : Discipline) (L M : ℕ) → 2 * L + following d M none + 0 ≡ mostProbes d L M
+    go PRI L M = omega arith
+    go RTDG L M = omega arith
+    go RTVC L M = omega arith
+opened-left b (some c) = refl
+
+-- a probe is accepted, and ends the contention or leaves fewer probes than the bus had
+step-fewer : (b : Bus) → Standing b → Fewer (probesLeft b) (probe (opened b))
+step-fewer b h = rw (opened-left b (b .contention)) at (probe-fewer (opened b) (opened-stands b h) (opened-contention b))
+
+-- an accepted step, and an admission, leave a crowded bus crowded
+step-crowded : (b : Bus) → Standing b → Crowded b → Crowded (probe (opened b) .1)
+step-crowded b h k = go (b .contention) k (opened-stands b h) (opened-contention b)
+  where
+    go :
+        (c : Option Contention) → CrowdedBy (b .discipline) (contenders (b .stations)) c → Standing (openedBy b c .bus)
+        → openedBy b c .bus .contention ≡ some (openedBy b c .contention) → Crowded (probe (openedBy b c) .1)
+    go none k h e = probe-crowded (openedBy b none) h e (λ f s. let not-left : _≡_ {A = ℕ} 0 1 = cc in absurd (omega arith)) (λ d. refl)
+    go (some c) k h e = probe-crowded (openedBy b (some c)) h e (λ f s. rw s at (k .several f)) (k .untied)
+
+admission-crowded : (b : Bus) (a : Arrival) → Crowded b → Crowded (withPacket b a)
+admission-crowded b a k = rw (contenders-admitted b a) k
+
+pub crowded-reached : (r : Request) (calls : List Call) → Crowded (reach machine r calls)
+crowded-reached = reach-holds Crowded tt (λ r e. tt) (λ b a h k e. admission-crowded b a k) (λ b h k e. step-crowded b h k)
+
+right-half : (s : Side) → otherHalf s ≡ 0 → s ≡ Right
+right-half Left e = absurd (omega arith)
+right-half Right e = refl
+
+-- where nothing can follow, nobody is ever late, and a tie phase is under way or it is RTVC
+none-follow : (d : Discipline) (M : ℕ) (t : Option ℕ) → following d M t ≡ 0 → (¬ (d ≡ RTDG)) × (t ≡ none → d ≡ RTVC)
+none-follow PRI M none e = absurd (omega arith)
+none-follow RTDG M none e = absurd (omega arith)
+none-follow RTVC M none e = (λ q. omega (arith, ap code q), λ z. refl)
+none-follow PRI M (some v) e = (λ q. omega (arith, ap code q), λ z. let no-tie : _≡_ {A = ℕ} 0 1 = cc in absurd (omega arith))
+none-follow RTDG M (some v) e = absurd (omega arith)
+none-follow RTVC M (some v) e = (λ q. omega (arith, ap code q), λ z. refl)
+
+-- A contention has a probe left: where the window has one number and nothing can follow, it could not hold the two contenders.
+pub probes-left : (b : Bus) → Standing b → Crowded b → 1 ≤ probesLeft b
+probes-left b h k = go (b .contention) refl k
+  where
+    begins : (d : Discipline) (L M : ℕ) → b .D ≤ 2 ^ L → 1 ≤ mostProbes d L M
+    begins PRI L M l = omega arith
+    begins RTDG L M l = omega arith
+    begins RTVC zero M l = absurd (omega (arith, set-up-stands b h .D-least))
+    begins RTVC (suc L) M l = omega arith
+
+    go :
+        (c : Option Contention) → b .contention ≡ c → CrowdedBy (b .discipline) (contenders (b .stations)) c
+        → 1 ≤ leftBy (b .discipline) (exponentOf (b .D)) (exponentOf (b .A)) c
+    go none e k = begins (b .discipline) (exponentOf (b .D)) (exponentOf (b .A)) (covers (b .D) (omega (arith, set-up-stands b h .D-most)))
+    go (some c) e k = lt-of-not-le none-left
+      where
+        none-left : openLeft (openedBy b (some c)) ≤ 0 → ⊥
+        none-left z =
+            let f = none-follow (b .discipline) (exponentOf (b .A)) (c .tie) (omega arith) in
+            let s = right-half (c .window .side) (omega arith) in
+            let one = unit-size (c .window) (window-level (openedBy b (some c)) h e) (omega arith) in
+            omega (arith, in-right k (f .0) s, alone (openedBy b (some c)) h e (c .window) (c .tie) one (f .1))
+
+pub probes-fall : (b : Bus) → Standing b → stepRefusal b ≡ 0 → step b .0 .ended ≡ 0 → suc (probesLeft (step b .1)) ≤ probesLeft b
+probes-fall b h e = go (step b) (subst (Fewer (probesLeft b)) (sym (step-is b e)) (step-fewer b h) .1)
+  where
+    go :
+        (r : Answer × Bus) → (r .0 .ended ≡ 1) ⊎ ((r .0 .ended ≡ 0) × (suc (probesLeft (r .1)) ≤ probesLeft b)) → r .0 .ended ≡ 0
+        → suc (probesLeft (r .1)) ≤ probesLeft b
+    go r (inl x) goes-on = absurd (omega arith)
+    go r (inr x) goes-on = x .1
+
+-- a list is empty where a test holds of each and is counted for none
+nobody : {X : Type 0} (test : X → Bool) (xs : List X) → All (λ x. test x ≡ true) xs → count test xs ≡ 0 → xs ≡ []
+nobody test [] h e = refl
+nobody test (x ∷ xs) h e = clash (h x (at-head refl)) (none-counted test (x ∷ xs) e x (at-head refl))
+
+-- a contention whose packets are never late ends without a winner only where nobody contends, and at its first probe
+pub unwon-empty :
+    (b : Bus) → Standing b → Crowded b → stepRefusal b ≡ 0 → ¬ (b .discipline ≡ RTDG) → step b .0 .ended ≡ 1 → step b .0 .event ≡ idle
+    → (b .contention ≡ none) × (contendersAt b ≡ [])
+unwon-empty b h k e d ended unheard =
+    let f = ends-idle (opened b) (ap (λ r. r .0 .ended) (sym (step-is b e)) ∙ ended) (ap (λ r. r .0 .event) (sym (step-is b e)) ∙ unheard) in
+    go (b .contention) k (opened-stands b h) (opened-contention b) (f .0) (f .1)
+  where
+    go :
+        (c : Option Contention) → CrowdedBy (b .discipline) (contenders (b .stations)) c → Standing (openedBy b c .bus)
+        → openedBy b c .bus .contention ≡ some (openedBy b c .contention) → senders (openedBy b c) ≡ 0 → window (openedBy b c) .side ≡ Right
+        → (c ≡ none) × (everyone (openedBy b c) ≡ [])
+    go none k h e n s =
+        let o = openedBy b none in
+        let all : All (λ x. lies-in (firstWindow (b .D)) none x ≡ true) (everyone o) =
+        λ x i. first-holds (b .D) (x .parameter) (set-up-stands (o .bus) h .D-most) (contender-stands o h e x i .parameter-in) in
+        (refl, nobody (lies-in (firstWindow (b .D)) none) (everyone o) all (omega (arith, all-send o d)))
+    go (some c) k h e n s = absurd (omega (arith, in-right k d s, all-send (openedBy b (some c)) d))
+
+-- whatever is called, no more probes than are left are answered until the contention ends
+probes-bounded : (later : List Call) (b : Bus) → Crowded b → probes (answers machine b later) ≤ probesLeft b
+probes-bounded [] b k = omega arith
+probes-bounded (admission a ∷ later) b k = go (eqb (admissionRefusal b a) 0) (probes-bounded later)
+  where
+    result : Bool → Admitted × Bus
+    result t = cond t (record { refusal = 0; number = suc (b .admitted) }, withPacket b a) (record { refusal = admissionRefusal b a; number = 0 }, b)
+
+    go :
+        (t : Bool) → ((b′ : Bus) → Crowded b′ → probes (answers machine b′ later) ≤ probesLeft b′)
+        → probes (answers machine (result t .1) later) ≤ probesLeft b
+    go true more = more (withPacket b a) (admission-crowded b a k)
+    go false more = more b k
+probes-bounded (one-step ∷ later) b k = go (eqb (stepRefusal b) 0) refl (probes-bounded later)
+  where
+    result : Bool → Answer × Bus
+    result t = cond t (probe (opened b)) (refusedAnswer (stepRefusal b), b)
+
+    accepted :
+        (r : Answer × Bus) → Standing b → r .0 .refusal ≡ 0 → (r .0 .ended ≡ 1) ⊎ ((r .0 .ended ≡ 0) × (suc (probesLeft (r .1)) ≤ probesLeft b))
+        → probes (answers machine (r .1) later) ≤ probesLeft (r .1) → probes (r .0 ∷ answers machine (r .1) later) ≤ probesLeft b
+    accepted r h e (inl x) more = rw (e, x) (probes-left b h k)
+    accepted r h e (inr x) more = rw (e, x .0) (omega arith)
+
+    go :
+        (t : Bool) → eqb (stepRefusal b) 0 ≡ t → ((b′ : Bus) → Crowded b′ → probes (answers machine b′ later) ≤ probesLeft b′)
+        → probes (result t .0 ∷ answers machine (result t .1) later) ≤ probesLeft b
+    go true e more =
+        let h = step-accepted b (eqb-true _ _ e) .standing in
+        let f = step-fewer b h in
+        accepted (probe (opened b)) h (f .0) (f .1) (more (probe (opened b) .1) (step-crowded b h k))
+    go false e more = rw e (more b k)
+
+pub probesBounded : (E : Engine) → Demand2 E → ProbesBounded E
+probesBounded E d r calls e later =
+    rw (answers-agree E d r calls later, ← probes-at-begin (reach machine r calls) e) (probes-bounded later (reach machine r calls) (crowded-reached r calls))

@@ -1,0 +1,65 @@
+-- What is proved of paper 01, in one place. The statements are in specs/Demands.antt and specs/Conditions.antt, the proofs in the
+-- files named here; docs/PROMISES.md says which sentence each answers. Assumes nothing.
+use mathlib.Core.Path.{_≡_, refl}
+use mathlib.Core.Option.{none}
+use Rattle.rules.specs.Conditions.{RefusalsExact}
+use Rattle.rules.specs.Engine.{Engine, machine}
+use Rattle.rules.specs.Demands.{Demand2, NoFalseWin, AddressesApart, KeepsStanding, ReachedStands, HandsBack, Promised}
+use Rattle.rules.specs.Examples.{firstFailing}
+use Rattle.rules.proofs.Refusals as Refusals
+use Rattle.rules.proofs.Keeps as Keeps
+use Rattle.rules.proofs.Reach as Reach
+use Rattle.rules.proofs.Counts as Counts
+use Rattle.rules.proofs.Least as Least
+use Rattle.rules.proofs.Probes as Probes
+use Rattle.rules.proofs.Demand3 as Demand3
+use Rattle.rules.proofs.Starred as Starred
+
+-- ---- of the rules themselves, for any lent state
+
+-- accepted calls keep the standing conditions
+pub keepsStanding : KeepsStanding
+keepsStanding = Keeps.keepsStanding
+
+pub reachedStands : ReachedStands
+reachedStands = Reach.reachedStands
+
+-- refused calls hand back the state as lent, and zeros; the all-zero state does not stand
+pub handsBack : HandsBack
+handsBack = Refusals.handsBack
+
+-- each refusal number is given exactly when its condition holds and none tried earlier does
+pub refusalsExact : RefusalsExact
+refusalsExact = Refusals.refusalsExact
+
+-- an event says how many transmit
+pub noFalseWin : NoFalseWin
+noFalseWin = Least.noFalseWin
+
+-- no two stations share a full address
+pub addressesApart : AddressesApart
+addressesApart = Least.addressesApart
+
+-- the starred examples
+pub starred : firstFailing ≡ none
+starred = Starred.starred
+
+-- ---- of every engine that meets demand 2: the winner is least, events and counts are true, probes are bounded, and demand 3
+
+pub promised : (E : Engine) → Demand2 E → Promised E
+promised E meets =
+    record {
+      winnerIsLeast = Least.winnerIsLeast E meets;
+      eventsAreTrue = Least.eventsAreTrue E meets;
+      probesBounded = Probes.probesBounded E meets;
+      countsAreTrue = Counts.countsAreTrue E meets;
+      demand3 = Demand3.demand3 E meets;
+    }
+
+-- ---- and so of the machine, which meets it
+
+pub demand2-machine : Demand2 machine
+demand2-machine = record { setUps = λ r. refl; calls = λ r calls. refl }
+
+pub promised-machine : Promised machine
+promised-machine = promised machine demand2-machine

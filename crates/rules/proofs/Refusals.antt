@@ -1,0 +1,63 @@
+-- Each refusal number is given exactly when its condition holds and none tried earlier does, and what a refusal hands back.
+-- Assumes nothing.
+use Prim.Native.Nat.{ℕ}
+use mathlib.Core.Path.{_≡_, refl, sym, ap}
+use mathlib.Core.Bool.{Bool, true, false, cond}
+use mathlib.Core.List.{List, [], _∷_}
+use native.Mathlib.Omega.{arith}
+use lib.Dec.{eqb}
+use borrow.Author.Tests.{ne-eqb}
+use Rattle.window.specs.declared.Side.{Side}
+use Rattle.window.specs.declared.Side.the-variants.{Left, Right}
+use Rattle.rules.specs.Bus.{Bus, nothing}
+use Rattle.rules.specs.SetUp.{fine, setUpVerdict, freshBus}
+use Rattle.rules.specs.Admission.{Admitted, admissionRefusal}
+use Rattle.rules.specs.Probe.{Answer, Contender, Open, refusedAnswer, transmitters, unheard, heard, probe}
+use Rattle.rules.specs.Step.{opened, stepRefusal}
+use Rattle.rules.specs.Conditions.{RefusalsExact}
+use Rattle.rules.specs.Demands.{HandsBack}
+use Rattle.rules.proofs.Tests.{given}
+use Rattle.rules.proofs.Standing.{set-up-tried, admission-tried, step-tried}
+
+pub refusalsExact : RefusalsExact
+refusalsExact =
+    record {
+      set-up = λ r. given fine (set-up-tried r);
+      admission = λ b a. given 0 (admission-tried b a);
+      step = λ b. given 0 (step-tried b);
+    }
+
+-- a probe's answer is no refusal
+unheard-number : (o : Open) (side : Side) → unheard o side .0 .refusal ≡ 0
+unheard-number o Left = refl
+unheard-number o Right = refl
+
+heard-number : (o : Open) (xs : List Contender) → heard o xs .0 .refusal ≡ 0
+heard-number o [] = unheard-number o (o .contention .window .side)
+heard-number o (x ∷ []) = refl
+heard-number o (x ∷ y ∷ more) = refl
+
+probe-number : (o : Open) → probe o .0 .refusal ≡ 0
+probe-number o = heard-number o (transmitters (o .bus) (o .contention))
+
+-- Of a call whose own answer bears 0 and whose refusals bear their numbers: an answer that does not bear 0 is the refusal of its number.
+handed :
+    {X : Type 0} (number : X → ℕ) (n : ℕ) (own : X) (refused : ℕ → X) → number own ≡ 0 → ((k : ℕ) → number (refused k) ≡ k)
+    → ¬ (number (cond (eqb n 0) own (refused n)) ≡ 0) → cond (eqb n 0) own (refused n) ≡ refused (number (cond (eqb n 0) own (refused n)))
+handed number n own refused zero-own bears = go (eqb n 0)
+  where
+    go : (t : Bool) → ¬ (number (cond t own (refused n)) ≡ 0) → cond t own (refused n) ≡ refused (number (cond t own (refused n)))
+    go true h = absurd (h zero-own)
+    go false h = ap refused (sym (bears n))
+
+pub handsBack : HandsBack
+handsBack =
+    record {
+      set-up = λ r h. ap (λ t. cond t (freshBus r) nothing) (ne-eqb (setUpVerdict r .refusal) 0 h);
+      admission =
+          λ b a.
+          handed (λ (x : Admitted × Bus). x .0 .refusal) (admissionRefusal b a) _ (λ k. (record { refusal = k; number = 0 }, b)) refl (λ k. refl);
+      step =
+          λ b. handed (λ (x : Answer × Bus). x .0 .refusal) (stepRefusal b) _ (λ k. (refusedAnswer k, b)) (probe-number (opened b)) (λ k. refl);
+      caught = λ h. let e : _≡_ {A = ℕ} 3 0 = h .passes in omega arith;
+    }

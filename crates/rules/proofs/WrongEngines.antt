@@ -1,0 +1,113 @@
+-- Demand 2 rules out each wrong engine of specs/WrongEngines.antt, by a script of calls to which its replies are not the machine's; and
+-- demand 3 rules out the one that names the first station. Assumes nothing.
+use Prim.Native.Nat.{ℕ, suc, _+_}
+use mathlib.Core.Path.{_≡_, refl, sym, ap, _∙_}
+use mathlib.Core.Option.{none}
+use mathlib.Core.List.{List, [], _∷_}
+use native.Mathlib.Omega.{arith}
+use lib.Dec.{eqb, lit≤}
+use borrow.Author.Tests.{eqb-true}
+use Rattle.window.specs.Splitting.{exponentOf, isPower}
+use Rattle.rules.specs.Lists.{total, All, at-head, in-tail}
+use Rattle.rules.specs.Bus.{Packet, Station}
+use Rattle.rules.specs.SetUp.{Request, setUp}
+use Rattle.rules.specs.Probe.{Answer}
+use Rattle.rules.specs.Engine.{Engine, machine, Call, Reply, reach, stepsIn, answers}
+use Rattle.rules.specs.Demands.{Demand2, adds-lost, Served, Demand3}
+use Rattle.rules.specs.Examples.{arrives, steps, listing, circuits, apart}
+use Rattle.rules.specs.WrongEngines.{refusesAll, refusesCalls, untouched, alwaysIdle, madeUpDrops, madeUpSent, lowByte, madeUpProbes, firstStation}
+use Rattle.rules.proofs.Laws.{clash, each-view}
+use Rattle.rules.proofs.Computing.{Brings, Same, bus, test, pair, computed, bus-same, test-same, pair-same, computed-replies}
+
+-- A number read off the replies to a script is the machine's, both computed state by state.
+agrees : (E : Engine) (bring : Brings (E .State)) → Same bring → Demand2 E → (read : List Reply → ℕ) (r : Request) (calls : List Call)
+    → read (computed E bring (E .setUp r .1) calls) ≡ read (computed machine bus (setUp r .1) calls)
+agrees E bring same demand read r calls =
+    ap
+    read
+    (computed-replies E bring same (E .setUp r .1) calls
+    ∙ demand .calls r calls
+    ∙ sym (computed-replies machine bus bus-same (setUp r .1) calls))
+
+-- read off replies, each summed: the events (0 idle, 1 collision, 2 success), the winners' addresses, the drops, the refusals of steps
+events : List Reply → ℕ
+events rs = total (λ a. a .event) (stepsIn rs)
+
+winners : List Reply → ℕ
+winners rs = total (λ a. a .address) (stepsIn rs)
+
+drops : List Reply → ℕ
+drops rs = total adds-lost rs
+
+refusals : List Reply → ℕ
+refusals rs = total (λ a. a .refusal) (stepsIn rs)
+
+pub refusesAll-wrong : (n : ℕ) → Demand2 (refusesAll n) → ⊥
+refusesAll-wrong n demand = let z : suc n ≡ 0 = ap (λ v. v .refusal) (demand .setUps listing) in omega arith
+
+pub refusesCalls-wrong : (n : ℕ) → Demand2 (refusesCalls n) → ⊥
+unfolding refusals exponentOf isPower
+refusesCalls-wrong n demand = let z : suc n + 0 ≡ 0 = agrees (refusesCalls n) bus bus-same demand refusals listing (steps 1) in omega arith
+
+-- a lone packet is sent
+pub untouched-wrong : Demand2 untouched → ⊥
+unfolding events exponentOf isPower
+untouched-wrong demand = let z : _≡_ {A = ℕ} 0 2 = agrees untouched bus bus-same demand events listing (arrives 1 0 1 ∷ steps 1) in omega arith
+
+pub alwaysIdle-wrong : Demand2 alwaysIdle → ⊥
+unfolding events exponentOf isPower
+alwaysIdle-wrong demand = let z : _≡_ {A = ℕ} 0 2 = agrees alwaysIdle bus bus-same demand events listing (arrives 1 0 1 ∷ steps 1) in omega arith
+
+-- it is sent once
+pub madeUpSent-wrong : Demand2 madeUpSent → ⊥
+unfolding events exponentOf isPower
+madeUpSent-wrong demand = let z : _≡_ {A = ℕ} 4 2 = agrees madeUpSent bus bus-same demand events listing (arrives 1 0 1 ∷ steps 2) in omega arith
+
+-- where there is no packet, none is dropped
+pub madeUpDrops-wrong : Demand2 madeUpDrops → ⊥
+unfolding drops exponentOf isPower
+madeUpDrops-wrong demand = let z : _≡_ {A = ℕ} 1 0 = agrees madeUpDrops bus bus-same demand drops listing (steps 1) in omega arith
+
+-- two packets of unlike priority collide before one is sent
+pub madeUpProbes-wrong : Demand2 madeUpProbes → ⊥
+unfolding events exponentOf isPower
+madeUpProbes-wrong demand =
+    let z : _≡_ {A = ℕ} 2 1 = agrees madeUpProbes bus bus-same demand events listing (arrives 1 0 1 ∷ arrives 5 3 1 ∷ steps 1) in omega arith
+
+-- 7 and 263 collide
+pub lowByte-wrong : Demand2 lowByte → ⊥
+unfolding events exponentOf isPower
+lowByte-wrong demand =
+    let z : _≡_ {A = ℕ} 2 1 = agrees lowByte bus bus-same demand events apart (arrives 263 0 1 ∷ arrives 7 0 1 ∷ steps 1) in omega arith
+
+-- 6 wins over 7 in the first contention, and 7 the second, not 5
+pub firstStation-wrong : Demand2 firstStation → ⊥
+unfolding winners exponentOf isPower
+firstStation-wrong demand =
+    let calls : List Call = arrives 6 0 1 ∷ arrives 7 0 1 ∷ steps 3 in
+    let z : _≡_ {A = ℕ} 11 13 = agrees firstStation (pair bus test) (pair-same bus-same test-same) demand winners circuits calls in
+    omega arith
+
+-- Demand 3: circuits 1 and 3 contend, and 1 wins. Four contentions later, each of which names circuit 0, the packet of circuit 3 has not
+-- been sent.
+pub firstStation-unfair : Demand3 firstStation → ⊥
+unfolding exponentOf isPower
+firstStation-unfair demand = clash (served .ends (lit≤ tt)) refl
+  where
+    calls : List Call
+    calls = arrives 6 0 1 ∷ arrives 7 0 1 ∷ steps 2
+
+    said : List Answer
+    said = answers firstStation (reach firstStation circuits calls) (steps 4)
+
+    p : Packet
+    p = record { number = 2; value = 0; length = 1 }
+
+    s : Station
+    s = record { address = 7; capability = 3; queue = p ∷ []; offer = none }
+
+    accepted : All (λ a. a .refusal ≡ 0) said
+    accepted a i = eqb-true (a .refusal) 0 (each-view (λ b. eqb (b .refusal) 0) said refl a i)
+
+    served : Served 3 2 s p said
+    served = demand circuits calls refl refl s (in-tail (in-tail (at-head refl))) p [] refl (steps 4) accepted
