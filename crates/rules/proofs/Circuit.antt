@@ -12,10 +12,10 @@ use Rattle.window.specs.declared.Side.{Side}
 use Rattle.window.specs.declared.Side.the-variants.{Left, Right}
 use Rattle.window.specs.Splitting.{moveRight}
 use Rattle.rules.specs.Lists.{keep, Among, at-head}
-use Rattle.rules.specs.Bus.{RTDG, RTVC, code, Packet, Station, Contention, Bus}
+use Rattle.rules.specs.Bus.{late, RTDG, RTVC, code, Packet, Station, Contention, Bus}
 use Rattle.rules.specs.Standing.{Rising, Standing}
 use Rattle.rules.specs.Admission.{Arrival, named, newPacket, queued, joined, withPacket}
-use Rattle.rules.specs.Begin.{late, goes-before, chosen, choice, sits-out, offers, inTime, entered, begin, parameterOf}
+use Rattle.rules.specs.Begin.{goes-before, chosen, choice, sits-out, offers, inTime, entered, begin, parameterOf}
 use Rattle.rules.specs.Probe.{Answer, Contender, contenderOf, able, transmits, transmitters, goesOn, withdrawn, unwon, left, lastWinner, won, split, unheard, heard, success, idle}
 use Rattle.rules.specs.Step.{openedBy, opened, stepRefusal, step}
 use Rattle.rules.specs.Demands.{contendersAt, Ahead, Least, sends}
@@ -117,11 +117,11 @@ module _ (circuits : List ℕ) (D : ℕ) (s : Station) (p : Packet) where
         contends = λ c e out. offered out;
       }
     where
-      never-late : (q : Packet) → not (late (b .discipline) (b .clock) q) ≡ true
-      never-late q = ap (λ d. not (late d (b .clock) q)) (w .by-circuit)
+      never-late : (q : Packet) → not (late (b .discipline) (b .clock) (q .value)) ≡ true
+      never-late q = ap (λ d. not (late d (b .clock) (q .value))) (w .by-circuit)
 
       in-time : inTime b (w .station) ≡ p ∷ w .rest
-      in-time = keep-all (λ q. not (late (b .discipline) (b .clock) q)) (w .station .queue) (λ q i. never-late q) ∙ w .oldest
+      in-time = keep-all (λ q. not (late (b .discipline) (b .clock) (q .value))) (w .station .queue) (λ q i. never-late q) ∙ w .oldest
 
       rises : Rising 0 (b .admitted) (p ∷ w .rest)
       rises = subst (Rising 0 (b .admitted)) (w .oldest) (h .each-station (w .station) (w .listed) .rises)
@@ -297,7 +297,7 @@ module _ (circuits : List ℕ) (D : ℕ) (s : Station) (p : Packet) where
           same = same-address (opened b .bus .stations) (apart .addresses-apart) (l .contends) i (sym (l .address) ∙ named-x)
 
           in-time : able (b .discipline) (b .clock) mine ≡ true
-          in-time = ap (λ d. not (late d (b .clock) p)) (w .by-circuit)
+          in-time = ap (λ d. not (late d (b .clock) (p .value))) (w .by-circuit)
 
           circuit : x .parameter ≡ x .capability
           circuit = contender-stands (opened b) (opened-stands b h) (opened-contention b) x i .circuit (wo .by-circuit)

@@ -18,11 +18,11 @@ use Rattle.window.specs.declared.Window.{Window}
 use Rattle.window.specs.Splitting.{firstWindow, leftHalf, moveRight}
 use Rattle.window.proofs.Facts.{placed-first, placed-left, placed-right, placed-view, single}
 use Rattle.rules.specs.Lists.{bit, keep, count, Among, at-head, in-tail, All, Distinct, outside, verdict}
-use Rattle.rules.specs.Bus.{most-stations, least-space, most-space, clock-end, last-slot, Discipline, PRI, RTDG, RTVC, code, Packet, Offer, Station, Contention, Bus, waiting, numbers}
+use Rattle.rules.specs.Bus.{late, most-stations, least-space, most-space, clock-end, last-slot, Discipline, PRI, RTDG, RTVC, code, Packet, Offer, Station, Contention, Bus, waiting, numbers}
 use Rattle.rules.specs.SetUp.{Asked, Request, Verdict, fault, step-outside, stationTests, rowTests, setUpVerdict, disciplineOf, freshStation, freshBus}
-use Rattle.rules.specs.Standing.{askedFor, ValueFits, PacketStands, ParameterFits, OfferStands, StationStands, LastStands, WindowStands, ContentionStands, Standing}
+use Rattle.rules.specs.Standing.{asked, askedFor, ValueFits, PacketStands, ParameterFits, OfferStands, StationStands, LastStands, WindowStands, ContentionStands, Standing}
 use Rattle.rules.specs.Admission.{Arrival, named, newPacket, queued, joined, withPacket}
-use Rattle.rules.specs.Begin.{late, choice, chosen, goes-before, parameterOf, sits-out, offers, inTime, entered, dropsOf, opening, begin}
+use Rattle.rules.specs.Begin.{choice, chosen, goes-before, parameterOf, sits-out, offers, inTime, entered, dropsOf, opening, begin}
 use Rattle.rules.specs.Probe.{Contender, contenders, lies-in, transmits, transmitters, Open, goesOn, withdrawn, left, lastWinner, won, tiedAt, split, unheard, heard, probe}
 use Rattle.rules.specs.Step.{openedBy, opened}
 use Rattle.rules.specs.Demands.{KeepsStanding}
@@ -32,10 +32,6 @@ use Rattle.rules.proofs.Standing.{SetUpStands, set-up-stands, accepted-
 use Rattle.rules.proofs.Contenders.{contender-from}
 
 -- ---- what stands as before, where what it speaks of is what it was
-
--- a station as it would be asked for
-abbrev asked : Station → Asked
-asked s = record { address = s .address; capability = s .capability }
 
 -- set-up fields and stations, where each station has its address and capability
 passes-kept :
@@ -187,7 +183,7 @@ offers-stand b h s i = go (choice (b .discipline) (inTime b s)) refl
 -- what is dropped was waiting
 dropped : (b : Bus) → waiting (b .stations) ≡ waiting (map (entered b) (b .stations)) + dropsOf b
 dropped b =
-    let gone = late (b .discipline) (b .clock) in
+    let gone : Packet → Bool = λ p. late (b .discipline) (b .clock) (p .value) in
     let rest = total-map held (entered b) (b .stations) in
     let parts = total-parts held (λ s. length (inTime b s)) (λ s. count gone (s .queue)) (b .stations) (λ s i. kept-failed gone (s .queue)) in
     omega arith

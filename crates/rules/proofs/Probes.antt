@@ -5,20 +5,19 @@ use mathlib.Core.Logic.{_⊎_, inl, inr}
 use mathlib.Core.Bool.{Bool, true, false, _&&_, _||_, cond}
 use mathlib.Core.Option.{Option, none, some}
 use mathlib.Core.List.{List, [], _∷_}
-use native.Mathlib.Nat.{le-refl, le-trans, lt-of-not-le, le-antisymm, pow-suc}
+use native.Mathlib.Nat.{le-trans, lt-of-not-le}
 use native.Mathlib.Omega.{arith}
 use lib.Dec.{leb, eqb}
 use lib.ListN.{length}
-use lib.Pow.{pow-pos, pow-mono}
+use lib.Pow.{pow-pos}
 use borrow.Author.Tests.{leb-true, leb-false, eqb-true, eq-eqb}
 use Rattle.window.specs.declared.Side.{Side}
 use Rattle.window.specs.declared.Side.the-variants.{Left, Right}
 use Rattle.window.specs.declared.Window.{Window}
-use Rattle.window.specs.Splitting.{exponentOf, firstWindow, leftHalf, moveRight, inWindow, placed}
-use Rattle.window.proofs.Powers.{pow-le}
-use Rattle.window.proofs.Facts.{exponent-le, covers, least, in-window-test, halves, halves-apart, single, placed-view}
+use Rattle.window.specs.Splitting.{exponentOf, firstWindow, leftHalf, moveRight, inWindow}
+use Rattle.window.proofs.Facts.{exponent-le, covers, exponent-power, first-holds, halves, halves-apart, single, Level, placed-level, unit-size, half-level}
 use Rattle.rules.specs.Lists.{bit, count, at-head, All}
-use Rattle.rules.specs.Bus.{most-space, Discipline, PRI, RTDG, RTVC, code, Contention, Bus}
+use Rattle.rules.specs.Bus.{Discipline, PRI, RTDG, RTVC, code, Contention, Bus}
 use Rattle.rules.specs.SetUp.{Request}
 use Rattle.rules.specs.Standing.{OfferStands, WindowStands, ContentionStands, Standing}
 use Rattle.rules.specs.Admission.{Arrival, Admitted, admissionRefusal, withPacket}
@@ -87,44 +86,6 @@ pub probes-at-begin : (b : Bus) → b .contention ≡ none → probesLeft b ≡ 
 probes-at-begin b e = ap (leftBy (b .discipline) (exponentOf (b .D)) (exponentOf (b .A))) e
 
 -- ---- windows
-
-exponent-power : (k : ℕ) → k ≤ 32 → exponentOf (2 ^ k) ≡ k
-exponent-power k h = le-antisymm (least (2 ^ k) k (pow-mono h) (le-refl _)) (pow-le _ _ (covers (2 ^ k) (pow-mono h)))
-
--- a window's size is a power of two
-record Level (w : Window) : Type 0 where
-  level : ℕ
-  small : level ≤ 32
-  size-is : w .size ≡ 2 ^ level
-
-placed-level : (space : ℕ) (w : Window) → placed space w ≡ true → Level w
-placed-level space w e =
-    let p = placed-view space w e in
-    record { level = p .level; small = omega (arith, p .level-le, exponent-le space); size-is = p .size-is }
-
-unit-size : (w : Window) → Level w → exponentOf (w .size) ≡ 0 → w .size ≡ 1
-unit-size w l e = l .size-is ∙ ap (λ (k : ℕ). 2 ^ k) (sym (ap exponentOf (l .size-is) ∙ exponent-power (l .level) (l .small)) ∙ e)
-
--- a window that can be halved is twice its half, which is one level down
-record Halvable (w : Window) : Type 0 where
-  size-is : 2 * (w .size / 2) ≡ w .size
-  down : suc (exponentOf (w .size / 2)) ≡ exponentOf (w .size)
-
-half-level : (w : Window) → Level w → 2 ≤ w .size → Halvable w
-half-level w l h = go (l .level) (l .small) (l .size-is)
-  where
-    go : (k : ℕ) → k ≤ 32 → w .size ≡ 2 ^ k → Halvable w
-    go zero small e = absurd (omega arith)
-    go (suc k) small e =
-        let half : w .size / 2 ≡ 2 ^ k = omega (arith, pow-suc 2 k) in
-        record {
-          size-is = omega (arith, pow-suc 2 k);
-          down = ap (λ (n : ℕ). suc (exponentOf n)) half ∙ ap suc (exponent-power k (omega arith)) ∙ sym (ap exponentOf e ∙ exponent-power (suc k) small);
-        }
-
--- the first window of a space holds all of it
-first-holds : (space n : ℕ) → space ≤ most-space → n < space → inWindow (firstWindow space) n ≡ true
-first-holds space n m l = in-window-test (firstWindow space) n (omega arith) (omega (arith, covers space (omega arith)))
 
 bit-or : (a b : Bool) → (a && b) ≡ false → bit (a || b) ≡ bit a + bit b
 bit-or true true e = clash refl e
@@ -323,7 +284,7 @@ module _ (o : Open) (h : Standing (o .bus)) (e : o .bus .contention ≡ some (o 
 
       splits : 2 ≤ senders o → 2 ≤ window o .size → Crowded (goesOn (o .bus) (halved o))
       splits n l =
-          let whole = half-level (window o) window-level l .size-is in
+          let whole = half-level (window o) window-level l .twice in
           let same = count-same (everyone o) (λ x i. lies-in-same (parent (leftHalf (window o))) (window o) (tie o) x refl whole) in
           record { several = λ f. omega (arith, only-they-send o); untied = untied }
 
@@ -334,7 +295,7 @@ module _ (o : Open) (h : Standing (o .bus)) (e : o .bus .contention ≡ some (o 
           let lie : 2 ≤ inside o = omega (arith, only-they-send o) in
           let all : count (lies-in (window o) none) (everyone o) ≤ count (lies-in (firstWindow (o .bus .A)) (some (window o .start))) (everyone o) =
           count-mono (everyone o) (λ x i m. true-and (eq-eqb _ _ (single (window o) (x .parameter) (one-number l) m))
-          (first-holds (o .bus .A) (x .address) (set-up-stands (o .bus) h .A-most) (contender-stands x i .address-in))) in
+          (first-holds (o .bus .A) (x .address) (omega (arith, set-up-stands (o .bus) h .A-most)) (contender-stands x i .address-in))) in
           record { several = λ f. rw (t .0) (le-trans (rw (t .0) at lie) all); untied = λ d. absurd (t .1 d) }
 
 -- ---- calls
@@ -434,7 +395,7 @@ unwon-empty b h k e d ended unheard =
     go none k h e n s =
         let o = openedBy b none in
         let all : All (λ x. lies-in (firstWindow (b .D)) none x ≡ true) (everyone o) =
-        λ x i. first-holds (b .D) (x .parameter) (set-up-stands (o .bus) h .D-most) (contender-stands o h e x i .parameter-in) in
+        λ x i. first-holds (b .D) (x .parameter) (omega (arith, set-up-stands (o .bus) h .D-most)) (contender-stands o h e x i .parameter-in) in
         (refl, nobody (lies-in (firstWindow (b .D)) none) (everyone o) all (omega (arith, all-send o d)))
     go (some c) k h e n s = absurd (omega (arith, in-right k d s, all-send (openedBy b (some c)) d))
 

@@ -14,13 +14,13 @@ use borrow.Author.Tests.{eqb-true, eq-eqb}
 use Rattle.window.specs.declared.Window.{Window}
 use Rattle.window.specs.Splitting.{placed}
 use Rattle.rules.specs.Lists.{each-of, Among, at-head, All, Some, has, Distinct}
-use Rattle.rules.specs.Bus.{most-stations, least-space, most-space, places, most-step, longest-packet, clock-end, last-slot, most-admitted, Discipline, PRI, RTDG, RTVC, code, Packet, Offer, Station, Contention, Bus, nothing, waiting, numbers}
+use Rattle.rules.specs.Bus.{late, most-stations, least-space, most-space, places, most-step, longest-packet, clock-end, last-slot, most-admitted, Discipline, PRI, RTDG, RTVC, code, Packet, Offer, Station, Contention, Bus, nothing, waiting, numbers}
 use Rattle.rules.specs.SetUp.{Asked, Request, fine, rowTests, setUpTests, setUpVerdict, freshBus, setUp}
 use Rattle.rules.specs.Standing.{askedFor, value-fits, length-fits, rising, same-packet, parameter-fits, offer-stands, station-stands, last-stands, window-stands, contention-stands, stands, ValueFits, PacketStands, Rising, ParameterFits, OfferStands, StationStands, LastStands, WindowStands, ContentionStands, Standing}
-use Rattle.rules.specs.Admission.{Arrival, Admitted, too-late, admissionTests, admissionRefusal, withPacket, admit}
+use Rattle.rules.specs.Admission.{Arrival, Admitted, admissionTests, admissionRefusal, withPacket, admit}
 use Rattle.rules.specs.Probe.{Answer, probe, refusedAnswer}
 use Rattle.rules.specs.Step.{opened, stepTests, stepRefusal, step}
-use Rattle.rules.specs.Conditions.{StepOutside, rowConditions, setUpConditions, TooLate, admissionConditions, stepConditions}
+use Rattle.rules.specs.Conditions.{StepOutside, rowConditions, setUpConditions, Late, admissionConditions, stepConditions}
 use Rattle.rules.proofs.Laws.{clash, among-left, among-right, all-cons, all-nil, map-from, map-into, map-map}
 use Rattle.rules.proofs.Tests.{Whether, holds, fails, stable, decides, in-words, negated, negated-twice, both, one-of, by-case, below, at-most, equal, out-of, inside, for-each, for-some, for-none, is-among, none-twice, Tried, done, _then_, NoneHolds, none-held}
 
@@ -151,7 +151,7 @@ set-up-tried r =
     then one-of (out-of 1 most-stations (r .N)) (below (length (r .row)) (r .N))
     then row-tried r 0 [] (take (r .N) (r .row))
 
-late-whether : (d : Discipline) (clock value : ℕ) → Whether (TooLate d clock value) (too-late d clock value)
+late-whether : (d : Discipline) (clock value : ℕ) → Whether (Late d clock value) (late d clock value)
 late-whether PRI clock value = fails (λ h. h)
 late-whether RTDG clock value = below value clock
 late-whether RTVC clock value = fails (λ h. h)
@@ -288,7 +288,7 @@ pub record AdmissionAccepted (b : Bus) (a : Arrival) : Type 0 where
   pub value : ValueFits (b .discipline) (b .D) (a .value)
   pub least : 1 ≤ a .length
   pub most : a .length ≤ longest-packet
-  pub in-time : ¬ TooLate (b .discipline) (b .clock) (a .value)
+  pub in-time : ¬ Late (b .discipline) (b .clock) (a .value)
   pub room : All (λ s. a .address ≡ s .address → length (s .queue) < places) (b .stations)
   pub count-left : b .admitted < most-admitted
 

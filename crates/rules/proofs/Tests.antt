@@ -11,19 +11,11 @@ use lib.Dec.{leb, ltb, eqb}
 use borrow.Author.Tests.{ltb-true, ltb-false, leb-true, leb-false, eqb-true, eqb-false}
 use Rattle.rules.specs.Lists.{some-of, each-of, Among, at-head, in-tail, All, Some, distinct, Distinct, outside, firstOf, Given}
 use Rattle.rules.specs.Conditions.{Outside}
-use Rattle.rules.proofs.Laws.{clash, and-true, among-cases, among-none, all-cons, all-nil}
+use Rattle.rules.proofs.Laws.{and-true, among-cases, among-none, all-cons, all-nil}
 
 pub data Whether (C : Type 0) : Bool → Type 0 where
   holds : C → Whether C true
   fails : ¬ C → Whether C false
-
-pub view : {C : Type 0} {t : Bool} → Whether C t → t ≡ true → C
-view (holds c) e = c
-view (fails n) e = clash e refl
-
-pub test : {C : Type 0} {t : Bool} → Whether C t → C → t ≡ true
-test (holds c) d = refl
-test (fails n) d = absurd (n d)
 
 -- what is not refuted holds, where a test decides
 pub stable : {C : Type 0} {t : Bool} → Whether C t → ¬ ¬ C → C

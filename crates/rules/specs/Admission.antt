@@ -1,11 +1,11 @@
 -- Admission (paper 01, 'Admission' and refusals 11 to 16). 'Admission tries 1, then 11 to 16.' Assumes nothing.
 use Prim.Native.Nat.{ℕ, suc, _+_}
-use mathlib.Core.Bool.{Bool, false, not, _&&_, cond}
+use mathlib.Core.Bool.{Bool, not, _&&_, cond}
 use mathlib.Core.List.{List, [], _∷_, _++_, map}
-use lib.Dec.{leb, ltb, eqb}
+use lib.Dec.{leb, eqb}
 use lib.ListN.{length}
 use Rattle.rules.specs.Lists.{some-of, firstOf}
-use Rattle.rules.specs.Bus.{places, most-admitted, Discipline, PRI, RTDG, RTVC, Packet, Station, Bus}
+use Rattle.rules.specs.Bus.{places, most-admitted, Packet, late, Station, Bus}
 use Rattle.rules.specs.Standing.{value-fits, length-fits, stands}
 
 -- 'An admission names an address, a value and a length.'
@@ -23,23 +23,19 @@ pub record Admitted : Type 0 where
 abbrev pub named : Arrival → Station → Bool
 named a s = eqb (a .address) (s .address)
 
--- 'RTDG latest start below the present clock'
-abbrev pub too-late : Discipline → ℕ → ℕ → Bool
-too-late PRI clock value = false
-too-late RTDG clock value = ltb value clock
-too-late RTVC clock value = false
-
+-- 11 to 16 of the table, after 1
 abbrev pub admissionTests : Bus → Arrival → List (ℕ × Bool)
 admissionTests b a =
     (1, not (stands b))
     ∷ (11, not (some-of (named a) (b .stations)))
     ∷ (12, not (value-fits (b .discipline) (b .D) (a .value)))
     ∷ (13, not (length-fits (a .length)))
-    ∷ (14, too-late (b .discipline) (b .clock) (a .value))
+    ∷ (14, late (b .discipline) (b .clock) (a .value))
     ∷ (15, some-of (λ s. named a s && leb places (length (s .queue))) (b .stations))
     ∷ (16, leb most-admitted (b .admitted))
     ∷ []
 
+-- the first of them that holds, or 0
 abbrev pub admissionRefusal : Bus → Arrival → ℕ
 admissionRefusal b a = firstOf 0 (admissionTests b a)
 
@@ -51,9 +47,11 @@ newPacket b a = record { number = suc (b .admitted); value = a .value; length = 
 abbrev pub queued : Packet → Station → Station
 queued p s = record { address = s .address; capability = s .capability; queue = s .queue ++ (p ∷ []); offer = s .offer }
 
+-- what becomes of each station: the one named has a packet more
 abbrev pub joined : Bus → Arrival → Station → Station
 joined b a s = cond (named a s) (queued (newPacket b a) s) s
 
+-- the state after an accepted admission
 abbrev pub withPacket : Bus → Arrival → Bus
 withPacket b a =
     record {

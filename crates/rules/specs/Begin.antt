@@ -7,18 +7,13 @@ use mathlib.Core.List.{List, [], _∷_, map}
 use lib.Dec.{leb, ltb, eqb}
 use Rattle.window.specs.Splitting.{firstWindow}
 use Rattle.rules.specs.Lists.{keep, count, total}
-use Rattle.rules.specs.Bus.{Discipline, PRI, RTDG, RTVC, Packet, Offer, Station, Contention, Bus}
+use Rattle.rules.specs.Bus.{Discipline, PRI, RTDG, RTVC, Packet, late, Offer, Station, Contention, Bus}
 
--- 'In RTDG every queued packet with latest start below T is dropped and counted lost.'
-abbrev pub late : Discipline → ℕ → Packet → Bool
-late PRI slot p = false
-late RTDG slot p = ltb (p .value) slot
-late RTVC slot p = false
-
--- whether p goes before p′: 'PRI and RTDG the smallest value, the lowest packet number among equals; RTVC the lowest packet number'
+-- 'the smallest value, the lowest packet number among equals'
 abbrev pub smaller : Packet → Packet → Bool
 smaller p p′ = ltb (p .value) (p′ .value) || (eqb (p .value) (p′ .value) && ltb (p .number) (p′ .number))
 
+-- whether p is offered before p′: 'PRI and RTDG the smallest value, ..; RTVC the lowest packet number'
 abbrev pub goes-before : Discipline → Packet → Packet → Bool
 goes-before PRI p p′ = smaller p p′
 goes-before RTDG p p′ = smaller p p′
@@ -29,11 +24,13 @@ abbrev pub chosen : Discipline → Packet → Option Packet → Option Packet
 chosen d p none = some p
 chosen d p (some p′) = some (cond (goes-before d p′ p) p′ p)
 
+-- the packet that a station offers of those it has
 abbrev pub choice : Discipline → List Packet → Option Packet
 choice d [] = none
 choice d (p ∷ queue) = chosen d p (choice d queue)
 
--- 'PRI: the priority. RTDG: (latest start - T) divided by q, rounded down, and D - 1 where that is larger. RTVC: the capability'
+-- 'PRI: the priority. RTDG: (latest start - T) divided by q, rounded down, and D - 1 where that is larger. RTVC: the capability'.
+-- Figure 6, line 4.
 abbrev pub parameterOf : Discipline → Bus → Station → Packet → ℕ
 parameterOf PRI b s p = p .value
 parameterOf RTDG b s p = min ((p .value - b .clock) / b .q) (b .D - 1)
@@ -55,10 +52,11 @@ offers b s (some p) =
     none
     (some (record { parameter = parameterOf (b .discipline) b s p; packet = p }))
 
--- a station's packets that are not late at the present slot
+-- 'In RTDG every queued packet with latest start below T is dropped and counted lost': what is left of a station's packets
 abbrev pub inTime : Bus → Station → List Packet
-inTime b s = keep (λ p. not (late (b .discipline) (b .clock) p)) (s .queue)
+inTime b s = keep (λ p. not (late (b .discipline) (b .clock) (p .value))) (s .queue)
 
+-- a station as the contention begins
 abbrev pub entered : Bus → Station → Station
 entered b s =
     record {
@@ -70,7 +68,7 @@ entered b s =
 
 -- how many packets a contention that begins now drops
 abbrev pub dropsOf : Bus → ℕ
-dropsOf b = total (λ s. count (late (b .discipline) (b .clock)) (s .queue)) (b .stations)
+dropsOf b = total (λ s. count (λ p. late (b .discipline) (b .clock) (p .value)) (s .queue)) (b .stations)
 
 -- 'The window is the first window of D, start 0, side right.' Figure 6, line 3.
 abbrev pub opening : Bus → Contention

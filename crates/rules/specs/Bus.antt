@@ -3,8 +3,10 @@
 -- The ranges are those of paper 01's table. A station that contends keeps its offer with it, so that a station contends with
 -- one packet at the most. `last` is the capability of the round's last winner. Assumes nothing.
 use Prim.Native.Nat.{ℕ, _+_}
+use mathlib.Core.Bool.{Bool, false}
 use mathlib.Core.Option.{Option, none}
 use mathlib.Core.List.{List, [], _∷_, _++_, map}
+use lib.Dec.{ltb}
 use lib.ListN.{length}
 use Rattle.window.specs.declared.Window.{Window}
 use Rattle.rules.specs.Lists.{total}
@@ -60,11 +62,19 @@ pub record Packet : Type 0 where
   pub value : ℕ
   pub length : ℕ
 
+-- Whether a latest start is below a slot; in RTDG alone a value is a latest start. Admission refuses such a value (14), a contention that
+-- begins drops such packets, and a contender with such a packet does not transmit.
+abbrev pub late : Discipline → ℕ → ℕ → Bool
+late PRI slot value = false
+late RTDG slot value = ltb value slot
+late RTVC slot value = false
+
 -- the packet that a station contends with, and its parameter, 'fixed for the whole contention'
 pub record Offer : Type 0 where
   pub parameter : ℕ
   pub packet : Packet
 
+-- a station, its packets in the order of admission, and its offer while it contends
 pub record Station : Type 0 where
   pub address : ℕ
   pub capability : ℕ
@@ -76,6 +86,7 @@ pub record Contention : Type 0 where
   pub window : Window
   pub tie : Option ℕ
 
+-- the machine's state: the set-up, the stations in listed order, clock and counts, the round and the contention
 pub record Bus : Type 0 where
   pub discipline : Discipline
   pub D : ℕ

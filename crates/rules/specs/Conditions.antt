@@ -16,14 +16,16 @@ use Rattle.rules.specs.Step.{stepRefusal}
 abbrev pub Outside : ℕ → ℕ → ℕ → Type 0
 Outside least most n = (n < least) ⊎ (most < n)
 
--- q: 'RTDG: 1 to 65,535; otherwise exactly 1'. Capability: 'RTVC: 0 to D - 1; otherwise 0'.
+-- 'q: RTDG: 1 to 65,535; otherwise exactly 1'
 abbrev pub StepOutside : ℕ → ℕ → Type 0
 StepOutside discipline q = ((discipline ≡ code RTDG) × Outside 1 most-step q) ⊎ ((discipline ≢ code RTDG) × (q ≢ 1))
 
+-- 'capability: RTVC: 0 to D - 1; otherwise 0'
 abbrev pub CapabilityOutside : ℕ → ℕ → ℕ → Type 0
 CapabilityOutside discipline D capability =
     ((discipline ≡ code RTVC) × (D ≤ capability)) ⊎ ((discipline ≢ code RTVC) × (capability ≢ 0))
 
+-- '3, 4, 5, 6: D, A, q, N outside its range above'; 'a station row shorter than N gives 6'
 abbrev pub settingsConditions : Request → List (Verdict × Type 0)
 settingsConditions r =
     (fault 2 0, 2 < r .discipline)
@@ -42,6 +44,7 @@ stationConditions r i earlier s =
     ∷ (fault 10 i, (r .discipline ≡ code RTVC) × Some (λ e. s .capability ≡ e .capability) earlier)
     ∷ []
 
+-- the stations in turn
 abbrev pub rowConditions : Request → ℕ → List Asked → List Asked → List (Verdict × Type 0)
 rowConditions r i earlier [] = []
 rowConditions r i earlier (s ∷ later) = stationConditions r i earlier s ++ rowConditions r (suc i) (earlier ++ (s ∷ [])) later
@@ -51,10 +54,10 @@ abbrev pub setUpConditions : Request → List (Verdict × Type 0)
 setUpConditions r = settingsConditions r ++ rowConditions r 0 [] (take (r .N) (r .row))
 
 -- '14: RTDG latest start below the present clock'
-abbrev pub TooLate : Discipline → ℕ → ℕ → Type 0
-TooLate PRI clock value = ⊥
-TooLate RTDG clock value = value < clock
-TooLate RTVC clock value = ⊥
+abbrev pub Late : Discipline → ℕ → ℕ → Type 0
+Late PRI clock value = ⊥
+Late RTDG clock value = value < clock
+Late RTVC clock value = ⊥
 
 -- 'Admission tries 1, then 11 to 16.'
 abbrev pub admissionConditions : Bus → Arrival → List (ℕ × Type 0)
@@ -63,7 +66,7 @@ admissionConditions b a =
     ∷ (11, All (λ s. a .address ≢ s .address) (b .stations))
     ∷ (12, ¬ ValueFits (b .discipline) (b .D) (a .value))
     ∷ (13, Outside 1 longest-packet (a .length))
-    ∷ (14, TooLate (b .discipline) (b .clock) (a .value))
+    ∷ (14, Late (b .discipline) (b .clock) (a .value))
     ∷ (15, Some (λ s. (a .address ≡ s .address) × (places ≤ length (s .queue))) (b .stations))
     ∷ (16, most-admitted ≤ b .admitted)
     ∷ []

@@ -30,13 +30,15 @@ pub record Demand2 (E : Engine) : Type 0 where
 abbrev pub Ahead : Contender → Contender → Type 0
 Ahead x y = (x .parameter < y .parameter) ⊎ ((x .parameter ≡ y .parameter) × (x .address ≤ y .address))
 
--- the contenders in the slot that the next step probes, those of them still able to start in it, and those who transmit
+-- the contenders in the slot that the next step probes
 abbrev pub contendersAt : Bus → List Contender
 contendersAt b = contenders (opened b .bus .stations)
 
+-- those of them still able to start in it
 abbrev pub StillAble : Bus → Contender → Type 0
 StillAble b x = able (b .discipline) (b .clock) x ≡ true
 
+-- and those who transmit in it
 abbrev pub transmittersAt : Bus → List Contender
 transmittersAt b = transmitters (opened b .bus) (opened b .contention)
 
@@ -50,16 +52,18 @@ pub record Least (b : Bus) (a : Answer) : Type 0 where
   pub length : a .length ≡ winner .packet .length
   pub least : All (λ x. StillAble b x → Ahead winner x) (contendersAt b)
 
+-- 'From any state reached from set-up', whoever the engine says has won is least.
 abbrev pub WinnerIsLeast : Engine → Type 0
 WinnerIsLeast E =
     (r : Request) (calls : List Call) → E .step (reach E r calls) .0 .event ≡ success → Least (reach machine r calls) (E .step (reach E r calls) .0)
 
--- 'collisions were booked as lone wins': an accepted step's event says how many contenders transmit, in any state whatever
+-- what an event says of the number n of contenders who transmit
 pub record Heard (n : ℕ) (event : ℕ) : Type 0 where
   pub lone : (event ≡ success) ↔ (n ≡ 1)
   pub several : (event ≡ collision) ↔ (2 ≤ n)
   pub none-sends : (event ≡ idle) ↔ (n ≡ 0)
 
+-- An accepted step's event says how many transmit, in any state whatever: no collision is booked as a lone win.
 abbrev pub NoFalseWin : Type 0
 NoFalseWin = (b : Bus) → step b .0 .refusal ≡ 0 → Heard (length (transmittersAt b)) (step b .0 .event)
 
@@ -106,6 +110,7 @@ mostProbes PRI L M = 2 * L + 2 * M + 1
 mostProbes RTDG L M = 2 * L + 2 * M + 2
 mostProbes RTVC L M = 2 * L
 
+-- 'Probes in one contention, in states reached from set-up': from a state in which none is under way, whatever is called
 abbrev pub ProbesBounded : Engine → Type 0
 ProbesBounded E =
     (r : Request) (calls : List Call) → reach machine r calls .contention ≡ none → (later : List Call)
@@ -143,6 +148,7 @@ pub record Counted (b : Bus) (rs : List Reply) : Type 0 where
   pub lost : b .lost ≡ total adds-lost rs
   pub clock : b .clock ≡ total adds-slots rs
 
+-- after any set-up and any calls
 abbrev pub CountsAreTrue : Engine → Type 0
 CountsAreTrue E = (r : Request) (calls : List Call) → Counted (reach machine r calls) (replies E (E .setUp r .1) calls)
 
@@ -197,6 +203,7 @@ Demand3 E =
 
 -- ---- what demand 2 gives an engine
 
+-- Each of these follows from demand 2 (proofs/Promises.antt, `promised`).
 pub record Promised (E : Engine) : Type 0 where
   pub winnerIsLeast : WinnerIsLeast E
   pub eventsAreTrue : EventsAreTrue E

@@ -17,15 +17,17 @@ pub record Engine : Type 1 where
 abbrev pub machine : Engine
 machine = record { State = Bus; setUp = setUp; admit = admit; step = step }
 
--- a call on a state, and the reply to it
+-- a call on a state
 pub data Call : Type 0 where
   admission : Arrival → Call
   one-step : Call
 
+-- the reply to it
 pub data Reply : Type 0 where
   admitted : Admitted → Reply
   stepped : Answer → Reply
 
+-- what an engine replies to a call, and the state it hands back
 abbrev pub reply : (E : Engine) → E .State → Call → Reply
 reply E s (admission a) = admitted (E .admit s a .0)
 reply E s one-step = stepped (E .step s .0)
@@ -34,11 +36,12 @@ abbrev pub next : (E : Engine) → E .State → Call → E .State
 next E s (admission a) = E .admit s a .1
 next E s one-step = E .step s .1
 
--- the state after calls, whatever they are, and the replies to them
+-- the state after calls, whatever they are
 abbrev pub after : (E : Engine) → E .State → List Call → E .State
 after E s [] = s
 after E s (c ∷ calls) = after E (next E s c) calls
 
+-- the replies to them
 abbrev pub replies : (E : Engine) → E .State → List Call → List Reply
 replies E s [] = []
 replies E s (c ∷ calls) = reply E s c ∷ replies E (next E s c) calls

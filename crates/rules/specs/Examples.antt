@@ -8,11 +8,11 @@ use lib.Dec.{eqb}
 use lib.ListN.{length, drop}
 use Rattle.window.specs.declared.Side.the-variants.{Right}
 use Rattle.window.specs.Splitting.{exponentOf, firstWindow, sameSide}
-use Rattle.rules.specs.Bus.{PRI, RTDG, RTVC, code, Packet, Station, Contention, Bus}
+use Rattle.rules.specs.Bus.{PRI, RTDG, RTVC, code, Packet, late, Station, Contention, Bus}
 use Rattle.rules.specs.SetUp.{Asked, Request, freshStation, setUp}
 use Rattle.rules.specs.Standing.{stands}
 use Rattle.rules.specs.Admission.{admissionRefusal}
-use Rattle.rules.specs.Begin.{late, parameterOf}
+use Rattle.rules.specs.Begin.{parameterOf}
 use Rattle.rules.specs.Probe.{withdrawn, parameter-phase, tie-phase, idle, collision, success, Answer}
 use Rattle.rules.specs.Step.{stepRefusal, step}
 use Rattle.rules.specs.Engine.{machine, Call, admission, one-step, answers}
@@ -211,7 +211,7 @@ abbrev pub laxity : ℕ → ℕ
 laxity latest = parameterOf (slot100 .discipline) slot100 (freshStation (station 0 0)) (starting latest)
 
 abbrev pub dropped : ℕ → Bool
-dropped latest = late (slot100 .discipline) (slot100 .clock) (starting latest)
+dropped latest = late (slot100 .discipline) (slot100 .clock) latest
 
 -- the refusal of an arrival right after set-up
 abbrev pub refusal : Request → ℕ → ℕ → ℕ → ℕ

@@ -27,11 +27,12 @@ module _ {X : Type 0} where
   count test [] = 0
   count test (x ∷ xs) = bit (test x) + count test xs
 
-  -- whether the test holds for some of xs, for each of xs
+  -- whether the test holds for some of xs
   abbrev pub some-of : (X → Bool) → List X → Bool
   some-of test [] = false
   some-of test (x ∷ xs) = test x || some-of test xs
 
+  -- whether the test holds for each of xs
   abbrev pub each-of : (X → Bool) → List X → Bool
   each-of test [] = true
   each-of test (x ∷ xs) = test x && each-of test xs
@@ -46,10 +47,11 @@ pub data Among {X : Type 0} (x : X) : List X → Type 0 where
   at-head : {y : X} {ys : List X} → x ≡ y → Among x (y ∷ ys)
   in-tail : {y : X} {ys : List X} → Among x ys → Among x (y ∷ ys)
 
--- each of xs is such that P; some of xs is
+-- each of xs is such that P
 abbrev pub All : {X : Type 0} → (X → Type 0) → List X → Type 0
 All {X} P xs = (x : X) → Among x xs → P x
 
+-- some of xs is such that P
 abbrev pub Some : {X : Type 0} → (X → Type 0) → List X → Type 0
 Some {X} P xs = (x : X) × Among x xs × P x
 
@@ -62,6 +64,7 @@ abbrev pub distinct : List ℕ → Bool
 distinct [] = true
 distinct (n ∷ ns) = not (has n ns) && distinct ns
 
+-- no number stands twice among others
 abbrev pub Distinct : List ℕ → Type 0
 Distinct [] = Unit {0}
 Distinct (n ∷ ns) = (¬ Among n ns) × Distinct ns
@@ -72,10 +75,12 @@ outside least most n = not (leb least n && leb n most)
 
 -- Refusals are an ordered list of tests: the verdict of the first test that holds, and `accepted` where none does.
 module _ {Out : Type 0} where
+  -- this verdict, if its test holds
   abbrev pub verdict : Bool → Out → Out → Out
   verdict true v rest = v
   verdict false v rest = rest
 
+  -- the verdict of the first test that holds
   abbrev pub firstOf : Out → List (Out × Bool) → Out
   firstOf accepted [] = accepted
   firstOf accepted (t ∷ ts) = verdict (t .1) (t .0) (firstOf accepted ts)

@@ -11,8 +11,7 @@ use Rattle.window.specs.declared.Side.the-variants.{Left, Right}
 use Rattle.window.specs.declared.Window.{Window}
 use Rattle.window.specs.Splitting.{firstWindow, leftHalf, moveRight, inWindow}
 use Rattle.rules.specs.Lists.{keep}
-use Rattle.rules.specs.Bus.{Discipline, PRI, RTDG, RTVC, Packet, Offer, Station, Contention, Bus}
-use Rattle.rules.specs.Begin.{late}
+use Rattle.rules.specs.Bus.{Discipline, PRI, RTDG, RTVC, Packet, late, Offer, Station, Contention, Bus}
 
 -- a station that contends, with its offer
 pub record Contender : Type 0 where
@@ -21,9 +20,11 @@ pub record Contender : Type 0 where
   pub parameter : ℕ
   pub packet : Packet
 
+-- the contender that a station with an offer is
 abbrev pub contenderOf : Station → Offer → Contender
 contenderOf s o = record { address = s .address; capability = s .capability; parameter = o .parameter; packet = o .packet }
 
+-- a station before other contenders, if it has an offer
 abbrev pub contending : Station → Option Offer → List Contender → List Contender
 contending s none others = others
 contending s (some o) others = contenderOf s o ∷ others
@@ -35,7 +36,7 @@ contenders (s ∷ stations) = contending s (s .offer) (contenders stations)
 
 -- 'in RTDG, its latest start is not below the slot being probed'
 abbrev pub able : Discipline → ℕ → Contender → Bool
-able d slot c = not (late d slot (c .packet))
+able d slot c = not (late d slot (c .packet .value))
 
 -- 'its parameter (in the tie phase: its address) lies in the window'; the tie phase is 'among the contenders of that parameter'
 abbrev pub lies-in : Window → Option ℕ → Contender → Bool
@@ -46,16 +47,18 @@ lies-in w (some tied) c = eqb (c .parameter) tied && inWindow w (c .address)
 abbrev pub transmits : Bus → Contention → Contender → Bool
 transmits b c x = lies-in (c .window) (c .tie) x && able (b .discipline) (b .clock) x
 
+-- those who transmit in the slot being probed
 abbrev pub transmitters : Bus → Contention → List Contender
 transmitters b c = keep (transmits b c) (contenders (b .stations))
 
--- phases and events as numbers
+-- the phases as numbers
 abbrev pub parameter-phase : ℕ
 parameter-phase = 0
 
 abbrev pub tie-phase : ℕ
 tie-phase = 1
 
+-- the events as numbers
 abbrev pub idle : ℕ
 idle = 0
 
@@ -85,6 +88,7 @@ abbrev pub refusedAnswer : ℕ → Answer
 refusedAnswer n =
     record { refusal = n; drops = 0; slot = 0; phase = 0; start = 0; size = 0; event = 0; address = 0; number = 0; length = 0; ended = 0 }
 
+-- the phase, from the tied parameter
 abbrev pub phaseOf : Option ℕ → ℕ
 phaseOf none = parameter-phase
 phaseOf (some tied) = tie-phase
@@ -137,6 +141,7 @@ goesOn b c =
       contention = some c;
     }
 
+-- a station whose contention has ended without its packet sent
 abbrev pub withdrawn : Station → Station
 withdrawn s = record { address = s .address; capability = s .capability; queue = s .queue; offer = none }
 
@@ -190,13 +195,13 @@ won b x =
       contention = none;
     }
 
--- 'A window of size 2 or more becomes its left half, side left. A window of size 1 starts the tie phase among the contenders of
--- that parameter: the first window of A, start 0, side right.' Figure 6, lines 20 to 22. Addresses are distinct, so that no two
--- contenders transmit in a window of one address.
+-- the parameter tied in a window of size 1; in the tie phase it is tied already (no two addresses are equal, so that none collide there)
 abbrev pub tiedAt : Window → Option ℕ → ℕ
 tiedAt w none = w .start
 tiedAt w (some tied) = tied
 
+-- 'A window of size 2 or more becomes its left half, side left. A window of size 1 starts the tie phase among the contenders of
+-- that parameter: the first window of A, start 0, side right.' Figure 6, lines 20 to 22.
 abbrev pub split : Bus → Contention → Contention
 split b c =
     cond

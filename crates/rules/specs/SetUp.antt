@@ -29,9 +29,11 @@ pub record Verdict : Type 0 where
   pub refusal : ℕ
   pub station : ℕ
 
+-- an accepted set-up's answer
 abbrev pub fine : Verdict
 fine = record { refusal = 0; station = 0 }
 
+-- a refused set-up's answer
 abbrev pub fault : ℕ → ℕ → Verdict
 fault number station = record { refusal = number; station = station }
 
@@ -62,6 +64,7 @@ stationTests r i earlier s =
     ∷ (fault 10 i, eqb (r .discipline) (code RTVC) && has (s .capability) (map (λ e. e .capability) earlier))
     ∷ []
 
+-- the stations in turn, from place i of the row on
 abbrev pub rowTests : Request → ℕ → List Asked → List Asked → List (Verdict × Bool)
 rowTests r i earlier [] = []
 rowTests r i earlier (s ∷ later) = stationTests r i earlier s ++ rowTests r (suc i) (earlier ++ (s ∷ [])) later
@@ -70,6 +73,7 @@ rowTests r i earlier (s ∷ later) = stationTests r i earlier s ++ rowTests r (s
 abbrev pub setUpTests : Request → List (Verdict × Bool)
 setUpTests r = settingsTests r ++ rowTests r 0 [] (take (r .N) (r .row))
 
+-- the first of them that holds, or no refusal
 abbrev pub setUpVerdict : Request → Verdict
 setUpVerdict r = firstOf fine (setUpTests r)
 
@@ -79,6 +83,7 @@ disciplineOf zero = PRI
 disciplineOf (suc zero) = RTDG
 disciplineOf (suc (suc n)) = RTVC
 
+-- a station as set up: no packets, no offer
 abbrev pub freshStation : Asked → Station
 freshStation s = record { address = s .address; capability = s .capability; queue = []; offer = none }
 

@@ -11,7 +11,11 @@ use lib.ListN.{length}
 use Rattle.window.specs.Splitting.{placed}
 use Rattle.rules.specs.Lists.{some-of, each-of, distinct, outside, Among, All, Some, Distinct}
 use Rattle.rules.specs.Bus.{places, longest-packet, clock-end, most-admitted, Discipline, PRI, RTDG, RTVC, code, Packet, Offer, Station, Contention, Bus, waiting, numbers}
-use Rattle.rules.specs.SetUp.{Request, setUpVerdict}
+use Rattle.rules.specs.SetUp.{Asked, Request, setUpVerdict}
+
+-- the station as it would be asked for
+abbrev pub asked : Station → Asked
+asked s = record { address = s .address; capability = s .capability }
 
 -- the set-up that would ask for this bus
 abbrev pub askedFor : Bus → Request
@@ -22,7 +26,7 @@ askedFor b =
       A = b .A;
       q = b .q;
       N = length (b .stations);
-      row = map (λ s. record { address = s .address; capability = s .capability }) (b .stations);
+      row = map asked (b .stations);
     }
 
 -- a packet's value in its range: 'for PRI, a priority 0 to D - 1; for RTDG, 0 to 1,073,741,824; for RTVC, 0'
@@ -31,6 +35,7 @@ value-fits PRI D value = ltb value D
 value-fits RTDG D value = leb value clock-end
 value-fits RTVC D value = eqb value 0
 
+-- 'packet length: 1 to 4,096 slots'
 abbrev pub length-fits : ℕ → Bool
 length-fits n = not (outside 1 longest-packet n)
 
@@ -39,6 +44,7 @@ abbrev pub rising : ℕ → ℕ → List Packet → Bool
 rising before admitted [] = leb before admitted
 rising before admitted (p ∷ queue) = ltb before (p .number) && rising (p .number) admitted queue
 
+-- whether two packets are one
 abbrev pub same-packet : Packet → Packet → Bool
 same-packet p p′ = eqb (p .number) (p′ .number) && eqb (p .value) (p′ .value) && eqb (p .length) (p′ .length)
 
@@ -55,6 +61,7 @@ offer-stands b s none (some o) = false
 offer-stands b s (some c) (some o) =
     some-of (same-packet (o .packet)) (s .queue) && ltb (o .parameter) (b .D) && parameter-fits (b .discipline) s o
 
+-- 'in each queue at most 16 packets, numbers .., values and lengths in range', and the station's offer
 abbrev pub station-stands : Bus → Station → Bool
 station-stands b s =
     leb (length (s .queue)) places
@@ -74,6 +81,7 @@ abbrev pub window-stands : Bus → Contention → Option ℕ → Bool
 window-stands b c none = placed (b .D) (c .window)
 window-stands b c (some v) = ltb v (b .D) && placed (b .A) (c .window)
 
+-- the window, during a contention
 abbrev pub contention-stands : Bus → Option Contention → Bool
 contention-stands b none = true
 contention-stands b (some c) = window-stands b c (c .tie)
@@ -90,53 +98,63 @@ stands b =
     && last-stands (b .discipline) (b .stations) (b .last)
     && contention-stands b (b .contention)
 
--- The same as conditions. `Standing b` holds exactly when the test passes (proofs/Standing.antt, `stands-exactly`).
+-- ---- the same as conditions: `Standing b` holds exactly when the test passes (proofs/Standing.antt, `stands-exactly`)
 
+-- `value-fits`
 abbrev pub ValueFits : Discipline → ℕ → ℕ → Type 0
 ValueFits PRI D value = value < D
 ValueFits RTDG D value = value ≤ clock-end
 ValueFits RTVC D value = value ≡ 0
 
+-- 'values and lengths in range'
 pub record PacketStands (b : Bus) (p : Packet) : Type 0 where
   pub value : ValueFits (b .discipline) (b .D) (p .value)
   pub least : 1 ≤ p .length
   pub most : p .length ≤ longest-packet
 
+-- `rising`
 abbrev pub Rising : ℕ → ℕ → List Packet → Type 0
 Rising before admitted [] = before ≤ admitted
 Rising before admitted (p ∷ queue) = (before < p .number) × Rising (p .number) admitted queue
 
+-- `parameter-fits`
 abbrev pub ParameterFits : Discipline → Station → Offer → Type 0
 ParameterFits PRI s o = o .parameter ≡ o .packet .value
 ParameterFits RTDG s o = Unit {0}
 ParameterFits RTVC s o = o .parameter ≡ s .capability
 
+-- `offer-stands`
 abbrev pub OfferStands : Bus → Station → Option Contention → Option Offer → Type 0
 OfferStands b s c none = Unit {0}
 OfferStands b s none (some o) = ⊥
 OfferStands b s (some c) (some o) =
     Among (o .packet) (s .queue) × (o .parameter < b .D) × ParameterFits (b .discipline) s o
 
+-- `station-stands`
 pub record StationStands (b : Bus) (s : Station) : Type 0 where
   pub room : length (s .queue) ≤ places
   pub rises : Rising 0 (b .admitted) (s .queue)
   pub packets : All (PacketStands b) (s .queue)
   pub offered : OfferStands b s (b .contention) (s .offer)
 
+-- `last-stands`
 abbrev pub LastStands : Discipline → List Station → Option ℕ → Type 0
 LastStands d stations none = Unit {0}
 LastStands PRI stations (some c) = ⊥
 LastStands RTDG stations (some c) = ⊥
 LastStands RTVC stations (some c) = Some (λ s. c ≡ s .capability) stations
 
+-- `window-stands`
 abbrev pub WindowStands : Bus → Contention → Option ℕ → Type 0
 WindowStands b c none = placed (b .D) (c .window) ≡ true
 WindowStands b c (some v) = (v < b .D) × (placed (b .A) (c .window) ≡ true)
 
+-- `contention-stands`
 abbrev pub ContentionStands : Bus → Option Contention → Type 0
 ContentionStands b none = Unit {0}
 ContentionStands b (some c) = WindowStands b c (c .tie)
 
+-- `stands`
 pub record Standing (b : Bus) : Type 0 where
   -- 'set-up fields and stations pass 2 to 10'
   pub passes : setUpVerdict (askedFor b) .refusal ≡ 0

@@ -74,11 +74,13 @@ stays b x =
       contention = none;
     }
 
+-- what is heard, with the packet left in its queue
 abbrev pub heardStaying : Open → List Contender → Answer × Bus
 heardStaying o [] = heard o []
 heardStaying o (x ∷ []) = (sentBy o x, stays (o .bus) x)
 heardStaying o (x ∷ y ∷ more) = heard o (x ∷ y ∷ more)
 
+-- the engine that makes up sent counts
 abbrev pub madeUpSent : Engine
 madeUpSent = probing λ o. heardStaying o (transmitters (o .bus) (o .contention))
 
@@ -88,6 +90,7 @@ abbrev pub senders : List Contender → List Contender
 senders [] = []
 senders (x ∷ more) = x ∷ keep (λ y. not (eqb (x .address % 256) (y .address % 256))) (senders more)
 
+-- the old fault
 abbrev pub lowByte : Engine
 lowByte = probing λ o. heard o (senders (transmitters (o .bus) (o .contention)))
 
@@ -96,6 +99,7 @@ abbrev pub playedOut : ℕ → Bus → Answer × Bus
 playedOut zero b = step b
 playedOut (suc n) b = elim (eqb (step b .0 .ended) 1 || not (eqb (step b .0 .refusal) 0)) [ true ↦ step b | false ↦ playedOut n (step b .1) ]
 
+-- the engine that makes up probes
 abbrev pub madeUpProbes : Engine
 madeUpProbes = record { State = Bus; setUp = setUp; admit = admit; step = playedOut 66 }
 
@@ -105,14 +109,17 @@ abbrev pub firstPacket : List Packet → Packet
 firstPacket [] = record { number = 0; value = 0; length = 1 }
 firstPacket (p ∷ queue) = p
 
+-- the first listed station, as if it alone transmitted
 abbrev pub firstListed : List Station → List Contender
 firstListed [] = []
 firstListed (s ∷ stations) = record { address = s .address; capability = s .capability; parameter = 0; packet = firstPacket (s .queue) } ∷ []
 
+-- a step, before and after the first contention is over
 abbrev pub arbitrates : Bus → Bool → Answer × (Bus × Bool)
 arbitrates b false = (step b .0, (step b .1, eqb (step b .0 .ended) 1))
 arbitrates b true = let said = heard (opened b) (firstListed (b .stations)) in (said .0, (said .1, true))
 
+-- the engine that names the first station
 abbrev pub firstStation : Engine
 firstStation =
     record {

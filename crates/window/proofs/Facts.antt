@@ -4,7 +4,7 @@ use Prim.Native.Nat.{ℕ, zero, suc, _+_, _-_, _*_, _/_, _%_, _^_, _≤_, _<_}
 use mathlib.Core.Path.{_≡_, refl, sym, ap, _∙_, subst}
 use mathlib.Core.Bool.{Bool, true, false, _&&_, _||_, cond, false≢true, and-eq-true-iff}
 use native.Mathlib.Decide.{decLe}
-use native.Mathlib.Nat.{le-refl, le-of-suc-le-suc, lt-of-not-le, zero-mul, mul-mod-left, mul-div-cancel, mul-assoc, suc-mul, mul-le-mul-right, div-add-mod', pow-suc, pow-succ'}
+use native.Mathlib.Nat.{le-refl, le-antisymm, le-of-suc-le-suc, lt-of-not-le, zero-mul, mul-mod-left, mul-div-cancel, mul-assoc, suc-mul, mul-le-mul-right, div-add-mod', pow-suc, pow-succ'}
 use native.Mathlib.Omega.{arith}
 use lib.Arith.{lt-of-le-ne}
 use lib.Count.{ones, leading-length}
@@ -40,6 +40,10 @@ least space k h c =
     let l = exponent-length space h in
     le-of-suc-le-suc (lt-of-not-le (λ (g : suc k ≤ exponentOf space). omega (arith, pow-mono g, pow-suc 2 k, pow-pos k)))
 
+-- The exponent of a power of two is its exponent.
+pub exponent-power : (k : ℕ) → k ≤ 32 → exponentOf (2 ^ k) ≡ k
+exponent-power k h = le-antisymm (least (2 ^ k) k (pow-mono h) (le-refl _)) (pow-le _ _ (covers (2 ^ k) (pow-mono h)))
+
 -- A number in a window is at its start or past it, and before its end.
 pub in-window : (w : Window) (n : ℕ) → inWindow w n ≡ true → (w .start ≤ n) × (n < w .start + w .size)
 in-window w n e =
@@ -49,6 +53,10 @@ in-window w n e =
 -- A number at the start or past it, and before the end, is in the window.
 pub in-window-test : (w : Window) (n : ℕ) → w .start ≤ n → n < w .start + w .size → inWindow w n ≡ true
 in-window-test w n h l = simp (le-leb _ _ h, lt-ltb _ _ l)
+
+-- The first window of a space holds all of it.
+pub first-holds : (space n : ℕ) → space ≤ 2 ^ 32 → n < space → inWindow (firstWindow space) n ≡ true
+first-holds space n m l = in-window-test (firstWindow space) n (omega arith) (omega (arith, covers space m))
 
 -- A number from the start on that is not in the window is at its end or past it.
 pub out-window : (w : Window) (n : ℕ) → inWindow w n ≡ false → w .start ≤ n → w .start + w .size ≤ n
@@ -245,3 +253,36 @@ pub moved-right : (space : ℕ) (w : Window) → placed space w ≡ true → mov
 moved-right space w e =
     let room : w .start + w .size < 2 ^ 64 = omega (arith, placed-inside space w e, pow-mono (exponent-le space)) in
     simp (lt-ltb _ _ room)
+
+-- A size that is a power of two, with its exponent, the window's level.
+pub record Level (w : Window) : Type 0 where
+  pub level : ℕ
+  pub small : level ≤ 32
+  pub size-is : w .size ≡ 2 ^ level
+
+-- A placed window has a level.
+pub placed-level : (space : ℕ) (w : Window) → placed space w ≡ true → Level w
+placed-level space w e =
+    let p = placed-view space w e in
+    record { level = p .level; small = omega (arith, p .level-le, exponent-le space); size-is = p .size-is }
+
+-- At level 0 the size is 1.
+pub unit-size : (w : Window) → Level w → exponentOf (w .size) ≡ 0 → w .size ≡ 1
+unit-size w l e = l .size-is ∙ ap (λ (k : ℕ). 2 ^ k) (sym (ap exponentOf (l .size-is) ∙ exponent-power (l .level) (l .small)) ∙ e)
+
+-- A window that can be halved is twice its half, which is one level down.
+pub record Halvable (w : Window) : Type 0 where
+  pub twice : 2 * (w .size / 2) ≡ w .size
+  pub down : suc (exponentOf (w .size / 2)) ≡ exponentOf (w .size)
+
+pub half-level : (w : Window) → Level w → 2 ≤ w .size → Halvable w
+half-level w l h = go (l .level) (l .small) (l .size-is)
+  where
+    go : (k : ℕ) → k ≤ 32 → w .size ≡ 2 ^ k → Halvable w
+    go zero small e = absurd (omega arith)
+    go (suc k) small e =
+        let half : w .size / 2 ≡ 2 ^ k = omega (arith, pow-suc 2 k) in
+        record {
+          twice = omega (arith, pow-suc 2 k);
+          down = ap (λ (n : ℕ). suc (exponentOf n)) half ∙ ap suc (exponent-power k (omega arith)) ∙ sym (ap exponentOf e ∙ exponent-power (suc k) small);
+        }

@@ -47,6 +47,7 @@ isPower n = eqb (ones n) 1
 abbrev pub sideAt : ℕ → Side
 sideAt multiple = cond (eqb (multiple % 2) 0) Left Right
 
+-- whether two sides are the same
 abbrev pub sameSide : Side → Side → Bool
 sameSide Left Left = true
 sameSide Left Right = false
