@@ -4,6 +4,7 @@ use mathlib.Core.Bool.{Bool, not, _&&_, cond}
 use mathlib.Core.List.{List, [], _∷_, _++_, map}
 use lib.Dec.{leb, eqb}
 use lib.ListN.{length}
+pub use Rattle.rules.specs.declared.Admitted.{Admitted}
 use Rattle.rules.specs.Lists.{some-of, firstOf}
 use Rattle.rules.specs.Bus.{places, most-admitted, Packet, late, Station, Bus}
 use Rattle.rules.specs.Standing.{value-fits, length-fits, stands}
@@ -13,11 +14,6 @@ pub record Arrival : Type 0 where
   pub address : ℕ
   pub value : ℕ
   pub length : ℕ
-
--- the refusal number, or 0; 'the number is the answer', and 0 where refused
-pub record Admitted : Type 0 where
-  pub refusal : ℕ
-  pub number : ℕ
 
 -- whether this is the station named: addresses are compared in full
 abbrev pub named : Arrival → Station → Bool

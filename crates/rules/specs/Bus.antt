@@ -9,6 +9,7 @@ use mathlib.Core.List.{List, [], _∷_, _++_, map}
 use lib.Dec.{ltb}
 use lib.ListN.{length}
 use Rattle.window.specs.declared.Window.{Window}
+pub use Rattle.rules.specs.declared.Packet.{Packet}
 use Rattle.rules.specs.Lists.{total}
 
 -- 'stations N: 1 to 64'
@@ -55,12 +56,6 @@ abbrev pub code : Discipline → ℕ
 code PRI = 0
 code RTDG = 1
 code RTVC = 2
-
--- the value is a priority (PRI), the latest slot in which the packet may start (RTDG), or 0 (RTVC)
-pub record Packet : Type 0 where
-  pub number : ℕ
-  pub value : ℕ
-  pub length : ℕ
 
 -- Whether a latest start is below a slot; in RTDG alone a value is a latest start. Admission refuses such a value (14), a contention that
 -- begins drops such packets, and a contender with such a packet does not transmit.

@@ -7,6 +7,7 @@ use mathlib.Core.Option.{none}
 use mathlib.Core.List.{List, [], _∷_, _++_, map}
 use lib.Dec.{leb, ltb, eqb}
 use lib.ListN.{length, take}
+pub use Rattle.rules.specs.declared.Verdict.{Verdict}
 use Rattle.rules.specs.Lists.{has, outside, firstOf}
 use Rattle.rules.specs.Bus.{most-stations, least-space, most-space, most-step, Discipline, PRI, RTDG, RTVC, code, Station, Bus, nothing}
 
@@ -23,11 +24,6 @@ pub record Request : Type 0 where
   pub q : ℕ
   pub N : ℕ
   pub row : List Asked
-
--- the answer to a set-up: the refusal number, or 0; for 7 to 10 the faulty station's place in the row, counted from 0, else 0
-pub record Verdict : Type 0 where
-  pub refusal : ℕ
-  pub station : ℕ
 
 -- an accepted set-up's answer
 abbrev pub fine : Verdict

@@ -1,0 +1,103 @@
+-- The calls of the code as functions of what they are lent: the contracts of src/lib.rt cite these, and `coded` is the engine that
+-- they make. A call on a state whose padding is zero is the call of the rules on its meaning; on any other it is refused with 1.
+-- Assumes nothing.
+use Prim.Native.Nat.{ℕ}
+use mathlib.Core.Bool.{Bool, not, _&&_, cond}
+use mathlib.Core.List.{List, map}
+use lib.Dec.{eqb}
+use lib.ListN.{take}
+use Rattle.rules.specs.Bus.{waiting}
+use Rattle.rules.specs.declared.Verdict.{Verdict}
+use Rattle.rules.specs.declared.Admitted.{Admitted}
+use Rattle.rules.specs.SetUp.{Asked, Request, setUp}
+use Rattle.rules.specs.Standing.{stands}
+use Rattle.rules.specs.Admission.{Arrival, admit}
+use Rattle.rules.specs.Probe as Probe
+use Rattle.rules.specs.Probe.{refusedAnswer}
+use Rattle.rules.specs.Step.{step}
+use Rattle.rules.specs.Engine.{Engine}
+use Rattle.bus.specs.State.{Slot, Address, Settings, Listed, State, meaning, form, padded}
+pub use Rattle.bus.specs.declared.Row.{Row}
+pub use Rattle.bus.specs.declared.SetUp.{SetUp}
+pub use Rattle.bus.specs.declared.Admission.{Admission}
+pub use Rattle.bus.specs.declared.Answer.{Answer}
+pub use Rattle.bus.specs.declared.Stepped.{Stepped}
+pub use Rattle.bus.specs.declared.Totals.{Totals}
+
+-- the standing conditions of a lent state
+abbrev pub standing : State → Bool
+standing s = padded s && stands (meaning s)
+
+-- ---- what is asked for
+
+abbrev pub askedOf : Listed → Asked
+askedOf l = record { address = l .address .0; capability = l .capability .0 }
+
+abbrev pub requestOf : Settings → Row → Request
+requestOf g r =
+    record { discipline = g .discipline; D = g .d; A = g .a; q = g .q; N = g .n; row = map askedOf (take (r .length) (r .stations)) }
+
+abbrev pub arrivalOf : Address → ℕ → ℕ → Arrival
+arrivalOf address value length = record { address = address .0; value = value; length = length }
+
+-- ---- the three calls
+
+abbrev pub codedSetUp : Request → Verdict × State
+codedSetUp r = (setUp r .0, form (setUp r .1))
+
+abbrev pub codedAdmit : State → Arrival → Admitted × State
+codedAdmit s a =
+    cond
+    (padded s)
+    (admit (meaning s) a .0, form (admit (meaning s) a .1))
+    (record { refusal = 1; number = 0 }, s)
+
+abbrev pub codedStep : State → Probe.Answer × State
+codedStep s = cond (padded s) (step (meaning s) .0, form (step (meaning s) .1)) (refusedAnswer 1, s)
+
+-- the code as an engine
+abbrev pub coded : Engine
+coded = record { State = State; setUp = codedSetUp; admit = codedAdmit; step = codedStep }
+
+-- ---- what comes back
+
+-- a step's answer in the code's sorts
+abbrev pub answerForm : Probe.Answer → Answer
+answerForm a =
+    record {
+      refusal = a .refusal;
+      drops = a .drops;
+      slot = record { 0 = a .slot };
+      phase = a .phase;
+      start = a .start;
+      size = a .size;
+      event = a .event;
+      address = record { 0 = a .address };
+      number = a .number;
+      length = a .length;
+      ended = not (eqb (a .ended) 0);
+    }
+
+abbrev pub setUpResult : Verdict × State → SetUp
+setUpResult r = record { verdict = r .0; state = r .1 }
+
+abbrev pub admissionResult : Admitted × State → Admission
+admissionResult r = record { answer = r .0; state = r .1 }
+
+abbrev pub stepResult : Probe.Answer × State → Stepped
+stepResult r = record { answer = answerForm (r .0); state = r .1 }
+
+-- 'Last: END clock admitted sent lost waiting', of a state that stands; any other is refused with 1
+abbrev pub totalsOf : State → Totals
+totalsOf s =
+    cond
+    (standing s)
+    (record {
+      refusal = 0;
+      clock = s .segment .clock;
+      admitted = s .segment .admitted;
+      sent = s .segment .sent;
+      lost = s .segment .lost;
+      waiting = waiting (meaning s .stations);
+    })
+    (record { refusal = 1; clock = record { 0 = 0 }; admitted = 0; sent = 0; lost = 0; waiting = 0 })

@@ -1,0 +1,213 @@
+-- The parts that the code is made of, as functions: what the contracts of the private functions cite. Assumes nothing.
+use Prim.Native.Nat.{ℕ, zero, suc, _+_, _-_, _*_, _/_, min}
+use mathlib.Core.Path.{_≡_}
+use mathlib.Core.Bool.{Bool, true, false, not, _&&_, _||_, cond}
+use mathlib.Core.Option.{Option, none, some}
+use mathlib.Core.List.{List, [], _∷_, _++_, map}
+use lib.Dec.{leb, ltb, eqb}
+use lib.ListN.{length, getD, take, drop, set, replicate}
+use Rattle.window.specs.declared.Side.{Side}
+use Rattle.window.specs.declared.Side.the-variants.{Left, Right}
+use Rattle.window.specs.declared.Window.{Window}
+use Rattle.window.specs.Splitting.{firstWindow, leftHalf, movedRight}
+use Rattle.rules.specs.Lists.{outside, has, firstOf}
+use Rattle.rules.specs.Bus as Machine
+use Rattle.rules.specs.Bus.{places, Discipline, PRI, RTDG, RTVC, late}
+use Rattle.rules.specs.declared.Verdict.{Verdict}
+use Rattle.rules.specs.SetUp.{Request, disciplineOf, fine, settingsTests, stationTests, rowTests}
+use Rattle.rules.specs.Begin.{offers, choice}
+use Rattle.rules.specs.Probe as Probe
+use Rattle.rules.specs.Probe.{lies-in, able, contenderOf, idle, collision, success, parameter-phase, tie-phase}
+use Rattle.bus.specs.State.{Slot, Address, Capability, Settings, Listed, Contender, Contention, Round, Segment, Queues, State, Packet, noPacket, noContender, noContention, noRound, nobody, placesAt, queueAt, lastOf, tieOf, stationWith, busWith, contenderForm, meaning, row}
+use Rattle.bus.specs.Coded.{Answer}
+pub use Rattle.bus.specs.declared.Queue.{Queue}
+pub use Rattle.bus.specs.declared.Leaving.{Leaving}
+pub use Rattle.bus.specs.declared.Leaving.the-variants.{Late, Sent}
+pub use Rattle.bus.specs.declared.Chosen.{Chosen}
+pub use Rattle.bus.specs.declared.Begun.{Begun}
+pub use Rattle.bus.specs.declared.Probed.{Probed}
+
+-- ---- one station's queue
+
+-- the queue of station i, taken out of the row
+abbrev pub queueOf : Queues → ℕ → Queue
+queueOf qs i = record { packets = placesAt qs i; length = getD (qs .lengths) i 0 }
+
+-- the packets of a queue
+abbrev pub packetsOf : Queue → List Packet
+packetsOf queue = take (queue .length) (queue .packets)
+
+-- the queue that holds these packets
+abbrev pub queueForm : List Packet → Queue
+queueForm packets = record { packets = packets ++ replicate (places - length packets) noPacket; length = length packets }
+
+-- the row with the queue of station i put back
+abbrev pub withQueue : Queues → ℕ → Queue → Queues
+withQueue qs i queue =
+    record {
+      lengths = set (qs .lengths) i (queue .length);
+      packets = take (places * i) (qs .packets) ++ queue .packets ++ drop (places * i + places) (qs .packets);
+    }
+
+-- whether a packet stays
+abbrev pub stays : Leaving → Packet → Bool
+stays (Late d slot) p = not (late (disciplineOf d) (slot .0) (p .value))
+stays (Sent number) p = not (eqb number (p .number))
+
+abbrev pub chosenForm : Option Packet → Chosen
+chosenForm none = record { found = false; packet = noPacket }
+chosenForm (some p) = record { found = true; packet = p }
+
+-- ---- searching the places of stations
+
+-- the first of the k places from i on for which the test holds, and the place after them where there is none
+abbrev pub firstPlace : (ℕ → Bool) → ℕ → ℕ → ℕ
+firstPlace test i zero = i
+firstPlace test i (suc k) = cond (test i) i (firstPlace test (suc i) k)
+
+-- ---- a contention begins
+
+-- station i's place among the contenders, of the packets it has in time
+abbrev pub contenderFor : Segment → ℕ → List Packet → Contender
+contenderFor g i queue =
+    contenderForm (offers (busWith g []) (stationWith g i []) (choice (disciplineOf (g .settings .discipline)) queue))
+
+-- ---- a slot is probed
+
+-- the contender that station i is, if it contends
+abbrev pub contenderAt : Segment → ℕ → Probe.Contender
+contenderAt g i =
+    record {
+      address = getD (g .listed) i nobody .address .0;
+      capability = getD (g .listed) i nobody .capability .0;
+      parameter = getD (g .contenders) i noContender .parameter;
+      packet = getD (g .contenders) i noContender .packet;
+    }
+
+-- whether station i transmits
+abbrev pub transmitsAt : Segment → ℕ → Bool
+transmitsAt g i =
+    getD (g .contenders) i noContender .contends
+    && (lies-in (g .contention .window) (tieOf (g .contention)) (contenderAt g i)
+    && able (disciplineOf (g .settings .discipline)) (g .clock .0) (contenderAt g i))
+
+-- the next station from place i on that transmits; N where there is none
+abbrev pub nextTransmitter : Segment → ℕ → ℕ
+nextTransmitter g i = firstPlace (transmitsAt g) i (g .settings .n - i)
+
+-- an answer to a probe
+abbrev pub answerTo : Segment → ℕ → ℕ → Address → ℕ → ℕ → Bool → Answer
+answerTo g drops event address number length ended =
+    record {
+      refusal = 0;
+      drops = drops;
+      slot = g .clock;
+      phase = cond (g .contention .tied) tie-phase parameter-phase;
+      start = g .contention .window .start;
+      size = g .contention .window .size;
+      event = event;
+      address = address;
+      number = number;
+      length = length;
+      ended = ended;
+    }
+
+-- the segment with another clock, sent count, round, contention and contenders
+abbrev pub segmentWith : Segment → ℕ → ℕ → Round → Contention → List Contender → Segment
+segmentWith g clock sent round contention contenders =
+    record {
+      settings = g .settings;
+      listed = g .listed;
+      clock = record { 0 = clock };
+      admitted = g .admitted;
+      sent = sent;
+      lost = g .lost;
+      round = round;
+      contention = contention;
+      contenders = contenders;
+    }
+
+-- the contention goes on with another window, one slot later
+abbrev pub onward : Segment → Contention → Segment
+onward g c = segmentWith g (g .clock .0 + 1) (g .sent) (g .round) c (g .contenders)
+
+-- no station contends
+abbrev pub noContenders : List Contender
+noContenders = row 64 (λ i. noContender)
+
+-- what a collision makes of the contention
+abbrev pub splitAt : Segment → Contention
+splitAt g =
+    cond
+    (leb 2 (g .contention .window .size))
+    (record { begun = true; window = leftHalf (g .contention .window); tied = g .contention .tied; tie = g .contention .tie })
+    (record {
+      begun = true;
+      window = firstWindow (g .settings .a);
+      tied = true;
+      tie = cond (g .contention .tied) (g .contention .tie) (g .contention .window .start);
+    })
+
+-- two or more transmit
+abbrev pub collidedAt : Segment → ℕ → Probed
+collidedAt g drops =
+    record { answer = answerTo g drops collision (record { 0 = 0 }) 0 0 false; segment = onward g (splitAt g); winner = 0 }
+
+-- none transmits
+abbrev pub unheardAt : Segment → ℕ → Side → Probed
+unheardAt g drops Left =
+    record {
+      answer = answerTo g drops idle (record { 0 = 0 }) 0 0 false;
+      segment =
+          onward
+          g
+          (record { begun = true; window = movedRight (g .contention .window); tied = g .contention .tied; tie = g .contention .tie });
+      winner = 0;
+    }
+unheardAt g drops Right =
+    record {
+      answer = answerTo g drops idle (record { 0 = 0 }) 0 0 true;
+      segment = segmentWith g (g .clock .0 + 1) (g .sent) noRound noContention noContenders;
+      winner = 0;
+    }
+
+-- the round after a success: 'In RTVC the last winner is set.'
+abbrev pub roundAfter : Discipline → Capability → Round
+roundAfter PRI c = noRound
+roundAfter RTDG c = noRound
+roundAfter RTVC c = record { won = true; last = c }
+
+-- station i alone transmits
+abbrev pub wonAt : Segment → ℕ → ℕ → Probed
+wonAt g drops i =
+    record {
+      answer =
+          answerTo
+          g
+          drops
+          success
+          (getD (g .listed) i nobody .address)
+          (contenderAt g i .packet .number)
+          (contenderAt g i .packet .length)
+          true;
+      segment =
+          segmentWith
+          g
+          (g .clock .0 + contenderAt g i .packet .length)
+          (g .sent + 1)
+          (roundAfter (disciplineOf (g .settings .discipline)) (getD (g .listed) i nobody .capability))
+          noContention
+          noContenders;
+      winner = i;
+    }
+
+-- what one probe makes of a segment: by the first and the second station that transmit
+abbrev pub probedBy : Segment → ℕ → ℕ → ℕ → Probed
+probedBy g drops first second =
+    cond
+    (eqb first (g .settings .n))
+    (unheardAt g drops (g .contention .window .side))
+    (cond (eqb second (g .settings .n)) (wonAt g drops first) (collidedAt g drops))
+
+abbrev pub probed : Segment → ℕ → Probed
+probed g drops = probedBy g drops (nextTransmitter g 0) (nextTransmitter g (suc (nextTransmitter g 0)))

@@ -1,0 +1,160 @@
+// The engine: the state of a bus segment, and the calls on it. Every call takes any input; bad input gets its number from the
+// table of paper 01, and the state comes back as lent.
+ghost use mathlib.Core.Path.{_≡_};
+ghost use Rattle.bus.specs.State.{State};
+use rules::Admitted;
+use rules::Packet;
+use rules::Verdict;
+use window::Window;
+
+mod sorts;
+
+// 'Slots, addresses and capabilities count three separate things': each is opened only where it is compared with its own sort.
+pub struct Slot(pub u32);
+
+pub struct Address(pub u32);
+
+pub struct Capability(pub u32);
+
+// The numbers of a set-up: discipline 0 PRI, 1 RTDG, 2 RTVC; parameter space d, address space a, laxity step q, n stations.
+pub struct Settings {
+    pub discipline: u32,
+    pub d: u32,
+    pub a: u32,
+    pub q: u32,
+    pub n: usize,
+}
+
+// A station as it is listed in the set-up.
+pub struct Listed {
+    pub address: Address,
+    pub capability: Capability,
+}
+
+// The row of stations that a set-up is given: the first `length` of the places; there are no more than 64.
+pub struct Row {
+    pub stations: [Listed; 64],
+    pub length: usize,
+}
+
+// A station's place among the contenders: whether it contends, and then its parameter and packet, else zeros.
+pub struct Contender {
+    pub contends: bool,
+    pub parameter: u64,
+    pub packet: Packet,
+}
+
+// The contention, if one is under way: its window, and in the tie phase the tie value. What has no meaning is zero.
+pub struct Contention {
+    pub begun: bool,
+    pub window: Window,
+    pub tied: bool,
+    pub tie: u64,
+}
+
+// The RTVC round: whether a circuit has won in it, and the last winner's capability, or 0.
+pub struct Round {
+    pub won: bool,
+    pub last: Capability,
+}
+
+// All of the state but the queues: what a probe reads and writes. Stations and contenders stand in listed order.
+pub struct Segment {
+    pub settings: Settings,
+    pub listed: [Listed; 64],
+    pub clock: Slot,
+    pub admitted: u64,
+    pub sent: u64,
+    pub lost: u64,
+    pub round: Round,
+    pub contention: Contention,
+    pub contenders: [Contender; 64],
+}
+
+// The queues: how many packets each station has, and '16 packets a station, so 1,024 places in all'. Station i owns the sixteen
+// places from 16 × i on.
+pub struct Queues {
+    pub lengths: [usize; 64],
+    pub packets: [Packet; 1024],
+}
+
+// The state, which goes in by value and comes back by value.
+pub struct State {
+    pub segment: Segment,
+    pub queues: Queues,
+}
+
+// One station's queue: its first `length` places are filled, the others zero.
+pub struct Queue {
+    pub packets: [Packet; 16],
+    pub length: usize,
+}
+
+// Which packets leave a queue: in a discipline, those whose latest start is below a slot; or the one with a number.
+pub enum Leaving {
+    Late(u32, Slot),
+    Sent(u64),
+}
+
+// The packet that a station offers, if it has one.
+pub struct Chosen {
+    pub found: bool,
+    pub packet: Packet,
+}
+
+// A set-up's answer, and the state.
+pub struct SetUp {
+    pub verdict: Verdict,
+    pub state: State,
+}
+
+// An admission's answer, and the state.
+pub struct Admission {
+    pub answer: Admitted,
+    pub state: State,
+}
+
+// A step's answer: phase 0 is the parameter phase, 1 the tie phase; event 0 idle, 1 collision, 2 success. The address, the packet's
+// number and its length are 0 unless one succeeded.
+pub struct Answer {
+    pub refusal: u32,
+    pub drops: u64,
+    pub slot: Slot,
+    pub phase: u32,
+    pub start: u64,
+    pub size: u64,
+    pub event: u32,
+    pub address: Address,
+    pub number: u64,
+    pub length: u32,
+    pub ended: bool,
+}
+
+// A step's answer, and the state.
+pub struct Stepped {
+    pub answer: Answer,
+    pub state: State,
+}
+
+// A contention that has begun, and how many packets were dropped.
+pub struct Begun {
+    pub state: State,
+    pub drops: u64,
+}
+
+// A probe's answer, the segment after it, and on success the winner's place.
+pub struct Probed {
+    pub answer: Answer,
+    pub segment: Segment,
+    pub winner: usize,
+}
+
+// What a listing closes with; the refusal number, or 0, and zeros where refused.
+pub struct Totals {
+    pub refusal: u32,
+    pub clock: Slot,
+    pub admitted: u64,
+    pub sent: u64,
+    pub lost: u64,
+    pub waiting: u64,
+}
