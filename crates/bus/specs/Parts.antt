@@ -27,6 +27,20 @@ pub use Rattle.bus.specs.declared.Chosen.{Chosen}
 pub use Rattle.bus.specs.declared.Begun.{Begun}
 pub use Rattle.bus.specs.declared.Probed.{Probed}
 
+-- ---- the disciplines
+
+-- `parameterOf` of the rules, of the numbers that it reads
+abbrev pub parameterFor : Discipline → Settings → Slot → Capability → Packet → ℕ
+parameterFor PRI g clock capability p = p .value
+parameterFor RTDG g clock capability p = min ((p .value - clock .0) / g .q) (g .d - 1)
+parameterFor RTVC g clock capability p = capability .0
+
+-- `parameter-fits` of the rules, of the numbers that it reads
+abbrev pub parameterFits : Discipline → Capability → Contender → Bool
+parameterFits PRI capability c = eqb (c .parameter) (c .packet .value)
+parameterFits RTDG capability c = true
+parameterFits RTVC capability c = eqb (c .parameter) (capability .0)
+
 -- ---- one station's queue
 
 -- the queue of station i, taken out of the row

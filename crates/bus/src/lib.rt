@@ -7,6 +7,8 @@ use rules::Packet;
 use rules::Verdict;
 use window::Window;
 
+mod disciplines;
+mod waiting;
 mod sorts;
 
 // 'Slots, addresses and capabilities count three separate things': each is opened only where it is compared with its own sort.

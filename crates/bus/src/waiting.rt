@@ -1,0 +1,129 @@
+// One station's queue: taken out of the row and put back; packets leave it and join it, and one is chosen to be offered.
+use crate::Chosen;
+use crate::Leaving;
+use crate::Queue;
+use crate::Queues;
+use crate::disciplines;
+use rules::Packet;
+ghost use Prim.Native.Nat.{_<_, _≤_};
+ghost use mathlib.Core.Path.{_≡_};
+ghost use mathlib.Core.Bool.{cond};
+ghost use mathlib.Core.List.{[], _∷_, _++_};
+ghost use Rattle.rules.specs.Lists.{keep};
+ghost use Rattle.rules.specs.SetUp.{disciplineOf};
+ghost use Rattle.rules.specs.Begin.{goes-before, choice};
+ghost use Rattle.bus.specs.Parts.{queueOf, withQueue, packetsOf, queueForm, stays, chosenForm};
+
+// A place that no packet fills.
+pub const NO_PACKET: Packet = Packet {
+    number: 0,
+    value: 0,
+    length: 0,
+};
+
+// The queue of station i, taken out of the row.
+pub fn queue_at(qs: Queues, i: usize) -> Queue
+    requires { ⌜ i < 64 ⌝ }
+    ensures { λ r. ⌜ r ≡ queueOf qs i ⌝ }
+{
+    let mut packets = [NO_PACKET; 16];
+    let first = 16 * i;
+    for j in 0..16 {
+        let at = first + j;
+        packets[j] = qs.packets[at];
+    }
+    let length = qs.lengths[i];
+    Queue { packets, length }
+}
+
+// The row with the queue of station i put back.
+pub fn with_queue(qs: Queues, i: usize, queue: Queue) -> Queues
+    requires { ⌜ i < 64 ⌝ }
+    ensures { λ r. ⌜ r ≡ withQueue qs i queue ⌝ }
+{
+    let mut next = qs;
+    let first = 16 * i;
+    for j in 0..16 {
+        let at = first + j;
+        next.packets[at] = queue.packets[j];
+    }
+    next.lengths[i] = queue.length;
+    next
+}
+
+// Whether a packet stays in its queue.
+fn stays(leaving: Leaving, p: Packet) -> bool
+    ensures { λ r. ⌜ r ≡ stays leaving p ⌝ }
+{
+    match leaving {
+        Leaving::Late(discipline, slot) => !disciplines::late(discipline, slot, p.value),
+        Leaving::Sent(number) => number != p.number,
+    }
+}
+
+// The queue without the packets that leave; those that stay close up, and freed places are cleared.
+pub fn kept(queue: Queue, leaving: Leaving) -> Queue
+    requires { ⌜ queue .length ≤ 16 ⌝ }
+    ensures { λ r. ⌜ r ≡ queueForm (keep (stays leaving) (packetsOf queue)) ⌝ }
+{
+    let mut packets = [NO_PACKET; 16];
+    let mut filled = 0;
+    let length = queue.length;
+    for j in 0..length {
+        let p = queue.packets[j];
+        if stays(leaving, p) {
+            packets[filled] = p;
+            filled += 1;
+        }
+    }
+    Queue {
+        packets,
+        length: filled,
+    }
+}
+
+// The queue with one packet more.
+pub fn joined(queue: Queue, p: Packet) -> Queue
+    requires { ⌜ queue .length < 16 ⌝ }
+    requires { ⌜ queue ≡ queueForm (packetsOf queue) ⌝ }
+    ensures { λ r. ⌜ r ≡ queueForm (packetsOf queue ++ (p ∷ [])) ⌝ }
+{
+    let mut next = queue;
+    let length = queue.length;
+    next.packets[length] = p;
+    next.length = length + 1;
+    next
+}
+
+// The one of two packets that is offered; the best so far, unless the other goes before it.
+fn better(discipline: u32, best: Packet, p: Packet) -> Packet
+    ensures { λ r. ⌜ r ≡ cond (goes-before (disciplineOf discipline) p best) p best ⌝ }
+{
+    if disciplines::goes_before(discipline, p, best) {
+        return p;
+    }
+    best
+}
+
+// 'Each station then offers one packet': the search walks the queue and carries the best packet so far.
+pub fn chosen(queue: Queue, discipline: u32) -> Chosen
+    requires { ⌜ queue .length ≤ 16 ⌝ }
+    ensures { λ r. ⌜ r ≡ chosenForm (choice (disciplineOf discipline) (packetsOf queue)) ⌝ }
+{
+    let length = queue.length;
+    if length == 0 {
+        return Chosen {
+            found: false,
+            packet: NO_PACKET,
+        };
+    }
+    let mut best = queue.packets[0];
+    for j in 1..length {
+        let p = queue.packets[j];
+        best = better(discipline, best, p);
+    }
+    Chosen {
+        found: true,
+        packet: best,
+    }
+}
