@@ -33,9 +33,11 @@ standing s = padded s && stands (meaning s)
 abbrev pub askedOf : Listed → Asked
 askedOf l = record { address = l .address .0; capability = l .capability .0 }
 
+abbrev pub requestWith : Settings → List Asked → Request
+requestWith g row = record { discipline = g .discipline; D = g .d; A = g .a; q = g .q; N = g .n; row = row }
+
 abbrev pub requestOf : Settings → Row → Request
-requestOf g r =
-    record { discipline = g .discipline; D = g .d; A = g .a; q = g .q; N = g .n; row = map askedOf (take (r .length) (r .stations)) }
+requestOf g r = requestWith g (map askedOf (take (r .length) (r .stations)))
 
 abbrev pub arrivalOf : Address → ℕ → ℕ → Arrival
 arrivalOf address value length = record { address = address .0; value = value; length = length }

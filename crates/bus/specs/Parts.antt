@@ -79,6 +79,30 @@ abbrev pub firstPlace : (ℕ → Bool) → ℕ → ℕ → ℕ
 firstPlace test i zero = i
 firstPlace test i (suc k) = cond (test i) i (firstPlace test (suc i) k)
 
+-- no station contends
+abbrev pub noContenders : List Contender
+noContenders = row 64 (λ i. noContender)
+
+-- ---- the state that a set-up gives
+
+abbrev pub freshState : Settings → List Listed → State
+freshState g listed =
+    record {
+      segment =
+          record {
+            settings = g;
+            listed = listed;
+            clock = record { 0 = 0 };
+            admitted = 0;
+            sent = 0;
+            lost = 0;
+            round = noRound;
+            contention = noContention;
+            contenders = noContenders;
+          };
+      queues = record { lengths = row 64 (λ i. 0); packets = row 1024 (λ i. noPacket) };
+    }
+
 -- ---- a contention begins
 
 -- station i's place among the contenders, of the packets it has in time
@@ -144,10 +168,6 @@ segmentWith g clock sent round contention contenders =
 -- the contention goes on with another window, one slot later
 abbrev pub onward : Segment → Contention → Segment
 onward g c = segmentWith g (g .clock .0 + 1) (g .sent) (g .round) c (g .contenders)
-
--- no station contends
-abbrev pub noContenders : List Contender
-noContenders = row 64 (λ i. noContender)
 
 -- what a collision makes of the contention
 abbrev pub splitAt : Segment → Contention

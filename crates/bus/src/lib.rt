@@ -2,6 +2,7 @@
 // table of paper 01, and the state comes back as lent.
 ghost use mathlib.Core.Path.{_≡_};
 ghost use Rattle.bus.specs.State.{State};
+ghost use Rattle.bus.specs.Coded.{codedSetUp, codedAdmit, codedStep, setUpResult, admissionResult, stepResult, requestOf, arrivalOf, totalsOf};
 use rules::Admitted;
 use rules::Packet;
 use rules::Verdict;
@@ -10,6 +11,7 @@ use window::Window;
 mod disciplines;
 mod waiting;
 mod sorts;
+mod stations;
 
 // 'Slots, addresses and capabilities count three separate things': each is opened only where it is compared with its own sort.
 pub struct Slot(pub u32);
@@ -159,4 +161,29 @@ pub struct Totals {
     pub sent: u64,
     pub lost: u64,
     pub waiting: u64,
+}
+
+// 'Set-up tries 2 to 6, then the stations in turn, each 7 to 10. A refused set-up hands back its number and an all-zero state.'
+pub fn set_up(settings: Settings, row: Row) -> SetUp
+    ensures { λ r. ⌜ r ≡ setUpResult (codedSetUp (requestOf settings row)) ⌝ }
+{
+    let stations = row.stations;
+    let length = row.length;
+    let verdict = stations::verdict(settings, stations, length);
+    if verdict.refusal != 0 {
+        let none = Settings {
+            discipline: 0,
+            d: 0,
+            a: 0,
+            q: 0,
+            n: 0,
+        };
+        let nobody = [stations::NOBODY; 64];
+        let state = stations::fresh(none, nobody);
+        return SetUp { verdict, state };
+    }
+    let n = settings.n;
+    let listed = stations::up_to(stations, n);
+    let state = stations::fresh(settings, listed);
+    SetUp { verdict, state }
 }

@@ -1,0 +1,262 @@
+// The stations of a set-up: refusals 2 to 6 of its numbers, then 7 to 10 of each station in turn; and a station by its address.
+use crate::Address;
+use crate::Capability;
+use crate::Contender;
+use crate::Contention;
+use crate::Listed;
+use crate::Queues;
+use crate::Round;
+use crate::Segment;
+use crate::Settings;
+use crate::Slot;
+use crate::State;
+use crate::disciplines;
+use crate::sorts;
+use crate::waiting;
+use rules::Verdict;
+use window::Side;
+use window::Window;
+ghost use Prim.Native.Nat.{_<_, _≤_};
+ghost use mathlib.Core.Path.{_≡_};
+ghost use mathlib.Core.Bool.{cond};
+ghost use mathlib.Core.List.{List, [], map};
+ghost use lib.Dec.{ltb, eqb};
+ghost use lib.ListN.{length, getD, take};
+ghost use Rattle.rules.specs.Lists.{has, outside, firstOf};
+ghost use Rattle.rules.specs.Bus.{least-space, most-space};
+ghost use Rattle.rules.specs.SetUp.{Asked, fine, step-outside, capability-outside, settingsTests, stationTests, rowTests, setUpVerdict};
+ghost use Rattle.bus.specs.State.{nobody, row};
+ghost use Rattle.bus.specs.Coded.{askedOf, requestWith};
+ghost use Rattle.bus.specs.Parts.{firstPlace, freshState};
+
+// 'stations N: 1 to 64'
+const MOST_STATIONS: usize = 64;
+
+// 'parameter space D', 'address space A: 2 to 65,536'
+const LEAST_SPACE: u32 = 2;
+const MOST_SPACE: u32 = 65_536;
+
+// 'laxity step q: RTDG: 1 to 65,535'
+const MOST_STEP: u32 = 65_535;
+
+// A place that no station fills.
+pub const NOBODY: Listed = Listed {
+    address: Address(0),
+    capability: Capability(0),
+};
+
+fn space_outside(space: u32) -> bool
+    ensures { λ r. ⌜ r ≡ outside least-space most-space space ⌝ }
+{
+    if space < LEAST_SPACE {
+        return true;
+    }
+    MOST_SPACE < space
+}
+
+// 'RTDG: 1 to 65,535; otherwise exactly 1'
+fn step_outside(discipline: u32, q: u32) -> bool
+    ensures { λ r. ⌜ r ≡ step-outside discipline q ⌝ }
+{
+    if discipline == disciplines::RTDG {
+        if q < 1 {
+            return true;
+        }
+        return MOST_STEP < q;
+    }
+    q != 1
+}
+
+fn fault(refusal: u32, station: usize) -> Verdict
+    ensures { λ r. ⌜ r ≡ record { refusal = refusal; station = station } ⌝ }
+{
+    Verdict { refusal, station }
+}
+
+// 2 to 6, of a row this long. 'A station row shorter than N gives 6.'
+fn settings_verdict(settings: Settings, count: usize) -> Verdict
+    ensures { λ r. ⌜ ((row : List Asked) → length row ≡ count → r ≡ firstOf fine (settingsTests (requestWith settings row))) ⌝ }
+{
+    if 2 < settings.discipline {
+        return fault(2, 0);
+    }
+    if space_outside(settings.d) {
+        return fault(3, 0);
+    }
+    if space_outside(settings.a) {
+        return fault(4, 0);
+    }
+    if step_outside(settings.discipline, settings.q) {
+        return fault(5, 0);
+    }
+    if settings.n < 1 {
+        return fault(6, 0);
+    }
+    if MOST_STATIONS < settings.n {
+        return fault(6, 0);
+    }
+    if count < settings.n {
+        return fault(6, 0);
+    }
+    fault(0, 0)
+}
+
+// Whether an earlier station has the address of station i.
+fn earlier_address(stations: [Listed; 64], i: usize) -> bool
+    requires { ⌜ i < 64 ⌝ }
+    ensures { λ r. ⌜ r ≡ has (askedOf (getD stations i nobody) .address) (map (λ e. e .address) (map askedOf (take i stations))) ⌝ }
+{
+    let s = stations[i];
+    let address = s.address;
+    for e in 0..i {
+        let t = stations[e];
+        if sorts::same_address(address, t.address) {
+            return true;
+        }
+    }
+    false
+}
+
+// Whether an earlier station has the capability of station i.
+fn earlier_capability(stations: [Listed; 64], i: usize) -> bool
+    requires { ⌜ i < 64 ⌝ }
+    ensures { λ r. ⌜ r ≡ has (askedOf (getD stations i nobody) .capability) (map (λ e. e .capability) (map askedOf (take i stations))) ⌝ }
+{
+    let s = stations[i];
+    let capability = s.capability;
+    for e in 0..i {
+        let t = stations[e];
+        if sorts::same_capability(capability, t.capability) {
+            return true;
+        }
+    }
+    false
+}
+
+// 'RTVC: 0 to D - 1, distinct; otherwise 0'
+fn capability_outside(discipline: u32, d: u32, capability: Capability) -> bool
+    ensures { λ r. ⌜ r ≡ capability-outside discipline d (capability .0) ⌝ }
+{
+    if discipline == disciplines::RTVC {
+        return sorts::capability_past(d, capability);
+    }
+    !sorts::same_capability(capability, Capability(0))
+}
+
+// 7 to 10, of station i.
+fn station_verdict(settings: Settings, stations: [Listed; 64], i: usize) -> Verdict
+    requires { ⌜ i < 64 ⌝ }
+    ensures { λ r. ⌜ r ≡ firstOf fine (stationTests (requestWith settings []) i (map askedOf (take i stations)) (askedOf (getD stations i nobody))) ⌝ }
+{
+    let s = stations[i];
+    if sorts::address_past(settings.a, s.address) {
+        return fault(7, i);
+    }
+    if earlier_address(stations, i) {
+        return fault(8, i);
+    }
+    if capability_outside(settings.discipline, settings.d, s.capability) {
+        return fault(9, i);
+    }
+    if settings.discipline != disciplines::RTVC {
+        return fault(0, 0);
+    }
+    if earlier_capability(stations, i) {
+        return fault(10, i);
+    }
+    fault(0, 0)
+}
+
+// 'the first faulty station in the listed order decides'
+fn first_faulty(settings: Settings, stations: [Listed; 64]) -> Verdict
+    requires { ⌜ settings .n ≤ 64 ⌝ }
+    ensures { λ r. ⌜ r ≡ firstOf fine (rowTests (requestWith settings []) 0 [] (map askedOf (take (settings .n) stations))) ⌝ }
+{
+    let n = settings.n;
+    for i in 0..n {
+        let v = station_verdict(settings, stations, i);
+        if v.refusal != 0 {
+            return v;
+        }
+    }
+    fault(0, 0)
+}
+
+// 'Set-up tries 2 to 6, then the stations in turn, each 7 to 10', of a row of this length.
+pub fn verdict(settings: Settings, stations: [Listed; 64], length: usize) -> Verdict
+    ensures { λ r. ⌜ r ≡ setUpVerdict (requestWith settings (map askedOf (take length stations))) ⌝ }
+{
+    let v = settings_verdict(settings, length);
+    if v.refusal != 0 {
+        return v;
+    }
+    first_faulty(settings, stations)
+}
+
+// The first n stations, and nobody past them.
+pub fn up_to(stations: [Listed; 64], n: usize) -> [Listed; 64]
+    requires { ⌜ n ≤ 64 ⌝ }
+    ensures { λ r. ⌜ r ≡ row 64 (λ i. cond (ltb i n) (getD stations i nobody) nobody) ⌝ }
+{
+    let mut listed = [NOBODY; 64];
+    for i in 0..n {
+        listed[i] = stations[i];
+    }
+    listed
+}
+
+// A state with these stations: slot 0, empty queues, no contention, no circuit has won.
+pub fn fresh(settings: Settings, listed: [Listed; 64]) -> State
+    ensures { λ r. ⌜ r ≡ freshState settings listed ⌝ }
+{
+    let nothing = Window {
+        start: 0,
+        size: 0,
+        side: Side::Left,
+    };
+    let contention = Contention {
+        begun: false,
+        window: nothing,
+        tied: false,
+        tie: 0,
+    };
+    let round = Round {
+        won: false,
+        last: Capability(0),
+    };
+    let contender = Contender {
+        contends: false,
+        parameter: 0,
+        packet: waiting::NO_PACKET,
+    };
+    let contenders = [contender; 64];
+    let lengths = [0usize; 64];
+    let packets = [waiting::NO_PACKET; 1024];
+    let segment = Segment {
+        settings,
+        listed,
+        clock: Slot(0),
+        admitted: 0,
+        sent: 0,
+        lost: 0,
+        round,
+        contention,
+        contenders,
+    };
+    let queues = Queues { lengths, packets };
+    State { segment, queues }
+}
+
+// The place of the station with an address; n where there is none.
+pub fn station_of(listed: [Listed; 64], n: usize, address: Address) -> usize
+    requires { ⌜ n ≤ 64 ⌝ }
+    ensures { λ r. ⌜ r ≡ firstPlace (λ i. eqb (address .0) (getD listed i nobody .address .0)) 0 n ⌝ }
+{
+    for i in 0..n {
+        let s = listed[i];
+        if sorts::same_address(address, s.address) {
+            return i;
+        }
+    }
+    n
+}
