@@ -9,16 +9,17 @@ use lib.ListN.{length, getD, take, drop, set, replicate}
 use Rattle.window.specs.declared.Side.{Side}
 use Rattle.window.specs.declared.Side.the-variants.{Left, Right}
 use Rattle.window.specs.declared.Window.{Window}
-use Rattle.window.specs.Splitting.{firstWindow, leftHalf, movedRight}
-use Rattle.rules.specs.Lists.{outside, has, firstOf}
+use Rattle.window.specs.Splitting.{firstWindow, leftHalf, movedRight, placed}
+use Rattle.rules.specs.Lists.{each-of, some-of, total, distinct}
 use Rattle.rules.specs.Bus as Machine
 use Rattle.rules.specs.Bus.{places, Discipline, PRI, RTDG, RTVC, late}
 use Rattle.rules.specs.declared.Verdict.{Verdict}
-use Rattle.rules.specs.SetUp.{Request, disciplineOf, fine, settingsTests, stationTests, rowTests}
+use Rattle.rules.specs.SetUp.{disciplineOf}
+use Rattle.rules.specs.Standing.{value-fits, length-fits, rising, same-packet}
 use Rattle.rules.specs.Begin.{offers, choice}
 use Rattle.rules.specs.Probe as Probe
 use Rattle.rules.specs.Probe.{lies-in, able, contenderOf, idle, collision, success, parameter-phase, tie-phase}
-use Rattle.bus.specs.State.{Slot, Address, Capability, Settings, Listed, Contender, Contention, Round, Segment, Queues, State, Packet, noPacket, noContender, noContention, noRound, nobody, placesAt, queueAt, lastOf, tieOf, stationWith, busWith, contenderForm, meaning, row}
+use Rattle.bus.specs.State.{Slot, Address, Capability, Settings, Listed, Contender, Contention, Round, Segment, Queues, State, Packet, noPacket, noContender, noContention, noRound, nobody, placesAt, queueAt, lastOf, tieOf, stationWith, busWith, contenderForm, row, no-packet, queue-padded, contender-padded, round-padded, contention-padded, each-place}
 use Rattle.bus.specs.Coded.{Answer}
 pub use Rattle.bus.specs.declared.Queue.{Queue}
 pub use Rattle.bus.specs.declared.Leaving.{Leaving}
@@ -102,6 +103,79 @@ freshState g listed =
           };
       queues = record { lengths = row 64 (λ i. 0); packets = row 1024 (λ i. noPacket) };
     }
+
+-- ---- the standing conditions, in the parts that the code tests
+
+-- a station's place among the contenders: zero where it does not contend, and `offer-stands` of the rules where it does
+abbrev pub contenderSound : Settings → Bool → Listed → Contender → List Packet → Bool
+contenderSound g begun l c packets =
+    contender-padded c
+    && (not (c .contends)
+    || (begun
+    && some-of (same-packet (c .packet)) packets
+    && ltb (c .parameter) (g .d)
+    && parameterFits (disciplineOf (g .discipline)) (l .capability) c))
+
+-- `station-padded`, and `station-stands` of the rules
+abbrev pub stationTest : Settings → Bool → ℕ → Listed → Contender → Queue → Bool
+stationTest g begun admitted l c queue =
+    queue-padded (queue .length) (queue .packets)
+    && rising 0 admitted (packetsOf queue)
+    && each-of (λ p. value-fits (disciplineOf (g .discipline)) (g .d) (p .value) && length-fits (p .length)) (packetsOf queue)
+    && contenderSound g begun l c (packetsOf queue)
+
+-- the same, of station i
+abbrev pub stationSound : Segment → Queues → ℕ → Bool
+stationSound g qs i =
+    stationTest
+    (g .settings)
+    (g .contention .begun)
+    (g .admitted)
+    (getD (g .listed) i nobody)
+    (getD (g .contenders) i noContender)
+    (queueOf qs i)
+
+-- `station-padded` and `no-station`
+abbrev pub nobodyTest : Listed → Contender → Queue → Bool
+nobodyTest l c queue =
+    eqb (l .address .0) 0
+    && eqb (l .capability .0) 0
+    && eqb (queue .length) 0
+    && not (c .contends)
+    && eqb (c .parameter) 0
+    && no-packet (c .packet)
+    && each-of no-packet (drop (queue .length) (queue .packets))
+
+-- the same, of place i
+abbrev pub nobodyAt : Segment → Queues → ℕ → Bool
+nobodyAt g qs i = nobodyTest (getD (g .listed) i nobody) (getD (g .contenders) i noContender) (queueOf qs i)
+
+-- the packets' numbers in the k queues from i on
+abbrev pub numbersFrom : Queues → ℕ → ℕ → List ℕ
+numbersFrom qs i zero = []
+numbersFrom qs i (suc k) = map (λ p. p .number) (queueAt qs i) ++ numbersFrom qs (suc i) k
+
+-- the stations, the counts, and 'none twice over all queues'
+abbrev pub queuesSound : Segment → Queues → Bool
+queuesSound g qs =
+    each-place (stationSound g qs) 0 (g .settings .n)
+    && each-place (nobodyAt g qs) (g .settings .n) (64 - g .settings .n)
+    && eqb (g .admitted) (g .sent + g .lost + total (λ k. k) (take (g .settings .n) (qs .lengths)))
+    && distinct (numbersFrom qs 0 (g .settings .n))
+
+-- `round-padded`, and `last-stands` of the rules
+abbrev pub roundSound : Segment → Bool
+roundSound g =
+    round-padded (g .round)
+    && (not (g .round .won)
+    || (leb 2 (g .settings .discipline)
+    && some-of (λ l. eqb (g .round .last .0) (l .capability .0)) (take (g .settings .n) (g .listed))))
+
+-- `contention-padded`, and `contention-stands` of the rules
+abbrev pub contentionSound : Settings → Contention → Bool
+contentionSound g c =
+    contention-padded c
+    && (not (c .begun) || cond (c .tied) (ltb (c .tie) (g .d) && placed (g .a) (c .window)) (placed (g .d) (c .window)))
 
 -- ---- a contention begins
 

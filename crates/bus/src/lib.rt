@@ -10,7 +10,9 @@ use window::Window;
 
 mod disciplines;
 mod waiting;
+mod merging;
 mod sorts;
+mod standing;
 mod stations;
 
 // 'Slots, addresses and capabilities count three separate things': each is opened only where it is compared with its own sort.
