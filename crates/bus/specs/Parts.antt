@@ -16,11 +16,12 @@ use Rattle.rules.specs.Bus.{places, Discipline, PRI, RTDG, RTVC, late}
 use Rattle.rules.specs.declared.Verdict.{Verdict}
 use Rattle.rules.specs.SetUp.{disciplineOf}
 use Rattle.rules.specs.Standing.{value-fits, length-fits, rising, same-packet}
-use Rattle.rules.specs.Begin.{offers, choice}
+use Rattle.rules.specs.Begin.{sits-out, choice}
+use Rattle.rules.specs.Admission.{Arrival, withPacket}
 use Rattle.rules.specs.Probe as Probe
 use Rattle.rules.specs.Probe.{lies-in, able, contenderOf, idle, collision, success, parameter-phase, tie-phase}
-use Rattle.bus.specs.State.{Slot, Address, Capability, Settings, Listed, Contender, Contention, Round, Segment, Queues, State, Packet, noPacket, noContender, noContention, noRound, nobody, placesAt, queueAt, lastOf, tieOf, stationWith, busWith, contenderForm, row, no-packet, queue-padded, contender-padded, round-padded, contention-padded, each-place}
-use Rattle.bus.specs.Coded.{Answer}
+use Rattle.bus.specs.State.{Slot, Address, Capability, Settings, Listed, Contender, Contention, Round, Segment, Queues, State, Packet, noPacket, noContender, noContention, noRound, nobody, placesAt, queueAt, lastOf, tieOf, meaning, form, row, no-packet, queue-padded, contender-padded, round-padded, contention-padded, each-place}
+use Rattle.bus.specs.Coded.{Admission, Answer}
 pub use Rattle.bus.specs.declared.Queue.{Queue}
 pub use Rattle.bus.specs.declared.Leaving.{Leaving}
 pub use Rattle.bus.specs.declared.Leaving.the-variants.{Late, Sent}
@@ -104,6 +105,18 @@ freshState g listed =
       queues = record { lengths = row 64 (λ i. 0); packets = row 1024 (λ i. noPacket) };
     }
 
+-- ---- an admission
+
+-- the place of the station with an address; N where there is none
+abbrev pub addressPlace : State → Address → ℕ
+addressPlace s address =
+    firstPlace (λ i. eqb (address .0) (getD (s .segment .listed) i nobody .address .0)) 0 (s .segment .settings .n)
+
+-- an accepted admission
+abbrev pub accepted : State → Arrival → Admission
+accepted s a =
+    record { answer = record { refusal = 0; number = suc (s .segment .admitted) }; state = form (withPacket (meaning s) a) }
+
 -- ---- the standing conditions, in the parts that the code tests
 
 -- a station's place among the contenders: zero where it does not contend, and `offer-stands` of the rules where it does
@@ -179,10 +192,22 @@ contentionSound g c =
 
 -- ---- a contention begins
 
--- station i's place among the contenders, of the packets it has in time
-abbrev pub contenderFor : Segment → ℕ → List Packet → Contender
-contenderFor g i queue =
-    contenderForm (offers (busWith g []) (stationWith g i []) (choice (disciplineOf (g .settings .discipline)) queue))
+-- a station's place among the contenders, of the packet chosen: `offers` of the rules, of the numbers that it reads
+abbrev pub contenderOn : Settings → Slot → Round → Listed → Option Packet → Contender
+contenderOn g clock round l none = noContender
+contenderOn g clock round l (some p) =
+    cond
+    (sits-out (disciplineOf (g .discipline)) (lastOf round) (l .capability .0))
+    noContender
+    (record {
+      contends = true;
+      parameter = parameterFor (disciplineOf (g .discipline)) g clock (l .capability) p;
+      packet = p;
+    })
+
+-- the same, of the packets that it has in time
+abbrev pub contenderFor : Settings → Slot → Round → Listed → List Packet → Contender
+contenderFor g clock round l queue = contenderOn g clock round l (choice (disciplineOf (g .discipline)) queue)
 
 -- ---- a slot is probed
 
@@ -206,6 +231,15 @@ transmitsAt g i =
 -- the next station from place i on that transmits; N where there is none
 abbrev pub nextTransmitter : Segment → ℕ → ℕ
 nextTransmitter g i = firstPlace (transmitsAt g) i (g .settings .n - i)
+
+-- the bus as it is probed, with the contention that has begun
+abbrev pub openOf : State → ℕ → Probe.Open
+openOf s drops =
+    record {
+      bus = meaning s;
+      contention = record { window = s .segment .contention .window; tie = tieOf (s .segment .contention) };
+      drops = drops;
+    }
 
 -- an answer to a probe
 abbrev pub answerTo : Segment → ℕ → ℕ → Address → ℕ → ℕ → Bool → Answer

@@ -1,19 +1,25 @@
 // The engine: the state of a bus segment, and the calls on it. Every call takes any input; bad input gets its number from the
 // table of paper 01, and the state comes back as lent.
 ghost use mathlib.Core.Path.{_≡_};
-ghost use Rattle.bus.specs.State.{State};
-ghost use Rattle.bus.specs.Coded.{codedSetUp, codedAdmit, codedStep, setUpResult, admissionResult, stepResult, requestOf, arrivalOf, totalsOf};
+ghost use Rattle.rules.specs.Probe.{refusedAnswer};
+ghost use Rattle.bus.specs.Coded.{codedSetUp, codedAdmit, codedStep, setUpResult, admissionResult, stepResult, requestOf, arrivalOf, answerForm, totalsOf};
 use rules::Admitted;
 use rules::Packet;
 use rules::Verdict;
 use window::Window;
 
+mod arrival;
+mod beginning;
 mod disciplines;
 mod waiting;
 mod merging;
+mod probing;
 mod sorts;
 mod standing;
 mod stations;
+
+// 'step with the clock above 1,073,737,728'
+const LAST_SLOT: u32 = 1_073_737_728;
 
 // 'Slots, addresses and capabilities count three separate things': each is opened only where it is compared with its own sort.
 pub struct Slot(pub u32);
@@ -188,4 +194,101 @@ pub fn set_up(settings: Settings, row: Row) -> SetUp
     let listed = stations::up_to(stations, n);
     let state = stations::fresh(settings, listed);
     SetUp { verdict, state }
+}
+
+// 'Admission tries 1, then 11 to 16.'
+pub fn admit(s: State, address: Address, value: u32, length: u32) -> Admission
+    ensures { λ r. ⌜ r ≡ admissionResult (codedAdmit s (arrivalOf address value length)) ⌝ }
+{
+    if !standing::stands(s) {
+        let answer = Admitted {
+            refusal: 1,
+            number: 0,
+        };
+        return Admission { answer, state: s };
+    }
+    let g = s.segment;
+    let settings = g.settings;
+    let listed = g.listed;
+    let place = stations::station_of(listed, settings.n, address);
+    let refusal = arrival::refusal(s, place, value, length);
+    if refusal != 0 {
+        let answer = Admitted {
+            refusal,
+            number: 0,
+        };
+        return Admission { answer, state: s };
+    }
+    arrival::join(s, place, value, length)
+}
+
+// The answer to a refused step: 'zero in the answer's other fields'.
+fn refused(refusal: u32) -> Answer
+    ensures { λ r. ⌜ r ≡ answerForm (refusedAnswer refusal) ⌝ }
+{
+    Answer {
+        refusal,
+        drops: 0,
+        slot: Slot(0),
+        phase: 0,
+        start: 0,
+        size: 0,
+        event: 0,
+        address: Address(0),
+        number: 0,
+        length: 0,
+        ended: false,
+    }
+}
+
+// 'a step tries 1, then 17'; it begins a contention if none is under way, and probes one slot.
+pub fn step(s: State) -> Stepped
+    ensures { λ r. ⌜ r ≡ stepResult (codedStep s) ⌝ }
+{
+    if !standing::stands(s) {
+        let answer = refused(1);
+        return Stepped { answer, state: s };
+    }
+    let g = s.segment;
+    if sorts::before(Slot(LAST_SLOT), g.clock) {
+        let answer = refused(17);
+        return Stepped { answer, state: s };
+    }
+    let contention = g.contention;
+    if contention.begun {
+        return probing::probe_slot(s, 0);
+    }
+    let begun = beginning::begin(s);
+    let state = begun.state;
+    probing::probe_slot(state, begun.drops)
+}
+
+// 'END clock admitted sent lost waiting', of a state that stands; 1 of any other.
+pub fn closing(s: State) -> Totals
+    ensures { λ r. ⌜ r ≡ totalsOf s ⌝ }
+{
+    if !standing::stands(s) {
+        return Totals {
+            refusal: 1,
+            clock: Slot(0),
+            admitted: 0,
+            sent: 0,
+            lost: 0,
+            waiting: 0,
+        };
+    }
+    let g = s.segment;
+    let settings = g.settings;
+    let queues = s.queues;
+    let lengths = queues.lengths;
+    let waiting = standing::waiting_in(lengths, settings.n) as u64;
+    let clock = g.clock;
+    Totals {
+        refusal: 0,
+        clock,
+        admitted: g.admitted,
+        sent: g.sent,
+        lost: g.lost,
+        waiting,
+    }
 }
