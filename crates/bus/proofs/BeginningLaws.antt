@@ -13,8 +13,8 @@ use Rattle.rules.specs.Lists.{kept, keep}
 use Rattle.rules.specs.SetUp.{disciplineOf}
 use Rattle.rules.specs.Begin.{sits-out}
 use Rattle.rules.proofs.Laws.{keep-all}
-use Rattle.bus.specs.State.{Slot, Settings, Listed, Contender, Round, Queues, Packet, noContender, placesAt, queueAt, lastOf, row}
-use Rattle.bus.specs.Parts.{Queue, Late, queueOf, packetsOf, queueForm, withQueue, stays, chosenForm, parameterFor, contenderOn}
+use Rattle.bus.specs.State.{Slot, Settings, Listed, Contender, Round, Segment, Queues, Packet, noContender, nobody, placesAt, queueAt, lastOf, row}
+use Rattle.bus.specs.Parts.{Queue, Late, queueOf, packetsOf, queueForm, withQueue, stays, chosenForm, parameterFor, contenderOn, contenderFor}
 use Rattle.bus.proofs.Rows.{row-replicate, row-same, row-set}
 use Rattle.bus.proofs.QueueLaws.{kept-length, packets-of-form, form-places, queue-of-with}
 
@@ -45,6 +45,10 @@ pub contender-on :
     noContender
 contender-on g clock round l none = refl
 contender-on g clock round l (some p) = refl
+
+-- the place of station j
+abbrev pub placeFor : Segment → Queues → ℕ → Contender
+placeFor g qs j = contenderFor (g .settings) (g .clock) (g .round) (getD (g .listed) j nobody) (queueAt qs j)
 
 -- the row in which the stations before i have their places, and the others do not contend
 abbrev pub placesTo : (ℕ → Contender) → ℕ → List Contender
