@@ -2,21 +2,24 @@
 -- Assumes nothing.
 use Prim.Native.Nat.{ℕ, zero, suc, _+_, _≤_, _<_}
 use mathlib.Core.Path.{_≡_, refl, sym, ap, _∙_, subst}
-use mathlib.Core.Bool.{Bool, true, false, cond}
+use mathlib.Core.Bool.{Bool, true, false, not, _&&_, cond}
 use mathlib.Core.Option.{Option, none, some}
 use mathlib.Core.List.{List, [], _∷_}
 use native.Mathlib.Omega.{arith}
-use lib.Dec.{eqb, ltb}
-use lib.ListN.{length, getD, set, replicate, length-take}
-use borrow.Author.Tests.{eqb-true, eqb-false, ltb-true, ltb-false, lt-ltb, le-ltb}
-use Rattle.rules.specs.Lists.{kept, keep}
+use lib.Dec.{eqb, leb, ltb}
+use lib.ListN.{length, getD, drop, set, replicate, length-take}
+use borrow.Author.Tests.{eqb-true, eqb-false, ltb-true, ltb-false, leb-true, lt-ltb, le-ltb}
+use Rattle.window.specs.Splitting.{firstWindow}
+use Rattle.rules.specs.Lists.{kept, keep, count, each-of, total}
+use Rattle.rules.specs.Bus.{Discipline, PRI, RTDG, RTVC, Station, Bus, places}
 use Rattle.rules.specs.SetUp.{disciplineOf}
-use Rattle.rules.specs.Begin.{sits-out}
-use Rattle.rules.proofs.Laws.{keep-all}
-use Rattle.bus.specs.State.{Slot, Settings, Listed, Contender, Round, Segment, Queues, Packet, noContender, nobody, placesAt, queueAt, lastOf, row}
-use Rattle.bus.specs.Parts.{Queue, Late, queueOf, packetsOf, queueForm, withQueue, stays, chosenForm, parameterFor, contenderOn, contenderFor}
-use Rattle.bus.proofs.Rows.{row-replicate, row-same, row-set}
-use Rattle.bus.proofs.QueueLaws.{kept-length, packets-of-form, form-places, queue-of-with}
+use Rattle.rules.specs.Begin.{sits-out, parameterOf, offers, choice, entered, dropsOf, begin}
+use Rattle.rules.proofs.Laws.{and-true, true-and, keep-all, kept-failed, count-le, total-mono}
+use Rattle.bus.specs.State.{Slot, Settings, Listed, Contender, Round, Segment, Queues, State, Packet, noContender, nobody, placesAt, queueAt, offerOf, stationAt, stationsOf, lastOf, meaning, form, row, no-packet, queue-padded, contender-padded, no-station, padded}
+use Rattle.bus.specs.Parts.{Queue, Begun, Late, queueOf, packetsOf, queueForm, withQueue, stays, chosenForm, parameterFor, contenderOn, contenderFor}
+use Rattle.bus.proofs.Rows.{values-take, values-map, values-same, row-length, row-at, row-replicate, row-same, row-set}
+use Rattle.bus.proofs.Form.{Held, Padded, parts-padded, places-length, to-form}
+use Rattle.bus.proofs.QueueLaws.{kept-length, packets-of-form, form-padded, padded-form-of, form-places, queue-of-with}
 
 -- another station is before i + 1 if it is before i
 before-more : (j i : ℕ) → ¬ (j ≡ i) → ltb j i ≡ ltb j (i + 1)
@@ -89,6 +92,10 @@ all-kept f (p ∷ ps) e = go (f p) e (all-kept f ps)
 pub formed : (queue : Queue) (ps : List Packet) → queue ≡ queueForm ps → queue ≡ queueForm (packetsOf queue)
 formed queue ps e = e ∙ ap queueForm (sym (ap packetsOf e ∙ packets-of-form ps))
 
+-- those kept of a queue that has room have room
+kept-room : (f : Packet → Bool) (qs : Queues) (i : ℕ) → getD (qs .lengths) i 0 ≤ 16 → length (keep f (queueAt qs i)) ≤ 16
+kept-room f qs i room = omega (arith, kept-length f (queueAt qs i), length-take (getD (qs .lengths) i 0) (placesAt qs i))
+
 -- where no packet of station i leaves, its queue is as it was
 pub none-leaves :
     (f : Packet → Bool) (qs : Queues) (i : ℕ) → i < 64 → ((j : ℕ) → j < 64 → queueOf qs j ≡ queueForm (queueAt qs j))
@@ -109,11 +116,8 @@ pub some-leave :
     (f : Packet → Bool) (qs : Queues) (i : ℕ) → i < 64 → length (qs .lengths) ≡ 64 → length (qs .packets) ≡ 1024 → getD (qs .lengths) i 0 ≤ 16
     → (j : ℕ) → j < 64
     → queueOf (withQueue qs i (queueForm (keep f (queueAt qs i)))) j ≡ cond (eqb j i) (queueForm (keep f (queueAt qs j))) (queueOf qs j)
-some-leave f qs i h ls ps room j l = queue-of-with qs i j (queueForm (keep f (queueAt qs i))) h l ls ps (form-places (keep f (queueAt qs i)) few) ∙ go (eqb j i) refl
+some-leave f qs i h ls ps room j l = queue-of-with qs i j (queueForm (keep f (queueAt qs i))) h l ls ps (form-places (keep f (queueAt qs i)) (kept-room f qs i room)) ∙ go (eqb j i) refl
   where
-    few : length (keep f (queueAt qs i)) ≤ 16
-    few = omega (arith, kept-length f (queueAt qs i), length-take (getD (qs .lengths) i 0) (placesAt qs i))
-
     go : (t : Bool) → eqb j i ≡ t → cond t (queueForm (keep f (queueAt qs i))) (queueOf qs j) ≡ cond t (queueForm (keep f (queueAt qs j))) (queueOf qs j)
     go true k = ap (λ m. queueForm (keep f (queueAt qs m))) (sym (eqb-true j i k))
     go false k = refl
@@ -145,6 +149,13 @@ module _ (f : Packet → Bool) (qs : Queues) where
   pub left-none : LeftTo f qs 0 qs
   left-none j l = ap (λ t. cond t (queueForm (keep f (queueAt qs j))) (queueOf qs j)) (sym (le-ltb j 0 (omega arith)))
 
+  -- the queues before i, and those from i on
+  pub left-before : (i : ℕ) (next : Queues) → LeftTo f qs i next → (j : ℕ) → j < 64 → j < i → queueOf next j ≡ queueForm (keep f (queueAt qs j))
+  left-before i next left j l m = left j l ∙ ap (λ t. cond t (queueForm (keep f (queueAt qs j))) (queueOf qs j)) (lt-ltb j i m)
+
+  pub left-past : (i : ℕ) (next : Queues) → LeftTo f qs i next → (j : ℕ) → j < 64 → i ≤ j → queueOf next j ≡ queueOf qs j
+  left-past i next left j l m = left j l ∙ ap (λ t. cond t (queueForm (keep f (queueAt qs j))) (queueOf qs j)) (le-ltb j i m)
+
   -- every queue is still the form of its packets
   pub left-formed :
       (i : ℕ) (next : Queues) → ((j : ℕ) → j < 64 → queueOf qs j ≡ queueForm (queueAt qs j)) → LeftTo f qs i next
@@ -155,11 +166,6 @@ module _ (f : Packet → Bool) (qs : Queues) where
       go true e = formed (queueOf next j) (keep f (queueAt qs j)) e
       go false e = formed (queueOf next j) (queueAt qs j) (e ∙ all j l)
 
-  -- station i has its queue as it was
-  pub left-here : (i : ℕ) (next : Queues) → i < 64 → LeftTo f qs i next → queueOf next i ≡ queueOf qs i
-  left-here i next h left =
-      left i h ∙ ap (λ t. cond t (queueForm (keep f (queueAt qs i))) (queueOf qs i)) (le-ltb i i (omega arith))
-
   -- one station more
   pub left-more :
       (i : ℕ) (next after : Queues) → i < 64 → LeftTo f qs i next
@@ -168,7 +174,7 @@ module _ (f : Packet → Bool) (qs : Queues) where
   left-more i next after h left one j l = one j l ∙ go (eqb j i) refl
     where
       here : j ≡ i → queueAt next j ≡ queueAt qs j
-      here e = ap packetsOf (subst (λ k. queueOf next k ≡ queueOf qs k) (sym e) (left-here i next h left))
+      here e = ap packetsOf (subst (λ k. queueOf next k ≡ queueOf qs k) (sym e) (left-past i next left i h (omega arith)))
 
       go :
           (t : Bool) → eqb j i ≡ t
@@ -178,3 +184,175 @@ module _ (f : Packet → Bool) (qs : Queues) where
           ap (λ ps. queueForm (keep f ps)) (here same)
           ∙ ap (λ t. cond t (queueForm (keep f (queueAt qs j))) (queueOf qs j)) (sym (lt-ltb j (i + 1) (omega arith)))
       go false e = left j l ∙ ap (λ t. cond t (queueForm (keep f (queueAt qs j))) (queueOf qs j)) (before-more j i (eqb-false j i e))
+
+-- ---- a place among the contenders is zero or contends, and its offer is the offer of the rules
+
+place-padded : (g : Settings) (clock : Slot) (round : Round) (l : Listed) (o : Option Packet) → contender-padded (contenderOn g clock round l o) ≡ true
+place-padded g clock round l none = refl
+place-padded g clock round l (some p) = go (sits-out (disciplineOf (g .discipline)) (lastOf round) (l .capability .0))
+  where
+    contending : Contender
+    contending = record { contends = true; parameter = parameterFor (disciplineOf (g .discipline)) g clock (l .capability) p; packet = p }
+
+    go : (t : Bool) → contender-padded (cond t noContender contending) ≡ true
+    go true = refl
+    go false = refl
+
+module _ (s : State) (i : ℕ) where
+  parameter-same :
+      (d : Discipline) (p : Packet)
+      → parameterFor d (s .segment .settings) (s .segment .clock) (getD (s .segment .listed) i nobody .capability) p
+      ≡ parameterOf d (meaning s) (stationAt s i) p
+  parameter-same PRI p = refl
+  parameter-same RTDG p = refl
+  parameter-same RTVC p = refl
+
+  offer-same :
+      (o : Option Packet)
+      → offerOf (contenderOn (s .segment .settings) (s .segment .clock) (s .segment .round) (getD (s .segment .listed) i nobody) o)
+      ≡ offers (meaning s) (stationAt s i) o
+  offer-same none = refl
+  offer-same (some p) = go (sits-out (meaning s .discipline) (meaning s .last) (stationAt s i .capability)) (parameter-same (meaning s .discipline) p)
+    where
+      go :
+          (t : Bool) {m n : ℕ} → m ≡ n
+          → offerOf (cond t noContender (record { contends = true; parameter = m; packet = p }))
+          ≡ cond t none (some (record { parameter = n; packet = p }))
+      go true e = refl
+      go false e = ap (λ (n : ℕ). some (record { parameter = n; packet = p })) e
+
+-- ---- the state in which a contention has begun
+
+-- the state with the packets that are left, and with so many packets more lost
+abbrev pub begunState : State → Queues → ℕ → State
+begunState s rest drops =
+    record {
+      segment =
+          record {
+            settings = s .segment .settings;
+            listed = s .segment .listed;
+            clock = s .segment .clock;
+            admitted = s .segment .admitted;
+            sent = s .segment .sent;
+            lost = s .segment .lost + drops;
+            round = s .segment .round;
+            contention = record { begun = true; window = firstWindow (s .segment .settings .d); tied = false; tie = 0 };
+            contenders = placesTo (placeFor (s .segment) rest) (s .segment .settings .n);
+          };
+      queues = rest;
+    }
+
+-- the packets that are not late
+abbrev pub inTimeAt : State → Packet → Bool
+inTimeAt s = stays (Late (s .segment .settings .discipline) (s .segment .clock))
+
+-- what a state that stands has: queues that are the forms of their packets, at most sixteen each
+module _ (s : State) (h : Held s) (p : Padded s) where
+  pub all-formed : (j : ℕ) → j < 64 → queueOf (s .queues) j ≡ queueForm (queueAt (s .queues) j)
+  all-formed j l = padded-form-of (queueOf (s .queues) j) (places-length s h j l) (p .queues j l)
+
+  pub has-room : (j : ℕ) → j < 64 → getD (s .queues .lengths) j 0 ≤ 16
+  has-room j l =
+      let n = getD (s .queues .lengths) j 0 in
+      leb-true n places (and-true (leb n places) (each-of no-packet (drop n (placesAt (s .queues) j))) (p .queues j l) .0)
+
+  module _ (few : s .segment .settings .n ≤ 64) (rest : Queues) (left : LeftTo (inTimeAt s) (s .queues) (s .segment .settings .n) rest) where
+    -- a station's packets are those in time
+    left-at : (j : ℕ) → j < s .segment .settings .n → queueOf rest j ≡ queueForm (keep (inTimeAt s) (queueAt (s .queues) j))
+    left-at j l = left-before (inTimeAt s) (s .queues) (s .segment .settings .n) rest left j (omega arith) l
+
+    packets-at : (j : ℕ) → j < s .segment .settings .n → queueAt rest j ≡ keep (inTimeAt s) (queueAt (s .queues) j)
+    packets-at j l = ap packetsOf (left-at j l) ∙ packets-of-form (keep (inTimeAt s) (queueAt (s .queues) j))
+
+    length-at : (j : ℕ) → j < s .segment .settings .n → getD (rest .lengths) j 0 ≡ length (keep (inTimeAt s) (queueAt (s .queues) j))
+    length-at j l = ap (λ (queue : Queue). queue .length) (left-at j l)
+
+    pub room-left : (j : ℕ) → j < s .segment .settings .n → getD (rest .lengths) j 0 ≤ 16
+    room-left j l = omega (arith, length-at j l, kept-room (inTimeAt s) (s .queues) j (has-room j (omega arith)))
+
+    -- ---- its padding is zero
+
+    queue-zeros : (j : ℕ) → j < 64 → queue-padded (getD (rest .lengths) j 0) (placesAt rest j) ≡ true
+    queue-zeros j l = ap zeros (left j l) ∙ go (ltb j (s .segment .settings .n))
+      where
+        zeros : Queue → Bool
+        zeros queue = queue-padded (queue .length) (queue .packets)
+
+        go : (t : Bool) → zeros (cond t (queueForm (keep (inTimeAt s) (queueAt (s .queues) j))) (queueOf (s .queues) j)) ≡ true
+        go true = form-padded (keep (inTimeAt s) (queueAt (s .queues) j)) (kept-room (inTimeAt s) (s .queues) j (has-room j l))
+        go false = p .queues j l
+
+    module _ (drops : ℕ) where
+      place-of : (j : ℕ) → j < 64 → getD (begunState s rest drops .segment .contenders) j noContender ≡ cond (ltb j (s .segment .settings .n)) (placeFor (s .segment) rest j) noContender
+      place-of j l = row-at 64 (λ k. cond (ltb k (s .segment .settings .n)) (placeFor (s .segment) rest k) noContender) j noContender l
+
+      contender-zeros : (j : ℕ) → j < 64 → contender-padded (getD (begunState s rest drops .segment .contenders) j noContender) ≡ true
+      contender-zeros j l = ap contender-padded (place-of j l) ∙ go (ltb j (s .segment .settings .n))
+        where
+          go : (t : Bool) → contender-padded (cond t (placeFor (s .segment) rest j) noContender) ≡ true
+          go true = place-padded (s .segment .settings) (s .segment .clock) (s .segment .round) (getD (s .segment .listed) j nobody) (choice (meaning s .discipline) (queueAt rest j))
+          go false = refl
+
+      past-zeros : (j : ℕ) → s .segment .settings .n ≤ j → j < 64 → no-station (begunState s rest drops) j ≡ true
+      past-zeros j m l =
+          let who = getD (s .segment .listed) j nobody in
+          let n = getD (s .queues .lengths) j 0 in
+          let nobody-there = eqb (who .address .0) 0 && eqb (who .capability .0) 0 in
+          let abc = and-true (nobody-there && eqb n 0) (not (getD (s .segment .contenders) j noContender .contends)) (p .past-N j m l) in
+          let ab = and-true nobody-there (eqb n 0) (abc .0) in
+          true-and
+          (true-and (ab .0) (ap (λ (queue : Queue). eqb (queue .length) 0) (left-past (inTimeAt s) (s .queues) (s .segment .settings .n) rest left j l m) ∙ ab .1))
+          (ap (λ c. not (c .contends)) (place-of j l) ∙ ap (λ t. not (cond t (placeFor (s .segment) rest j) noContender .contends)) (le-ltb j (s .segment .settings .n) m))
+
+      begun-padded : Padded (begunState s rest drops)
+      begun-padded =
+          record {
+            discipline = p .discipline;
+            queues = queue-zeros;
+            contenders = contender-zeros;
+            past-N = past-zeros;
+            round = p .round;
+            contention = refl;
+          }
+
+      -- ---- its stations are those of the rules
+
+      station-begun : (j : ℕ) → j < s .segment .settings .n → stationAt (begunState s rest drops) j ≡ entered (meaning s) (stationAt s j)
+      station-begun j l =
+          λ i.
+          record {
+            address = stationAt s j .address;
+            capability = stationAt s j .capability;
+            queue = packets-at j l i;
+            offer = offer i;
+          }
+        where
+          offer : offerOf (getD (begunState s rest drops .segment .contenders) j noContender) ≡ offers (meaning s) (stationAt s j) (choice (meaning s .discipline) (keep (inTimeAt s) (queueAt (s .queues) j)))
+          offer =
+              ap offerOf (place-of j (omega arith))
+              ∙ ap (λ t. offerOf (cond t (placeFor (s .segment) rest j) noContender)) (lt-ltb j (s .segment .settings .n) l)
+              ∙ offer-same s j (choice (meaning s .discipline) (queueAt rest j))
+              ∙ ap (λ ps. offers (meaning s) (stationAt s j) (choice (meaning s .discipline) ps)) (packets-at j l)
+
+      stations-begun : stationsOf (begunState s rest drops) ≡ begin (meaning s) .stations
+      stations-begun =
+          let n = s .segment .settings .n in
+          values-same (stationAt (begunState s rest drops)) (λ j. entered (meaning s) (stationAt s j)) 0 n (λ j l m. station-begun j (omega arith))
+          ∙ sym (values-map (entered (meaning s)) (stationAt s) 0 n)
+
+      meaning-begun : drops ≡ dropsOf (meaning s) → meaning (begunState s rest drops) ≡ begin (meaning s)
+      meaning-begun e =
+          λ i.
+          record {
+            discipline = meaning s .discipline;
+            D = meaning s .D;
+            A = meaning s .A;
+            q = meaning s .q;
+            stations = stations-begun i;
+            clock = meaning s .clock;
+            admitted = meaning s .admitted;
+            sent = meaning s .sent;
+            lost = meaning s .lost + e i;
+            last = meaning s .last;
+            contention = begin (meaning s) .contention;
+          }

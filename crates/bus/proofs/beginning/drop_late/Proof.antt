@@ -4,7 +4,7 @@ use Prim.Native.Nat.{_≤_, _<_, _-_}
 use mathlib.Core.Path.{_≡_, ap, subst}
 use native.Mathlib.Omega.{arith}
 use Rattle.bus.specs.Parts.{Queue, Late, stays}
-use Rattle.bus.proofs.BeginningLaws.{LeftTo, none-late, in-time, left-none, left-formed, left-here, left-more}
+use Rattle.bus.proofs.BeginningLaws.{LeftTo, none-late, in-time, left-none, left-formed, left-past, left-more}
 use Rattle.bus.proofs.beginning.drop_late.Statement.{statement}
 use Rattle.bus.proofs.beginning.drop_late.Tie as tie
 
@@ -35,7 +35,7 @@ without-late-requires c κs =
     let turn = c .before .loop in
     let f = stays (Late (start .args .discipline) (start .args .clock)) in
     let here : turn .i < 64 = omega arith in
-    let same = ap (λ (queue : Queue). queue .length) (left-here f (start .args .queues) (turn .i) (turn .next) here (turn .inv .1)) in (
+    let same = ap (λ (queue : Queue). queue .length) (left-past f (start .args .queues) (turn .i) (turn .next) (turn .inv .1) (turn .i) here (omega arith)) in (
       here,
       (
         left-formed f (start .args .queues) (turn .i) (turn .next) (start .pre .1 .0) (turn .inv .1),
