@@ -7,18 +7,19 @@ use mathlib.Core.Option.{Option, none, some}
 use mathlib.Core.List.{List, [], _∷_}
 use native.Mathlib.Omega.{arith}
 use lib.Dec.{eqb, leb, ltb}
-use lib.ListN.{length, getD, drop, set, replicate, length-take}
+use lib.ListN.{length, getD, take, drop, set, replicate, length-take}
 use borrow.Author.Tests.{eqb-true, eqb-false, ltb-true, ltb-false, leb-true, lt-ltb, le-ltb}
 use Rattle.window.specs.Splitting.{firstWindow}
 use Rattle.rules.specs.Lists.{kept, keep, count, each-of, total}
-use Rattle.rules.specs.Bus.{Discipline, PRI, RTDG, RTVC, Station, Bus, places}
+use Rattle.rules.specs.Bus.{Discipline, PRI, RTDG, RTVC, Station, Bus, places, most-admitted, late}
 use Rattle.rules.specs.SetUp.{disciplineOf}
+use Rattle.rules.specs.Standing.{Standing}
 use Rattle.rules.specs.Begin.{sits-out, parameterOf, offers, choice, entered, dropsOf, begin}
 use Rattle.rules.proofs.Laws.{and-true, true-and, keep-all, kept-failed, count-le, total-mono}
-use Rattle.bus.specs.State.{Slot, Settings, Listed, Contender, Round, Segment, Queues, State, Packet, noContender, nobody, placesAt, queueAt, offerOf, stationAt, stationsOf, lastOf, meaning, form, row, no-packet, queue-padded, contender-padded, no-station, padded}
+use Rattle.bus.specs.State.{Slot, Settings, Listed, Contender, Round, Segment, Queues, State, Packet, noContender, nobody, placesAt, queueAt, offerOf, stationAt, valuesFrom, stationsOf, lastOf, meaning, form, row, no-packet, queue-padded, contender-padded, no-station, padded}
 use Rattle.bus.specs.Parts.{Queue, Begun, Late, queueOf, packetsOf, queueForm, withQueue, stays, chosenForm, parameterFor, contenderOn, contenderFor}
 use Rattle.bus.proofs.Rows.{values-take, values-map, values-same, row-length, row-at, row-replicate, row-same, row-set}
-use Rattle.bus.proofs.Form.{Held, Padded, parts-padded, places-length, to-form}
+use Rattle.bus.proofs.Form.{Held, Padded, parts-padded, places-length, queue-length, to-form}
 use Rattle.bus.proofs.QueueLaws.{kept-length, packets-of-form, form-padded, padded-form-of, form-places, queue-of-with}
 
 -- another station is before i + 1 if it is before i
@@ -246,6 +247,14 @@ begunState s rest drops =
 abbrev pub inTimeAt : State → Packet → Bool
 inTimeAt s = stays (Late (s .segment .settings .discipline) (s .segment .clock))
 
+-- a sum over places whose terms are those of another sum, and more of something
+total-more :
+    {X : Type 0} (f g : ℕ → ℕ) (more : X → ℕ) (x : ℕ → X) (i k : ℕ) → ((j : ℕ) → i ≤ j → j < i + k → f j ≡ g j + more (x j))
+    → total (λ n. n) (valuesFrom f i k) ≡ total (λ n. n) (valuesFrom g i k) + total more (valuesFrom x i k)
+total-more f g more x i zero h = refl
+total-more f g more x i (suc k) h =
+    omega (arith, h i (omega arith) (omega arith), total-more f g more x (suc i) k (λ j l m. h j (omega arith) (omega arith)))
+
 -- what a state that stands has: queues that are the forms of their packets, at most sixteen each
 module _ (s : State) (h : Held s) (p : Padded s) where
   pub all-formed : (j : ℕ) → j < 64 → queueOf (s .queues) j ≡ queueForm (queueAt (s .queues) j)
@@ -356,3 +365,60 @@ module _ (s : State) (h : Held s) (p : Padded s) where
             last = meaning s .last;
             contention = begin (meaning s) .contention;
           }
+
+    -- ---- what is dropped
+
+    module _ (ls : length (rest .lengths) ≡ 64) where
+      -- those waiting before are those waiting after and those dropped
+      pub waiting-dropped :
+          total (λ n. n) (take (s .segment .settings .n) (s .queues .lengths))
+          ≡ total (λ n. n) (take (s .segment .settings .n) (rest .lengths)) + dropsOf (meaning s)
+      waiting-dropped =
+          let n = s .segment .settings .n in
+          ap (total (λ k. k)) (values-take (s .queues .lengths) 0 n (omega (arith, h .lengths)))
+          ∙ total-more
+          (λ j. getD (s .queues .lengths) j 0)
+          (λ j. getD (rest .lengths) j 0)
+          lateIn
+          (stationAt s)
+          0
+          n
+          (λ j l m. here j (omega arith))
+          ∙ ap (λ ns. total (λ k. k) ns + dropsOf (meaning s)) (sym (values-take (rest .lengths) 0 n (omega arith)))
+        where
+          lateIn : Station → ℕ
+          lateIn x = count (λ q. late (meaning s .discipline) (meaning s .clock) (q .value)) (x .queue)
+
+          here : (j : ℕ) → j < s .segment .settings .n → getD (s .queues .lengths) j 0 ≡ getD (rest .lengths) j 0 + lateIn (stationAt s j)
+          here j l =
+              omega
+              (arith,
+              queue-length s h p j (omega arith),
+              length-at j l,
+              kept-failed (λ (q : Packet). late (meaning s .discipline) (meaning s .clock) (q .value)) (queueAt (s .queues) j))
+
+    pub begun-is :
+        (drops : ℕ) → drops ≡ dropsOf (meaning s) → length (rest .lengths) ≡ 64 → length (rest .packets) ≡ 1024
+        → _≡_
+        {A = Begun}
+        (record { state = begunState s rest drops; drops = drops })
+        (record { state = form (begin (meaning s)); drops = dropsOf (meaning s) })
+    begun-is drops e ls ps = λ i. record { state = state i; drops = e i }
+      where
+        held : Held (begunState s rest drops)
+        held =
+            record {
+              listed = h .listed;
+              contenders = row-length 64 (λ j. cond (ltb j (s .segment .settings .n)) (placeFor (s .segment) rest j) noContender);
+              lengths = ls;
+              packets = ps;
+            }
+
+        state : begunState s rest drops ≡ form (begin (meaning s))
+        state = to-form (begunState s rest drops) (begin (meaning s)) held (parts-padded (begunState s rest drops) (begun-padded drops)) (meaning-begun drops e)
+
+-- no more are dropped than wait
+pub lost-counted : (b : Bus) → Standing b → b .lost + dropsOf b ≤ most-admitted
+lost-counted b h =
+    let dropped = total-mono (b .stations) (λ s i. count-le (λ (p : Packet). late (b .discipline) (b .clock) (p .value)) (s .queue)) in
+    omega (arith, h .counts, h .admitted-in)
