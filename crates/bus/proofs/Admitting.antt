@@ -101,6 +101,25 @@ laterTests s place value len =
     ∷ (16, leb most-admitted (s .segment .admitted))
     ∷ []
 
+-- the state with another count of admitted packets
+abbrev pub counted : State → ℕ → State
+counted s admitted =
+    record {
+      segment =
+          record {
+            settings = s .segment .settings;
+            listed = s .segment .listed;
+            clock = s .segment .clock;
+            admitted = admitted;
+            sent = s .segment .sent;
+            lost = s .segment .lost;
+            round = s .segment .round;
+            contention = s .segment .contention;
+            contenders = s .segment .contenders;
+          };
+      queues = s .queues;
+    }
+
 -- the tests that read the stations, by the place of the station with the address
 module _
     (s : State)
@@ -159,3 +178,57 @@ module _
             some-such (λ x. leb places (length (x .queue))),
             n,
           )
+
+      -- ---- the packet joins its station's queue
+
+      module _ (number : ℕ) (next : number ≡ suc (s .segment .admitted)) (room : getD (s .queues .lengths) place 0 < places) where
+        abbrev longer : List Packet
+        longer = queueAt (s .queues) place ++ (record { number = number; value = value; length = len } ∷ [])
+
+        -- each station is as the rules have it
+        station-joined :
+            (j : ℕ) → j < s .segment .settings .n
+            → stationWith (s .segment) j (cond (eqb j place) longer (queueAt (s .queues) j)) ≡ joined (meaning s) asked-for (stationAt s j)
+        station-joined j there =
+            go (eqb j place) refl ∙ ap (λ u. cond u (queued (newPacket (meaning s) asked-for) (stationAt s j)) (stationAt s j)) (sym (named-here j there))
+          where
+            go :
+                (t : Bool) → eqb j place ≡ t
+                → stationWith (s .segment) j (cond t longer (queueAt (s .queues) j))
+                ≡ cond t (queued (newPacket (meaning s) asked-for) (stationAt s j)) (stationAt s j)
+            go true e =
+                ap₂
+                (λ i n. stationWith (s .segment) j (queueAt (s .queues) i ++ (record { number = n; value = value; length = len } ∷ [])))
+                (sym (eqb-true j place e))
+                next
+            go false e = refl
+
+        pub state-joined : requeued (counted s number) place longer ≡ form (withPacket (meaning s) asked-for)
+        state-joined =
+            let h = stood s stood! in
+            let few = few-stations s (h .1) in
+            let p = padded-parts s (h .0) in
+            let before = queue-length s held p place (omega arith) in
+            let fits : length longer ≤ places = omega (arith, length-append (queueAt (s .queues) place) (record { number = number; value = value; length = len } ∷ [])) in
+            let p′ : Padded (counted s number) = record { discipline = p .discipline; queues = p .queues; contenders = p .contenders; past-N = p .past-N; round = p .round; contention = p .contention } in
+            let held′ : Held (counted s number) = record { listed = held .listed; contenders = held .contenders; lengths = held .lengths; packets = held .packets } in
+            let stations = stations-now (counted s number) held′ p′ few place here longer fits (joined (meaning s) asked-for) (stationAt s) station-joined in
+            to-form
+            (requeued (counted s number) place longer)
+            (withPacket (meaning s) asked-for)
+            (requeued-held (counted s number) held′ p′ few place here longer fits)
+            (parts-padded (requeued (counted s number) place longer) (requeued-padded (counted s number) held′ p′ few place here longer fits))
+            (λ i.
+            record {
+              discipline = meaning s .discipline;
+              D = meaning s .D;
+              A = meaning s .A;
+              q = meaning s .q;
+              stations = stations i;
+              clock = meaning s .clock;
+              admitted = next i;
+              sent = meaning s .sent;
+              lost = meaning s .lost;
+              last = meaning s .last;
+              contention = meaning s .contention;
+            })
