@@ -1,5 +1,5 @@
--- A state's arrays have their lengths, no two stations have one address, and a state in which one station's queue holds other packets
--- has zero padding and the other stations as they were. Assumes nothing.
+-- What a state that stands has: arrays of their lengths, zero padding, at most 64 stations, no two with one address; and a state in which
+-- one station's queue holds other packets: its padding is zero, and the other stations are as they were. Assumes nothing.
 use Prim.Native.Nat.{ℕ, zero, suc, _+_, _≤_, _<_}
 use mathlib.Core.Path.{_≡_, refl, sym, ap, _∙_, subst}
 use mathlib.Core.Bool.{Bool, true, false, not, _&&_, cond}
@@ -12,14 +12,17 @@ use lib.Dec.{eqb, ltb}
 use lib.ListN.{length, getD, length-map}
 use Rattle.rules.specs.Lists.{Among, Distinct}
 use Rattle.rules.specs.Bus.{Station, places, most-stations}
-use Rattle.rules.specs.Standing.{Standing}
-use Rattle.rules.proofs.Standing.{set-up-stands}
-use Rattle.bus.specs.State.{Packet, State, noContender, nobody, placesAt, queueAt, stationWith, stationAt, valuesFrom, stationsOf, meaning, queue-padded, no-station}
+use Rattle.rules.specs.Standing.{stands, Standing}
+use Rattle.rules.proofs.Laws.{clash, and-true}
+use Rattle.rules.proofs.Tests.{Whether, holds, fails}
+use Rattle.rules.proofs.Standing.{stands-exactly, set-up-stands}
+use Rattle.bus.specs.State.{Packet, State, noContender, nobody, placesAt, queueAt, stationWith, stationAt, valuesFrom, stationsOf, meaning, queue-padded, no-station, padded}
+use Rattle.bus.specs.Coded.{standing}
 use Rattle.bus.specs.Parts.{Queue, queueOf, withQueue, packetsOf, queueForm}
 use Rattle.bus.proofs.State as state
-use Rattle.bus.proofs.Rows.{values-map, values-same, among-values}
-use Rattle.bus.proofs.Form.{Held, Padded}
-use Rattle.bus.proofs.QueueLaws.{queues-arrays, packets-of-form, form-places, form-padded, with-queue-lengths, queue-of-with}
+use Rattle.bus.proofs.Rows.{values-length, values-map, values-same, among-values}
+use Rattle.bus.proofs.Form.{Held, Padded, places-length}
+use Rattle.bus.proofs.QueueLaws.{queues-arrays, packets-of-form, form-places, form-padded, with-queue-lengths, queue-of-with, padded-form-of}
 
 -- ---- the arrays of a state that a function is handed have their lengths
 
@@ -33,6 +36,24 @@ state-held s vs owned =
       lengths = qs .0;
       packets = qs .1;
     }
+
+-- ---- what a state that stands has
+
+-- a condition whose test holds
+told : {C : Type 0} {t : Bool} → Whether C t → t ≡ true → C
+told (holds c) e = c
+told (fails n) e = clash e refl
+
+-- zero padding, and a meaning that stands
+pub stood : (s : State) → standing s ≡ true → (padded s ≡ true) × Standing (meaning s)
+stood s e = let both = and-true (padded s) (stands (meaning s)) e in (both .0, told (stands-exactly (meaning s)) (both .1))
+
+pub few-stations : (s : State) → Standing (meaning s) → s .segment .settings .n ≤ most-stations
+few-stations s h = omega (arith, set-up-stands (meaning s) h .N-most, values-length (stationAt s) 0 (s .segment .settings .n))
+
+-- a queue with zero padding is the form of its packets
+pub queue-formed : (s : State) → Held s → Padded s → (i : ℕ) → i < most-stations → queueOf (s .queues) i ≡ queueForm (queueAt (s .queues) i)
+queue-formed s h p i l = padded-form-of (queueOf (s .queues) i) (places-length s h i l) (p .queues i l)
 
 -- ---- no two stations have one address
 
