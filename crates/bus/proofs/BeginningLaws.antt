@@ -6,6 +6,8 @@ use mathlib.Core.Bool.{Bool, true, false, not, _&&_, cond}
 use mathlib.Core.Option.{Option, none, some}
 use mathlib.Core.List.{List, [], _∷_}
 use native.Mathlib.Omega.{arith}
+use mir.Val.{Val}
+use denote.Laws.{Is}
 use lib.Dec.{eqb, leb, ltb}
 use lib.ListN.{length, getD, take, drop, set, replicate, length-take}
 use borrow.Author.Tests.{eqb-true, eqb-false, ltb-true, ltb-false, leb-true, lt-ltb, le-ltb}
@@ -17,10 +19,13 @@ use Rattle.rules.specs.Standing.{Standing}
 use Rattle.rules.specs.Begin.{sits-out, parameterOf, offers, choice, entered, dropsOf, begin}
 use Rattle.rules.proofs.Laws.{and-true, true-and, keep-all, kept-failed, count-le, total-mono}
 use Rattle.bus.specs.State.{Slot, Settings, Listed, Contender, Round, Segment, Queues, State, Packet, noContender, nobody, placesAt, queueAt, offerOf, stationAt, valuesFrom, stationsOf, lastOf, meaning, form, row, no-packet, queue-padded, contender-padded, no-station, padded}
+use Rattle.bus.specs.Coded.{standing}
 use Rattle.bus.specs.Parts.{Queue, Begun, Late, queueOf, packetsOf, queueForm, withQueue, stays, chosenForm, parameterFor, contenderOn, contenderFor}
+use Rattle.bus.proofs.State as state
 use Rattle.bus.proofs.Rows.{values-take, values-map, values-same, row-length, row-at, row-replicate, row-same, row-set}
-use Rattle.bus.proofs.Form.{Held, Padded, parts-padded, places-length, queue-length, to-form}
+use Rattle.bus.proofs.Form.{Held, Padded, padded-parts, parts-padded, places-length, queue-length, to-form}
 use Rattle.bus.proofs.QueueLaws.{kept-length, packets-of-form, form-padded, padded-form-of, form-places, queue-of-with}
+use Rattle.bus.proofs.Changed.{state-held, stood, few-stations}
 
 -- another station is before i + 1 if it is before i
 before-more : (j i : ℕ) → ¬ (j ≡ i) → ltb j i ≡ ltb j (i + 1)
@@ -255,17 +260,39 @@ total-more f g more x i zero h = refl
 total-more f g more x i (suc k) h =
     omega (arith, h i (omega arith) (omega arith), total-more f g more x (suc i) k (λ j l m. h j (omega arith) (omega arith)))
 
--- what a state that stands has: queues that are the forms of their packets, at most sixteen each
-module _ (s : State) (h : Held s) (p : Padded s) where
+-- what a state that is handed to a function and stands has
+pub record Lent (s : State) : Type 0 where
+  pub held : Held s
+  pub zeros : Padded s
+  pub stands : Standing (meaning s)
+  pub few : s .segment .settings .n ≤ 64
+
+pub lent : (s : State) (vs : List Val) → Is state.the-row s vs → standing s ≡ true → Lent s
+lent s vs owned e =
+    let both = stood s e in
+    record { held = state-held s vs owned; zeros = padded-parts s (both .0); stands = both .1; few = few-stations s (both .1) }
+
+module _ (s : State) (r : Lent s) where
+  -- its queues are the forms of their packets, at most sixteen each
   pub all-formed : (j : ℕ) → j < 64 → queueOf (s .queues) j ≡ queueForm (queueAt (s .queues) j)
-  all-formed j l = padded-form-of (queueOf (s .queues) j) (places-length s h j l) (p .queues j l)
+  all-formed j l = padded-form-of (queueOf (s .queues) j) (places-length s (r .held) j l) (r .zeros .queues j l)
 
   pub has-room : (j : ℕ) → j < 64 → getD (s .queues .lengths) j 0 ≤ 16
   has-room j l =
       let n = getD (s .queues .lengths) j 0 in
-      leb-true n places (and-true (leb n places) (each-of no-packet (drop n (placesAt (s .queues) j))) (p .queues j l) .0)
+      leb-true n places (and-true (leb n places) (each-of no-packet (drop n (placesAt (s .queues) j))) (r .zeros .queues j l) .0)
 
-  module _ (few : s .segment .settings .n ≤ 64) (rest : Queues) (left : LeftTo (inTimeAt s) (s .queues) (s .segment .settings .n) rest) where
+  -- no more are dropped than wait
+  pub lost-counted : s .segment .lost + dropsOf (meaning s) ≤ most-admitted
+  lost-counted =
+      let dropped =
+          total-mono
+          (meaning s .stations)
+          (λ x i. count-le (λ (p : Packet). late (meaning s .discipline) (meaning s .clock) (p .value)) (x .queue))
+      in
+      omega (arith, r .stands .counts, r .stands .admitted-in)
+
+  module _ (rest : Queues) (left : LeftTo (inTimeAt s) (s .queues) (s .segment .settings .n) rest) where
     -- a station's packets are those in time
     left-at : (j : ℕ) → j < s .segment .settings .n → queueOf rest j ≡ queueForm (keep (inTimeAt s) (queueAt (s .queues) j))
     left-at j l = left-before (inTimeAt s) (s .queues) (s .segment .settings .n) rest left j (omega arith) l
@@ -289,7 +316,7 @@ module _ (s : State) (h : Held s) (p : Padded s) where
 
         go : (t : Bool) → zeros (cond t (queueForm (keep (inTimeAt s) (queueAt (s .queues) j))) (queueOf (s .queues) j)) ≡ true
         go true = form-padded (keep (inTimeAt s) (queueAt (s .queues) j)) (kept-room (inTimeAt s) (s .queues) j (has-room j l))
-        go false = p .queues j l
+        go false = r .zeros .queues j l
 
     module _ (drops : ℕ) where
       place-of : (j : ℕ) → j < 64 → getD (begunState s rest drops .segment .contenders) j noContender ≡ cond (ltb j (s .segment .settings .n)) (placeFor (s .segment) rest j) noContender
@@ -307,7 +334,7 @@ module _ (s : State) (h : Held s) (p : Padded s) where
           let who = getD (s .segment .listed) j nobody in
           let n = getD (s .queues .lengths) j 0 in
           let nobody-there = eqb (who .address .0) 0 && eqb (who .capability .0) 0 in
-          let abc = and-true (nobody-there && eqb n 0) (not (getD (s .segment .contenders) j noContender .contends)) (p .past-N j m l) in
+          let abc = and-true (nobody-there && eqb n 0) (not (getD (s .segment .contenders) j noContender .contends)) (r .zeros .past-N j m l) in
           let ab = and-true nobody-there (eqb n 0) (abc .0) in
           true-and
           (true-and (ab .0) (ap (λ (queue : Queue). eqb (queue .length) 0) (left-past (inTimeAt s) (s .queues) (s .segment .settings .n) rest left j l m) ∙ ab .1))
@@ -316,11 +343,11 @@ module _ (s : State) (h : Held s) (p : Padded s) where
       begun-padded : Padded (begunState s rest drops)
       begun-padded =
           record {
-            discipline = p .discipline;
+            discipline = r .zeros .discipline;
             queues = queue-zeros;
             contenders = contender-zeros;
             past-N = past-zeros;
-            round = p .round;
+            round = r .zeros .round;
             contention = refl;
           }
 
@@ -375,7 +402,7 @@ module _ (s : State) (h : Held s) (p : Padded s) where
           ≡ total (λ n. n) (take (s .segment .settings .n) (rest .lengths)) + dropsOf (meaning s)
       waiting-dropped =
           let n = s .segment .settings .n in
-          ap (total (λ k. k)) (values-take (s .queues .lengths) 0 n (omega (arith, h .lengths)))
+          ap (total (λ k. k)) (values-take (s .queues .lengths) 0 n (omega (arith, r .held .lengths)))
           ∙ total-more
           (λ j. getD (s .queues .lengths) j 0)
           (λ j. getD (rest .lengths) j 0)
@@ -393,7 +420,7 @@ module _ (s : State) (h : Held s) (p : Padded s) where
           here j l =
               omega
               (arith,
-              queue-length s h p j (omega arith),
+              queue-length s (r .held) (r .zeros) j (omega arith),
               length-at j l,
               kept-failed (λ (q : Packet). late (meaning s .discipline) (meaning s .clock) (q .value)) (queueAt (s .queues) j))
 
@@ -408,7 +435,7 @@ module _ (s : State) (h : Held s) (p : Padded s) where
         held : Held (begunState s rest drops)
         held =
             record {
-              listed = h .listed;
+              listed = r .held .listed;
               contenders = row-length 64 (λ j. cond (ltb j (s .segment .settings .n)) (placeFor (s .segment) rest j) noContender);
               lengths = ls;
               packets = ps;
@@ -416,9 +443,3 @@ module _ (s : State) (h : Held s) (p : Padded s) where
 
         state : begunState s rest drops ≡ form (begin (meaning s))
         state = to-form (begunState s rest drops) (begin (meaning s)) held (parts-padded (begunState s rest drops) (begun-padded drops)) (meaning-begun drops e)
-
--- no more are dropped than wait
-pub lost-counted : (b : Bus) → Standing b → b .lost + dropsOf b ≤ most-admitted
-lost-counted b h =
-    let dropped = total-mono (b .stations) (λ s i. count-le (λ (p : Packet). late (b .discipline) (b .clock) (p .value)) (s .queue)) in
-    omega (arith, h .counts, h .admitted-in)
