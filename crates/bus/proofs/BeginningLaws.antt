@@ -13,19 +13,19 @@ use lib.ListN.{length, getD, take, drop, set, replicate, length-take}
 use borrow.Author.Tests.{eqb-true, eqb-false, ltb-true, ltb-false, leb-true, lt-ltb, le-ltb}
 use Rattle.window.specs.Splitting.{firstWindow}
 use Rattle.rules.specs.Lists.{kept, keep, count, each-of, total}
-use Rattle.rules.specs.Bus.{Discipline, PRI, RTDG, RTVC, Station, Bus, places, most-admitted, late}
+use Rattle.rules.specs.Bus.{Discipline, PRI, RTDG, RTVC, Station, places, most-admitted, late}
 use Rattle.rules.specs.SetUp.{disciplineOf}
 use Rattle.rules.specs.Standing.{Standing}
 use Rattle.rules.specs.Begin.{sits-out, parameterOf, offers, choice, entered, dropsOf, begin}
 use Rattle.rules.proofs.Laws.{and-true, true-and, keep-all, kept-failed, count-le, total-mono}
-use Rattle.bus.specs.State.{Slot, Settings, Listed, Contender, Round, Segment, Queues, State, Packet, noContender, nobody, placesAt, queueAt, offerOf, stationAt, valuesFrom, stationsOf, lastOf, meaning, form, row, no-packet, queue-padded, contender-padded, no-station, padded}
+use Rattle.bus.specs.State.{Slot, Settings, Listed, Contender, Round, Segment, Queues, State, Packet, noContender, nobody, placesAt, queueAt, offerOf, stationAt, valuesFrom, stationsOf, lastOf, meaning, form, row, no-packet, queue-padded, contender-padded, no-station}
 use Rattle.bus.specs.Coded.{standing}
 use Rattle.bus.specs.Parts.{Queue, Begun, Late, queueOf, packetsOf, queueForm, withQueue, stays, chosenForm, parameterFor, contenderOn, contenderFor}
 use Rattle.bus.proofs.State as state
 use Rattle.bus.proofs.Rows.{values-take, values-map, values-same, row-length, row-at, row-replicate, row-same, row-set}
-use Rattle.bus.proofs.Form.{Held, Padded, padded-parts, parts-padded, places-length, queue-length, to-form}
-use Rattle.bus.proofs.QueueLaws.{kept-length, packets-of-form, form-padded, padded-form-of, form-places, queue-of-with}
-use Rattle.bus.proofs.Changed.{state-held, stood, few-stations}
+use Rattle.bus.proofs.Form.{Held, Padded, padded-parts, parts-padded, queue-length, to-form}
+use Rattle.bus.proofs.QueueLaws.{kept-length, packets-of-form, form-padded, form-places, queue-of-with}
+use Rattle.bus.proofs.Changed.{state-held, stood, few-stations, queue-formed}
 
 -- another station is before i + 1 if it is before i
 before-more : (j i : ℕ) → ¬ (j ≡ i) → ltb j i ≡ ltb j (i + 1)
@@ -83,6 +83,10 @@ module _ (f : ℕ → Contender) where
 
 -- ---- late packets leave one queue
 
+-- the queue of station j, without the packets that leave, if so
+abbrev pub queueIf : Bool → (Packet → Bool) → Queues → ℕ → Queue
+queueIf t f qs j = cond t (queueForm (keep f (queueAt qs j))) (queueOf qs j)
+
 -- where as many are kept as there were, all are kept
 all-kept : (f : Packet → Bool) (ps : List Packet) → length (keep f ps) ≡ length ps → keep f ps ≡ ps
 all-kept f [] e = refl
@@ -95,7 +99,7 @@ all-kept f (p ∷ ps) e = go (f p) e (all-kept f ps)
     go false h more = absurd (omega (arith, kept-length f ps))
 
 -- a queue that is the form of some packets is the form of its own
-pub formed : (queue : Queue) (ps : List Packet) → queue ≡ queueForm ps → queue ≡ queueForm (packetsOf queue)
+formed : (queue : Queue) (ps : List Packet) → queue ≡ queueForm ps → queue ≡ queueForm (packetsOf queue)
 formed queue ps e = e ∙ ap queueForm (sym (ap packetsOf e ∙ packets-of-form ps))
 
 -- those kept of a queue that has room have room
@@ -106,25 +110,26 @@ kept-room f qs i room = omega (arith, kept-length f (queueAt qs i), length-take 
 pub none-leaves :
     (f : Packet → Bool) (qs : Queues) (i : ℕ) → i < 64 → ((j : ℕ) → j < 64 → queueOf qs j ≡ queueForm (queueAt qs j))
     → length (keep f (queueAt qs i)) ≡ getD (qs .lengths) i 0
-    → (j : ℕ) → j < 64 → queueOf qs j ≡ cond (eqb j i) (queueForm (keep f (queueAt qs j))) (queueOf qs j)
+    → (j : ℕ) → j < 64 → queueOf qs j ≡ queueIf (eqb j i) f qs j
 none-leaves f qs i h all e j l = go (eqb j i) refl
   where
-    go : (t : Bool) → eqb j i ≡ t → queueOf qs j ≡ cond t (queueForm (keep f (queueAt qs j))) (queueOf qs j)
+    go : (t : Bool) → eqb j i ≡ t → queueOf qs j ≡ queueIf t f qs j
     go true k =
-        let same = eqb-true j i k in
         let full = ap (λ (queue : Queue). queue .length) (all i h) in
-        let here : length (keep f (queueAt qs j)) ≡ length (queueAt qs j) = subst (λ m. length (keep f (queueAt qs m)) ≡ length (queueAt qs m)) (sym same) (e ∙ full) in
-        all j l ∙ ap queueForm (sym (all-kept f (queueAt qs j) here))
+        let same = all-kept f (queueAt qs i) (e ∙ full) in
+        all j l ∙ ap queueForm (sym (subst (λ m. keep f (queueAt qs m) ≡ queueAt qs m) (sym (eqb-true j i k)) same))
     go false k = refl
 
 -- some packets of station i leave: the others are put back
 pub some-leave :
     (f : Packet → Bool) (qs : Queues) (i : ℕ) → i < 64 → length (qs .lengths) ≡ 64 → length (qs .packets) ≡ 1024 → getD (qs .lengths) i 0 ≤ 16
     → (j : ℕ) → j < 64
-    → queueOf (withQueue qs i (queueForm (keep f (queueAt qs i)))) j ≡ cond (eqb j i) (queueForm (keep f (queueAt qs j))) (queueOf qs j)
-some-leave f qs i h ls ps room j l = queue-of-with qs i j (queueForm (keep f (queueAt qs i))) h l ls ps (form-places (keep f (queueAt qs i)) (kept-room f qs i room)) ∙ go (eqb j i) refl
+    → queueOf (withQueue qs i (queueForm (keep f (queueAt qs i)))) j ≡ queueIf (eqb j i) f qs j
+some-leave f qs i h ls ps room j l =
+    let stay = keep f (queueAt qs i) in
+    queue-of-with qs i j (queueForm stay) h l ls ps (form-places stay (kept-room f qs i room)) ∙ go (eqb j i) refl
   where
-    go : (t : Bool) → eqb j i ≡ t → cond t (queueForm (keep f (queueAt qs i))) (queueOf qs j) ≡ cond t (queueForm (keep f (queueAt qs j))) (queueOf qs j)
+    go : (t : Bool) → eqb j i ≡ t → cond t (queueForm (keep f (queueAt qs i))) (queueOf qs j) ≡ queueIf t f qs j
     go true k = ap (λ m. queueForm (keep f (queueAt qs m))) (sym (eqb-true j i k))
     go false k = refl
 
@@ -133,10 +138,10 @@ some-leave f qs i h ls ps room j l = queue-of-with qs i j (queueForm (keep f (qu
 -- where no packet is late, the queues are as they were
 pub none-late :
     (f : Packet → Bool) (qs : Queues) (n : ℕ) → ((p : Packet) → f p ≡ true) → ((j : ℕ) → j < 64 → queueOf qs j ≡ queueForm (queueAt qs j))
-    → (j : ℕ) → j < 64 → queueOf qs j ≡ cond (ltb j n) (queueForm (keep f (queueAt qs j))) (queueOf qs j)
+    → (j : ℕ) → j < 64 → queueOf qs j ≡ queueIf (ltb j n) f qs j
 none-late f qs n stay all j l = go (ltb j n)
   where
-    go : (t : Bool) → queueOf qs j ≡ cond t (queueForm (keep f (queueAt qs j))) (queueOf qs j)
+    go : (t : Bool) → queueOf qs j ≡ queueIf t f qs j
     go true = all j l ∙ ap queueForm (sym (keep-all f (queueAt qs j) (λ p i. stay p)))
     go false = refl
 
@@ -148,19 +153,19 @@ in-time (suc (suc d)) clock n p = refl
 
 -- `next` has the queues of `qs`, of the stations before i without the packets that leave
 abbrev pub LeftTo : (Packet → Bool) → Queues → ℕ → Queues → Type 0
-LeftTo f qs i next = (j : ℕ) → j < 64 → queueOf next j ≡ cond (ltb j i) (queueForm (keep f (queueAt qs j))) (queueOf qs j)
+LeftTo f qs i next = (j : ℕ) → j < 64 → queueOf next j ≡ queueIf (ltb j i) f qs j
 
 module _ (f : Packet → Bool) (qs : Queues) where
   -- before the first station
   pub left-none : LeftTo f qs 0 qs
-  left-none j l = ap (λ t. cond t (queueForm (keep f (queueAt qs j))) (queueOf qs j)) (sym (le-ltb j 0 (omega arith)))
+  left-none j l = ap (λ t. queueIf t f qs j) (sym (le-ltb j 0 (omega arith)))
 
   -- the queues before i, and those from i on
-  pub left-before : (i : ℕ) (next : Queues) → LeftTo f qs i next → (j : ℕ) → j < 64 → j < i → queueOf next j ≡ queueForm (keep f (queueAt qs j))
-  left-before i next left j l m = left j l ∙ ap (λ t. cond t (queueForm (keep f (queueAt qs j))) (queueOf qs j)) (lt-ltb j i m)
+  left-before : (i : ℕ) (next : Queues) → LeftTo f qs i next → (j : ℕ) → j < 64 → j < i → queueOf next j ≡ queueForm (keep f (queueAt qs j))
+  left-before i next left j l m = left j l ∙ ap (λ t. queueIf t f qs j) (lt-ltb j i m)
 
   pub left-past : (i : ℕ) (next : Queues) → LeftTo f qs i next → (j : ℕ) → j < 64 → i ≤ j → queueOf next j ≡ queueOf qs j
-  left-past i next left j l m = left j l ∙ ap (λ t. cond t (queueForm (keep f (queueAt qs j))) (queueOf qs j)) (le-ltb j i m)
+  left-past i next left j l m = left j l ∙ ap (λ t. queueIf t f qs j) (le-ltb j i m)
 
   -- every queue is still the form of its packets
   pub left-formed :
@@ -168,14 +173,14 @@ module _ (f : Packet → Bool) (qs : Queues) where
       → (j : ℕ) → j < 64 → queueOf next j ≡ queueForm (queueAt next j)
   left-formed i next all left j l = go (ltb j i) (left j l)
     where
-      go : (t : Bool) → queueOf next j ≡ cond t (queueForm (keep f (queueAt qs j))) (queueOf qs j) → queueOf next j ≡ queueForm (queueAt next j)
+      go : (t : Bool) → queueOf next j ≡ queueIf t f qs j → queueOf next j ≡ queueForm (queueAt next j)
       go true e = formed (queueOf next j) (keep f (queueAt qs j)) e
       go false e = formed (queueOf next j) (queueAt qs j) (e ∙ all j l)
 
   -- one station more
   pub left-more :
       (i : ℕ) (next after : Queues) → i < 64 → LeftTo f qs i next
-      → ((j : ℕ) → j < 64 → queueOf after j ≡ cond (eqb j i) (queueForm (keep f (queueAt next j))) (queueOf next j))
+      → ((j : ℕ) → j < 64 → queueOf after j ≡ queueIf (eqb j i) f next j)
       → LeftTo f qs (i + 1) after
   left-more i next after h left one j l = one j l ∙ go (eqb j i) refl
     where
@@ -184,12 +189,12 @@ module _ (f : Packet → Bool) (qs : Queues) where
 
       go :
           (t : Bool) → eqb j i ≡ t
-          → cond t (queueForm (keep f (queueAt next j))) (queueOf next j) ≡ cond (ltb j (i + 1)) (queueForm (keep f (queueAt qs j))) (queueOf qs j)
+          → queueIf t f next j ≡ queueIf (ltb j (i + 1)) f qs j
       go true e =
           let same = eqb-true j i e in
           ap (λ ps. queueForm (keep f ps)) (here same)
-          ∙ ap (λ t. cond t (queueForm (keep f (queueAt qs j))) (queueOf qs j)) (sym (lt-ltb j (i + 1) (omega arith)))
-      go false e = left j l ∙ ap (λ t. cond t (queueForm (keep f (queueAt qs j))) (queueOf qs j)) (before-more j i (eqb-false j i e))
+          ∙ ap (λ t. queueIf t f qs j) (sym (lt-ltb j (i + 1) (omega arith)))
+      go false e = left j l ∙ ap (λ t. queueIf t f qs j) (before-more j i (eqb-false j i e))
 
 -- ---- a place among the contenders is zero or contends, and its offer is the offer of the rules
 
@@ -275,7 +280,7 @@ lent s vs owned e =
 module _ (s : State) (r : Lent s) where
   -- its queues are the forms of their packets, at most sixteen each
   pub all-formed : (j : ℕ) → j < 64 → queueOf (s .queues) j ≡ queueForm (queueAt (s .queues) j)
-  all-formed j l = padded-form-of (queueOf (s .queues) j) (places-length s (r .held) j l) (r .zeros .queues j l)
+  all-formed = queue-formed s (r .held) (r .zeros)
 
   pub has-room : (j : ℕ) → j < 64 → getD (s .queues .lengths) j 0 ≤ 16
   has-room j l =
@@ -306,7 +311,7 @@ module _ (s : State) (r : Lent s) where
     pub room-left : (j : ℕ) → j < s .segment .settings .n → getD (rest .lengths) j 0 ≤ 16
     room-left j l = omega (arith, length-at j l, kept-room (inTimeAt s) (s .queues) j (has-room j (omega arith)))
 
-    -- ---- its padding is zero
+    -- ---- the padding is zero
 
     queue-zeros : (j : ℕ) → j < 64 → queue-padded (getD (rest .lengths) j 0) (placesAt rest j) ≡ true
     queue-zeros j l = ap zeros (left j l) ∙ go (ltb j (s .segment .settings .n))
@@ -314,19 +319,28 @@ module _ (s : State) (r : Lent s) where
         zeros : Queue → Bool
         zeros queue = queue-padded (queue .length) (queue .packets)
 
-        go : (t : Bool) → zeros (cond t (queueForm (keep (inTimeAt s) (queueAt (s .queues) j))) (queueOf (s .queues) j)) ≡ true
+        go : (t : Bool) → zeros (queueIf t (inTimeAt s) (s .queues) j) ≡ true
         go true = form-padded (keep (inTimeAt s) (queueAt (s .queues) j)) (kept-room (inTimeAt s) (s .queues) j (has-room j l))
         go false = r .zeros .queues j l
 
     module _ (drops : ℕ) where
-      place-of : (j : ℕ) → j < 64 → getD (begunState s rest drops .segment .contenders) j noContender ≡ cond (ltb j (s .segment .settings .n)) (placeFor (s .segment) rest j) noContender
+      place-of :
+          (j : ℕ) → j < 64
+          → getD (begunState s rest drops .segment .contenders) j noContender
+          ≡ cond (ltb j (s .segment .settings .n)) (placeFor (s .segment) rest j) noContender
       place-of j l = row-at 64 (λ k. cond (ltb k (s .segment .settings .n)) (placeFor (s .segment) rest k) noContender) j noContender l
 
       contender-zeros : (j : ℕ) → j < 64 → contender-padded (getD (begunState s rest drops .segment .contenders) j noContender) ≡ true
       contender-zeros j l = ap contender-padded (place-of j l) ∙ go (ltb j (s .segment .settings .n))
         where
           go : (t : Bool) → contender-padded (cond t (placeFor (s .segment) rest j) noContender) ≡ true
-          go true = place-padded (s .segment .settings) (s .segment .clock) (s .segment .round) (getD (s .segment .listed) j nobody) (choice (meaning s .discipline) (queueAt rest j))
+          go true =
+              place-padded
+              (s .segment .settings)
+              (s .segment .clock)
+              (s .segment .round)
+              (getD (s .segment .listed) j nobody)
+              (choice (meaning s .discipline) (queueAt rest j))
           go false = refl
 
       past-zeros : (j : ℕ) → s .segment .settings .n ≤ j → j < 64 → no-station (begunState s rest drops) j ≡ true
@@ -336,9 +350,11 @@ module _ (s : State) (r : Lent s) where
           let nobody-there = eqb (who .address .0) 0 && eqb (who .capability .0) 0 in
           let abc = and-true (nobody-there && eqb n 0) (not (getD (s .segment .contenders) j noContender .contends)) (r .zeros .past-N j m l) in
           let ab = and-true nobody-there (eqb n 0) (abc .0) in
+          let same = left-past (inTimeAt s) (s .queues) (s .segment .settings .n) rest left j l m in
           true-and
-          (true-and (ab .0) (ap (λ (queue : Queue). eqb (queue .length) 0) (left-past (inTimeAt s) (s .queues) (s .segment .settings .n) rest left j l m) ∙ ab .1))
-          (ap (λ c. not (c .contends)) (place-of j l) ∙ ap (λ t. not (cond t (placeFor (s .segment) rest j) noContender .contends)) (le-ltb j (s .segment .settings .n) m))
+          (true-and (ab .0) (ap (λ (queue : Queue). eqb (queue .length) 0) same ∙ ab .1))
+          (ap (λ c. not (c .contends)) (place-of j l)
+          ∙ ap (λ t. not (cond t (placeFor (s .segment) rest j) noContender .contends)) (le-ltb j (s .segment .settings .n) m))
 
       begun-padded : Padded (begunState s rest drops)
       begun-padded =
@@ -351,7 +367,7 @@ module _ (s : State) (r : Lent s) where
             contention = refl;
           }
 
-      -- ---- its stations are those of the rules
+      -- ---- the stations are those of the rules
 
       station-begun : (j : ℕ) → j < s .segment .settings .n → stationAt (begunState s rest drops) j ≡ entered (meaning s) (stationAt s j)
       station-begun j l =
@@ -363,7 +379,9 @@ module _ (s : State) (r : Lent s) where
             offer = offer i;
           }
         where
-          offer : offerOf (getD (begunState s rest drops .segment .contenders) j noContender) ≡ offers (meaning s) (stationAt s j) (choice (meaning s .discipline) (keep (inTimeAt s) (queueAt (s .queues) j)))
+          offer :
+              offerOf (getD (begunState s rest drops .segment .contenders) j noContender)
+              ≡ offers (meaning s) (stationAt s j) (choice (meaning s .discipline) (keep (inTimeAt s) (queueAt (s .queues) j)))
           offer =
               ap offerOf (place-of j (omega arith))
               ∙ ap (λ t. offerOf (cond t (placeFor (s .segment) rest j) noContender)) (lt-ltb j (s .segment .settings .n) l)
@@ -395,34 +413,36 @@ module _ (s : State) (r : Lent s) where
 
     -- ---- what is dropped
 
-    module _ (ls : length (rest .lengths) ≡ 64) where
-      -- those waiting before are those waiting after and those dropped
-      pub waiting-dropped :
-          total (λ n. n) (take (s .segment .settings .n) (s .queues .lengths))
-          ≡ total (λ n. n) (take (s .segment .settings .n) (rest .lengths)) + dropsOf (meaning s)
-      waiting-dropped =
-          let n = s .segment .settings .n in
-          ap (total (λ k. k)) (values-take (s .queues .lengths) 0 n (omega (arith, r .held .lengths)))
-          ∙ total-more
-          (λ j. getD (s .queues .lengths) j 0)
-          (λ j. getD (rest .lengths) j 0)
-          lateIn
-          (stationAt s)
-          0
-          n
-          (λ j l m. here j (omega arith))
-          ∙ ap (λ ns. total (λ k. k) ns + dropsOf (meaning s)) (sym (values-take (rest .lengths) 0 n (omega arith)))
-        where
-          lateIn : Station → ℕ
-          lateIn x = count (λ q. late (meaning s .discipline) (meaning s .clock) (q .value)) (x .queue)
+    -- those waiting before are those waiting after and those dropped
+    pub waiting-dropped :
+        length (rest .lengths) ≡ 64
+        → total (λ n. n) (take (s .segment .settings .n) (s .queues .lengths))
+        ≡ total (λ n. n) (take (s .segment .settings .n) (rest .lengths)) + dropsOf (meaning s)
+    waiting-dropped ls =
+        let n = s .segment .settings .n in
+        ap (total (λ k. k)) (values-take (s .queues .lengths) 0 n (omega (arith, r .held .lengths)))
+        ∙ total-more
+        (λ j. getD (s .queues .lengths) j 0)
+        (λ j. getD (rest .lengths) j 0)
+        lateIn
+        (stationAt s)
+        0
+        n
+        (λ j l m. here j (omega arith))
+        ∙ ap (λ ns. total (λ k. k) ns + dropsOf (meaning s)) (sym (values-take (rest .lengths) 0 n (omega arith)))
+      where
+        lateIn : Station → ℕ
+        lateIn x = count (λ q. late (meaning s .discipline) (meaning s .clock) (q .value)) (x .queue)
 
-          here : (j : ℕ) → j < s .segment .settings .n → getD (s .queues .lengths) j 0 ≡ getD (rest .lengths) j 0 + lateIn (stationAt s j)
-          here j l =
-              omega
-              (arith,
-              queue-length s (r .held) (r .zeros) j (omega arith),
-              length-at j l,
-              kept-failed (λ (q : Packet). late (meaning s .discipline) (meaning s .clock) (q .value)) (queueAt (s .queues) j))
+        here : (j : ℕ) → j < s .segment .settings .n → getD (s .queues .lengths) j 0 ≡ getD (rest .lengths) j 0 + lateIn (stationAt s j)
+        here j l =
+            omega
+            (arith,
+            queue-length s (r .held) (r .zeros) j (omega arith),
+            length-at j l,
+            kept-failed (λ (q : Packet). late (meaning s .discipline) (meaning s .clock) (q .value)) (queueAt (s .queues) j))
+
+    -- ---- it is the state of the rules
 
     pub begun-is :
         (drops : ℕ) → drops ≡ dropsOf (meaning s) → length (rest .lengths) ≡ 64 → length (rest .packets) ≡ 1024
