@@ -6,7 +6,7 @@ use bus::State;
 
 fn word(n: u64) {
     io::write_all(1, b" ");
-    io::number::print_decimal(1, n);
+    io::print_decimal(1, n);
 }
 
 fn number(n: u32) {

@@ -104,7 +104,7 @@ pub fn midway() -> State {
     step(admit(two_waiting(), 5, 3, 2))
 }
 
-// The same stations in RTDG, latest starts 30 and 40 and 50.
+// The same stations in RTDG, latest starts 30, 30 and 50.
 pub fn midway_rtdg() -> State {
     step(admit(admit(admit(rtdg(), 5, 30, 3), 6, 30, 1), 5, 50, 2))
 }
