@@ -16,7 +16,8 @@ returns c = rw (is-rtdg (c .before .if1 .taken)) (c .before2 .ensures)
 returns-2 : tie.Need-returns-2
 returns-2 c =
     let args = c .before .args in
-    by-discipline (λ d. false ≡ late d (args .slot .0) (args .value)) (args .discipline) (λ e. refl) (λ e. absurd (c .if1 .left e)) (λ h. refl)
+    by-discipline (λ d. false ≡ late d (args .slot .0) (args .value)) (args .discipline)
+    (λ e. refl) (λ e. absurd (c .if1 .left e)) (λ h. refl)
 
 pub late-spec : {M : Type 1} → statement M
 late-spec = tie.close (tie.spec before-requires returns returns-2)

@@ -27,7 +27,8 @@ not-above-requires c κs = search needs
 returns-3 : tie.Need-returns-3
 returns-3 c =
     let args = c .before .before .before .before .before .args in
-    rw (is-rtvc _ (c .before .before .before .before .if1 .left), not-false (args .round .won) (c .before .before .if2 .left)) (c .not-above .ensures)
+    rw (is-rtvc _ (c .before .before .before .before .if1 .left), not-false (args .round .won) (c .before .before .if2 .left))
+    (c .not-above .ensures)
 
 pub sits-out-spec : {M : Type 1} → statement M
 sits-out-spec = tie.close (tie.spec returns returns-2 not-above-requires returns-3)
