@@ -1,0 +1,58 @@
+use Rattle.bus.proofs.merging.least_head.Statement.{statement}
+use Rattle.bus.proofs.merging.least_head.Tie as tie
+use Rattle.bus.proofs.merging.least_head.Reads as reads
+use Rattle.bus.proofs.merging.least_head.Lts as lts
+use Rattle.bus.proofs.merging.comes_first.Reads as comes-first-reads
+
+abbrev Inv-loop : tie.InvT-loop
+Inv-loop n heads at₀ least₀ i₀ at least i = ?
+
+abbrev μ-loop : tie.MeasureT-loop
+μ-loop n heads at₀ least₀ i₀ at least i = ?
+
+-- src/merging.rt:53:5
+loop-holds : tie.Need-loop-holds Inv-loop μ-loop
+loop-holds c = ?
+
+-- src/merging.rt:54:20
+mul-head : tie.Need-mul-head Inv-loop μ-loop
+mul-head c = ?
+
+-- src/merging.rt:54:20
+array-read-head : tie.Need-array-read-head Inv-loop μ-loop
+array-read-head c = ?
+
+-- src/merging.rt:55:12
+comes-first-requires : tie.Need-comes-first-requires Inv-loop μ-loop
+comes-first-requires c κs = ?
+
+-- src/merging.rt:53:9
+add-i : tie.Need-add-i Inv-loop μ-loop
+add-i c = ?
+
+-- src/merging.rt:53:5
+loop-less : tie.Need-loop-less Inv-loop μ-loop
+loop-less c = ?
+
+-- src/merging.rt:53:5
+loop-again : tie.Need-loop-again Inv-loop μ-loop
+loop-again c = ?
+
+-- src/merging.rt:46:1
+returns : tie.Need-returns Inv-loop μ-loop
+returns c = ?
+
+pub least-head-spec : {M : Type 1} → statement M
+least-head-spec =
+    tie.close
+    (tie.spec
+    Inv-loop
+    μ-loop
+    loop-holds
+    mul-head
+    array-read-head
+    comes-first-requires
+    add-i
+    loop-less
+    loop-again
+    returns)
