@@ -1,21 +1,22 @@
 // 'none twice over all queues': each queue's numbers rise, so the queues' heads are merged, and a number that stands twice comes twice
-// in a row. A walk over the N heads, with at most three comparisons each, finds the packet to take next. For a full state, 64 queues of
-// 16 packets, that is 1,025 walks over 64 heads and less than 200,000 comparisons; packets are not compared with each other.
+// in a row. A walk over the N heads, with two comparisons a head and a third up to the first that is not 0, finds the packet to take
+// next: for a full state, 64 queues of 16 packets, 1,025 walks and about 131,000 comparisons. No packet is compared with each other one.
 use crate::Queues;
 ghost use Prim.Native.Nat.{ℕ, _<_, _≤_};
 ghost use mathlib.Core.Path.{_≡_};
 ghost use mathlib.Core.Bool.{not, _&&_, _||_};
 ghost use lib.Dec.{eqb, ltb};
 ghost use lib.ListN.{getD};
+ghost use Rattle.rules.specs.Bus.{numbersIn};
 ghost use Rattle.rules.specs.Lists.{distinct};
 ghost use Rattle.rules.specs.Standing.{Rising};
-ghost use Rattle.bus.specs.State.{noPacket, queueAt};
+ghost use Rattle.bus.specs.State.{queueAt};
 ghost use Rattle.bus.specs.Parts.{numbersFrom};
 
 // The number at the head of each of the first n queues, 0 where a queue is empty.
 fn first_heads(queues: Queues, n: usize) -> [u64; 64]
     requires { ⌜ n ≤ 64 ⌝ }
-    ensures { λ r. ⌜ ((i : ℕ) → i < n → getD r i 0 ≡ getD (queueAt queues i) 0 noPacket .number) ⌝ }
+    ensures { λ r. ⌜ ((i : ℕ) → i < n → getD r i 0 ≡ getD (numbersIn (queueAt queues i)) 0 0) ⌝ }
 {
     let mut heads = [0u64; 64];
     for i in 0..n {
@@ -29,17 +30,17 @@ fn first_heads(queues: Queues, n: usize) -> [u64; 64]
     heads
 }
 
-// Whether a head is there and below the least so far, if there is one.
+// Whether a head is below the least so far, if there is one, and is there itself.
 fn comes_first(head: u64, least: u64) -> bool
-    ensures { λ r. ⌜ r ≡ (not (eqb head 0) && (eqb least 0 || ltb head least)) ⌝ }
+    ensures { λ r. ⌜ r ≡ ((ltb head least || eqb least 0) && not (eqb head 0)) ⌝ }
 {
-    if head == 0 {
+    if head < least {
+        return head != 0;
+    }
+    if least != 0 {
         return false;
     }
-    if least == 0 {
-        return true;
-    }
-    head < least
+    head != 0
 }
 
 // The place of the least of the first n heads that are not 0; n where there is none.

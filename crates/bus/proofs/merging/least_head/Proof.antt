@@ -1,3 +1,6 @@
+use Prim.Native.Nat.{_≤_, _-_}
+use borrow.Author.Needs.{needs}
+use Rattle.bus.proofs.Merged.{first-yes, first-no, Searched, searched-start, searched-yes, searched-no}
 use Rattle.bus.proofs.merging.least_head.Statement.{statement}
 use Rattle.bus.proofs.merging.least_head.Tie as tie
 use Rattle.bus.proofs.merging.least_head.Reads as reads
@@ -5,10 +8,10 @@ use Rattle.bus.proofs.merging.least_head.Lts as lts
 use Rattle.bus.proofs.merging.comes_first.Reads as comes-first-reads
 
 abbrev Inv-loop : tie.InvT-loop
-Inv-loop n heads at₀ least₀ i₀ at least i = ?
+Inv-loop n heads at₀ least₀ i₀ at least i = (i ≤ n) × Searched heads n i at least
 
 abbrev μ-loop : tie.MeasureT-loop
-μ-loop n heads at₀ least₀ i₀ at least i = ?
+μ-loop n heads at₀ least₀ i₀ at least i = n - i
 
 -- src/merging.rt:53:5
 loop-holds : tie.Need-loop-holds Inv-loop μ-loop
@@ -16,23 +19,23 @@ loop-holds c = ?
 
 -- src/merging.rt:54:20
 mul-head : tie.Need-mul-head Inv-loop μ-loop
-mul-head c = ?
+mul-head c = search needs
 
 -- src/merging.rt:54:20
 array-read-head : tie.Need-array-read-head Inv-loop μ-loop
-array-read-head c = ?
+array-read-head c = search needs
 
 -- src/merging.rt:55:12
 comes-first-requires : tie.Need-comes-first-requires Inv-loop μ-loop
-comes-first-requires c κs = ?
+comes-first-requires c κs = search needs
 
 -- src/merging.rt:53:9
 add-i : tie.Need-add-i Inv-loop μ-loop
-add-i c = ?
+add-i c = search needs
 
 -- src/merging.rt:53:5
 loop-less : tie.Need-loop-less Inv-loop μ-loop
-loop-less c = ?
+loop-less c = search needs
 
 -- src/merging.rt:53:5
 loop-again : tie.Need-loop-again Inv-loop μ-loop

@@ -1,3 +1,6 @@
+use borrow.Author.Needs.{needs}
+use lib.ListN.{length}
+use Rattle.bus.proofs.Merged.{head-at, no-head-at, left, Merged, merged-start, merged-done, merged-twice, merged-less, merged-turn}
 use Rattle.bus.proofs.merging.none_twice.Statement.{statement}
 use Rattle.bus.proofs.merging.none_twice.Tie as tie
 use Rattle.bus.proofs.merging.none_twice.Reads as reads
@@ -6,14 +9,14 @@ use Rattle.bus.proofs.merging.first_heads.Reads as first-heads-reads
 use Rattle.bus.proofs.merging.least_head.Reads as least-head-reads
 
 abbrev Inv-loop : tie.InvT-loop
-Inv-loop n queues heads₀ taken₀ last₀ heads taken last = ?
+Inv-loop n queues heads₀ taken₀ last₀ heads taken last = Merged queues n heads taken last
 
 abbrev μ-loop : tie.MeasureT-loop
-μ-loop n queues heads₀ taken₀ last₀ heads taken last = ?
+μ-loop n queues heads₀ taken₀ last₀ heads taken last = length (left queues taken n)
 
 -- src/merging.rt:70:21
 first-heads-requires : tie.Need-first-heads-requires Inv-loop μ-loop
-first-heads-requires c κs = ?
+first-heads-requires c κs = search needs
 
 -- src/merging.rt:73:5
 loop-holds : tie.Need-loop-holds Inv-loop μ-loop
@@ -21,7 +24,7 @@ loop-holds c = ?
 
 -- src/merging.rt:74:13
 least-head-requires : tie.Need-least-head-requires Inv-loop μ-loop
-least-head-requires c κs = ?
+least-head-requires c κs = search needs
 
 -- src/merging.rt:76:13
 returns : tie.Need-returns Inv-loop μ-loop
@@ -29,11 +32,11 @@ returns c = ?
 
 -- src/merging.rt:78:20
 mul-head : tie.Need-mul-head Inv-loop μ-loop
-mul-head c = ?
+mul-head c = search needs
 
 -- src/merging.rt:78:20
 array-read-head : tie.Need-array-read-head Inv-loop μ-loop
-array-read-head c = ?
+array-read-head c = search needs
 
 -- src/merging.rt:80:13
 returns-2 : tie.Need-returns-2 Inv-loop μ-loop
@@ -41,11 +44,11 @@ returns-2 c = ?
 
 -- src/merging.rt:83:17
 mul-t : tie.Need-mul-t Inv-loop μ-loop
-mul-t c = ?
+mul-t c = search needs
 
 -- src/merging.rt:83:17
 array-read-t : tie.Need-array-read-t Inv-loop μ-loop
-array-read-t c = ?
+array-read-t c = search needs
 
 -- src/merging.rt:83:17
 add-t : tie.Need-add-t Inv-loop μ-loop
@@ -53,31 +56,31 @@ add-t c = ?
 
 -- src/merging.rt:84:9
 mul-taken : tie.Need-mul-taken Inv-loop μ-loop
-mul-taken c = ?
+mul-taken c = search needs
 
 -- src/merging.rt:84:9
 array-write-taken : tie.Need-array-write-taken Inv-loop μ-loop
-array-write-taken c = ?
+array-write-taken c = search needs
 
 -- src/merging.rt:85:9
 mul-heads : tie.Need-mul-heads Inv-loop μ-loop
-mul-heads c = ?
+mul-heads c = search needs
 
 -- src/merging.rt:85:9
 array-write-heads : tie.Need-array-write-heads Inv-loop μ-loop
-array-write-heads c = ?
+array-write-heads c = search needs
 
 -- src/merging.rt:86:22
 mul-length : tie.Need-mul-length Inv-loop μ-loop
-mul-length c = ?
+mul-length c = search needs
 
 -- src/merging.rt:86:22
 element-copy-out-length : tie.Need-element-copy-out-length Inv-loop μ-loop
-element-copy-out-length c = ?
+element-copy-out-length c = search needs
 
 -- src/merging.rt:88:22
 mul-at : tie.Need-mul-at Inv-loop μ-loop
-mul-at c = ?
+mul-at c = search needs
 
 -- src/merging.rt:88:22
 add-at : tie.Need-add-at Inv-loop μ-loop
@@ -85,7 +88,7 @@ add-at c = ?
 
 -- src/merging.rt:89:21
 mul-p : tie.Need-mul-p Inv-loop μ-loop
-mul-p c = ?
+mul-p c = search needs
 
 -- src/merging.rt:89:21
 element-copy-out-p : tie.Need-element-copy-out-p Inv-loop μ-loop
@@ -93,11 +96,11 @@ element-copy-out-p c = ?
 
 -- src/merging.rt:90:13
 mul-heads-2 : tie.Need-mul-heads-2 Inv-loop μ-loop
-mul-heads-2 c = ?
+mul-heads-2 c = search needs
 
 -- src/merging.rt:90:13
 array-write-heads-2 : tie.Need-array-write-heads-2 Inv-loop μ-loop
-array-write-heads-2 c = ?
+array-write-heads-2 c = search needs
 
 -- src/merging.rt:73:5
 loop-less : tie.Need-loop-less Inv-loop μ-loop
