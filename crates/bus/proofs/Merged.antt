@@ -10,7 +10,7 @@ use native.Mathlib.Nat.{add-zero}
 use native.Mathlib.Numerals.{add-one}
 use native.Mathlib.Omega.{arith}
 use lib.Dec.{eqb, ltb}
-use lib.ListN.{length, getD, take, drop, set, replicate, length-map, length-take, drop-of-length-le, List·getD-map}
+use lib.ListN.{length, getD, take, drop, set, replicate, length-set, length-map, length-take, drop-of-length-le, List·getD-map}
 use lib.Seq.{getD-take, getD-drop, getD-set-same, getD-set-other}
 use borrow.Author.Count.{below-more}
 use borrow.Author.Tests.{ltb-true, ltb-false, eqb-true, eqb-false, eq-eqb, ne-eqb}
@@ -180,7 +180,7 @@ head-there (suc t) (n ∷ ns) h = head-there t ns h
 -- ---- a queue's heads in the row of places
 
 -- the head of what is left when t are taken is at place t of the queue's places, if it has more than t
-pub head-at :
+head-at :
     (qs : Queues) (i t : ℕ) → t < getD (qs .lengths) i 0 → t < 16
     → getD (drop t (numbersIn (queueAt qs i))) 0 0 ≡ getD (qs .packets) (16 * i + t) noPacket .number
 head-at qs i t h l =
@@ -193,6 +193,10 @@ head-at qs i t h l =
       ∙ getD-take 16 (drop (16 * i) (qs .packets)) t noPacket l
       ∙ getD-drop (16 * i) (qs .packets) t noPacket)
 
+pub first-head-at :
+    (qs : Queues) (i : ℕ) → 0 < getD (qs .lengths) i 0 → getD (numbersIn (queueAt qs i)) 0 0 ≡ getD (qs .packets) (16 * i) noPacket .number
+first-head-at qs i h = head-at qs i 0 h (omega arith) ∙ ap (λ j. getD (qs .packets) j noPacket .number) (add-zero (16 * i))
+
 pub no-head-at : (qs : Queues) (i t : ℕ) → getD (qs .lengths) i 0 ≤ t → getD (drop t (numbersIn (queueAt qs i))) 0 0 ≡ 0
 no-head-at qs i t h =
     ap
@@ -201,6 +205,25 @@ no-head-at qs i t h =
      (numbersIn (queueAt qs i))
      {i = t}
      (omega (arith, length-map (queueAt qs i) (λ p. p .number), length-take (getD (qs .lengths) i 0) (take 16 (drop (16 * i) (qs .packets))))))
+
+-- the heads of the queues before i are known: what the loop that reads them keeps
+pub record HeadsKnown (qs : Queues) (i : ℕ) (heads : List ℕ) : Type 0 where
+  pub long : length heads ≡ 64
+  pub head : (j : ℕ) → j < i → getD heads j 0 ≡ getD (numbersIn (queueAt qs j)) 0 0
+
+pub one-more-known :
+    (qs : Queues) (i : ℕ) (heads : List ℕ) {v : ℕ} {heads′ : List ℕ} → HeadsKnown qs i heads → i < 64 → heads′ ≡ set heads i v
+    → v ≡ getD (numbersIn (queueAt qs i)) 0 0 → HeadsKnown qs (i + 1) heads′
+one-more-known qs i heads {v} {heads′} known l e here =
+    record {
+      long = ap length e ∙ length-set heads i v ∙ known .long;
+      head =
+          below-more
+          (λ j. getD heads′ j 0 ≡ getD (numbersIn (queueAt qs j)) 0 0)
+          i
+          (λ j h. ap (λ hs. getD hs j 0) e ∙ getD-set-other heads i j v 0 (λ q. omega arith) ∙ known .head j h)
+          (ap (λ hs. getD hs i 0) e ∙ getD-set-same heads i v 0 (omega arith) ∙ here);
+    }
 
 -- ---- the search for the least head
 
@@ -279,107 +302,152 @@ takenOne taken k = set taken k (getD taken k 0 + 1)
 
 -- The queues are merged up to the number `last`: what the loop keeps.
 pub record Merged (qs : Queues) (n : ℕ) (heads taken : List ℕ) (last : ℕ) : Type 0 where
+  pub heads-long : length heads ≡ 64
+  pub taken-long : length taken ≡ 64
   pub head : (i : ℕ) → i < n → getD heads i 0 ≡ getD (leftAt qs taken i) 0 0
   pub above : All (λ x. last ≤ x) (left qs taken n)
   pub same : distinct (numbersFrom qs 0 n) ≡ distinct (last ∷ left qs taken n)
 
--- none of the first n heads that are not 0 is below that at k
-abbrev pub LeastHead : List ℕ → ℕ → ℕ → Type 0
-LeastHead heads n k = (i : ℕ) → i < n → 0 < getD heads i 0 → (k < n) × (getD heads k 0 ≤ getD heads i 0)
+-- What is known in a turn of the loop, with k the place of the least head, or past the places of stations if there is none.
+pub record Turn (qs : Queues) (n : ℕ) (heads taken : List ℕ) (last k : ℕ) : Type 0 where
+  pub few : n ≤ 64
+  pub short : (i : ℕ) → i < n → getD (qs .lengths) i 0 ≤ 16
+  pub rises : (i : ℕ) → i < n → (m : ℕ) × Rising 0 m (queueAt qs i)
+  pub now : Merged qs n heads taken last
+  pub there : k < n → 0 < getD heads k 0
+  pub least : (i : ℕ) → i < n → 0 < getD heads i 0 → (k < n) × (getD heads k 0 ≤ getD heads i 0)
+
+-- each number left is of a queue whose head is not 0 and not above it
+left-head :
+    {x : ℕ} (qs : Queues) (n : ℕ) → ((i : ℕ) → i < n → (m : ℕ) × Rising 0 m (queueAt qs i)) → (taken : List ℕ) → Among x (left qs taken n)
+    → (i : ℕ) × (i < n) × (0 < getD (leftAt qs taken i) 0 0) × (getD (leftAt qs taken i) 0 0 ≤ x)
+left-head qs n rises taken a =
+    let r = among-joined (leftAt qs taken) 0 n a in
+    let l : r .0 < n = omega (arith, r .2) in
+    let up = rises (r .0) l in
+    let h = rising-head 0 (up .0) (getD taken (r .0) 0) (queueAt qs (r .0)) (up .1) (r .3) in
+    (r .0, l, h .0, h .1)
 
 zeros-at : (n i : ℕ) → _≡_ {A = ℕ} (getD (replicate n 0) i 0) 0
 zeros-at zero i = refl
 zeros-at (suc n) zero = refl
 zeros-at (suc n) (suc i) = zeros-at n i
 
-module _ (qs : Queues) (n : ℕ) (rises : (i : ℕ) → i < n → (m : ℕ) × Rising 0 m (queueAt qs i)) where
-  -- each number left is of a queue whose head is not 0 and not above it
-  left-head :
-      {x : ℕ} (taken : List ℕ) → Among x (left qs taken n)
-      → (i : ℕ) × (i < n) × (0 < getD (leftAt qs taken i) 0 0) × (getD (leftAt qs taken i) 0 0 ≤ x)
-  left-head taken a =
-      let r = among-joined (leftAt qs taken) 0 n a in
-      let l : r .0 < n = omega (arith, r .2) in
-      let up = rises (r .0) l in
-      let h = rising-head 0 (up .0) (getD taken (r .0) 0) (queueAt qs (r .0)) (up .1) (r .3) in
-      (r .0, l, h .0, h .1)
+-- at first nothing is taken
+pub merged-start :
+    (qs : Queues) (n : ℕ) (heads : List ℕ) → ((i : ℕ) → i < n → (m : ℕ) × Rising 0 m (queueAt qs i)) → length heads ≡ 64
+    → ((i : ℕ) → i < n → getD heads i 0 ≡ getD (numbersIn (queueAt qs i)) 0 0) → Merged qs n heads (replicate 64 0) 0
+merged-start qs n heads rises long h =
+    record {
+      heads-long = long;
+      taken-long = refl;
+      head = λ i l. h i l ∙ ap (λ ns. getD ns 0 0) (whole i);
+      above = λ x i. omega arith;
+      same =
+          ap distinct (numbers-joined qs 0 n ∙ joined-same (λ j. numbersIn (queueAt qs j)) (leftAt qs none) 0 n (λ j l. whole j))
+          ∙ sym (below-distinct 0 (left qs none n) (λ x a. let r = left-head qs n rises none a in omega (arith, r .2, r .3)));
+    }
+  where
+    none : List ℕ
+    none = replicate 64 0
 
-  pub merged-start :
-      (heads : List ℕ) (k : ℕ) → ((i : ℕ) → i < n → getD heads i 0 ≡ getD (numbersIn (queueAt qs i)) 0 0)
-      → Merged qs n heads (replicate k 0) 0
-  merged-start heads k h =
-      let all : numbersFrom qs 0 n ≡ left qs (replicate k 0) n =
-          numbers-joined qs 0 n
-          ∙ joined-same (λ j. numbersIn (queueAt qs j)) (leftAt qs (replicate k 0)) 0 n (λ j l. ap (λ t. drop t (numbersIn (queueAt qs j))) (sym (zeros-at k j))) in
-      record {
-        head =
-            λ i l. h i l ∙ ap (λ t. getD (drop t (numbersIn (queueAt qs i))) 0 0) (sym (zeros-at k i));
-        above = λ x i. omega arith;
-        same =
-            ap distinct all
-            ∙ sym (below-distinct 0 (left qs (replicate k 0) n) (λ x i. let r = left-head (replicate k 0) i in omega (arith, r .2, r .3)));
-      }
+    whole : (i : ℕ) → numbersIn (queueAt qs i) ≡ leftAt qs none i
+    whole i = ap (λ t. drop t (numbersIn (queueAt qs i))) (sym (zeros-at 64 i))
 
-  module _ (heads taken : List ℕ) (last k : ℕ) (now : Merged qs n heads taken last) (least : LeastHead heads n k) where
-    -- the least head is the least number left
-    least-left : {x : ℕ} → Among x (left qs taken n) → (k < n) × (getD heads k 0 ≤ x)
-    least-left a =
-        let r = left-head taken a in
-        let e = now .head (r .0) (r .1) in
-        let l = least (r .0) (r .1) (omega (arith, r .2)) in
-        (l .0, omega (arith, l .1, r .3))
+module _ {qs : Queues} {n : ℕ} {heads taken : List ℕ} {last k : ℕ} (turn : Turn qs n heads taken last k) where
+  -- the least head is the least number left
+  least-left : {x : ℕ} → Among x (left qs taken n) → (k < n) × (getD heads k 0 ≤ x)
+  least-left a =
+      let r = left-head qs n (turn .rises) taken a in
+      let e = turn .now .head (r .0) (r .1) in
+      let l = turn .least (r .0) (r .1) (omega (arith, r .2)) in
+      (l .0, omega (arith, l .1, r .3))
 
-    -- nothing is left
-    pub merged-done : n ≤ k → distinct (numbersFrom qs 0 n) ≡ true
-    merged-done h =
-        now .same
-        ∙ ap (λ ns. distinct (last ∷ ns)) (none-among (left qs taken n) (λ x a. let l = least-left a .0 in omega arith))
+  -- no head is there: nothing is left
+  pub merged-done : n ≤ k → distinct (numbersFrom qs 0 n) ≡ true
+  merged-done h =
+      turn .now .same
+      ∙ ap (λ ns. distinct (last ∷ ns)) (none-among (left qs taken n) (λ x a. let l = least-left a .0 in omega arith))
 
-    module _ (inside : k < n) (there : 0 < getD heads k 0) (room : k < length taken) where
-      -- one is taken out
-      taken-out : Without (getD heads k 0) (left qs taken n) (left qs (takenOne taken k) n)
-      taken-out = joined-without (leftAt qs taken) (leftAt qs (takenOne taken k)) k 0 n (omega arith) (omega arith) front others
-        where
-          front : leftAt qs taken k ≡ getD heads k 0 ∷ leftAt qs (takenOne taken k) k
-          front =
-              let e = now .head k inside in
-              head-there (getD taken k 0) (numbersIn (queueAt qs k)) (omega arith)
-              ∙ ap₂
-                (λ m t. m ∷ drop t (numbersIn (queueAt qs k)))
-                (sym e)
-                (sym (getD-set-same taken k (getD taken k 0 + 1) 0 room ∙ add-one (getD taken k 0)))
+  module _ (inside : k < n) where
+    -- more are in the queue than are taken
+    pub taken-below : getD taken k 0 < 16
+    taken-below =
+        let e = turn .now .head k inside in
+        let there = turn .there inside in
+        let short = turn .short k inside in
+        let more : ¬ (getD (qs .lengths) k 0 ≤ getD taken k 0) = λ l. let z = no-head-at qs k (getD taken k 0) l in omega arith in
+        omega arith
 
-          others : (i : ℕ) → i ≢ k → leftAt qs taken i ≡ leftAt qs (takenOne taken k) i
-          others i d = ap (λ t. drop t (numbersIn (queueAt qs i))) (sym (getD-set-other taken k i (getD taken k 0 + 1) 0 d))
+    -- the head goes
+    taken-out : Without (getD heads k 0) (left qs taken n) (left qs (takenOne taken k) n)
+    taken-out = joined-without (leftAt qs taken) (leftAt qs (takenOne taken k)) k 0 n (omega arith) (omega arith) front others
+      where
+        front : leftAt qs taken k ≡ getD heads k 0 ∷ leftAt qs (takenOne taken k) k
+        front =
+            let e = turn .now .head k inside in
+            let there = turn .there inside in
+            head-there (getD taken k 0) (numbersIn (queueAt qs k)) (omega arith)
+            ∙ ap₂
+              (λ m t. m ∷ drop t (numbersIn (queueAt qs k)))
+              (sym e)
+              (sym (getD-set-same taken k (getD taken k 0 + 1) 0 (omega (arith, turn .few, turn .now .taken-long)) ∙ add-one (getD taken k 0)))
 
-      pub merged-less : length (left qs (takenOne taken k) n) < length (left qs taken n)
-      merged-less = omega (arith, without-length taken-out)
+        others : (i : ℕ) → i ≢ k → leftAt qs taken i ≡ leftAt qs (takenOne taken k) i
+        others i d = ap (λ t. drop t (numbersIn (queueAt qs i))) (sym (getD-set-other taken k i (getD taken k 0 + 1) 0 d))
 
-      -- the number taken last stands there once more
-      pub merged-twice : getD heads k 0 ≡ last → distinct (numbersFrom qs 0 n) ≡ false
-      merged-twice e =
-          now .same
-          ∙ ap
-            (λ t. not t && distinct (left qs taken n))
-            (has-true last (left qs taken n) (subst (λ m. Among m (left qs taken n)) e (without-there taken-out)))
+    pub merged-less : length (left qs (takenOne taken k) n) < length (left qs taken n)
+    merged-less = omega (arith, without-length taken-out)
 
-      pub merged-turn :
-          (heads′ : List ℕ) → getD heads k 0 ≢ last → getD heads′ k 0 ≡ getD (leftAt qs (takenOne taken k) k) 0 0
-          → ((i : ℕ) → i ≢ k → getD heads′ i 0 ≡ getD heads i 0) → Merged qs n heads′ (takenOne taken k) (getD heads k 0)
-      merged-turn heads′ other here elsewhere =
-          record {
-            head = λ i l. at i l (eqb i k) refl;
-            above = λ x a. least-left (without-among taken-out a) .1;
-            same =
-                now .same
-                ∙ below-distinct last (left qs taken n) (λ x a. let l = least-left a .1 in let m = now .above _ (without-there taken-out) in omega arith)
-                ∙ without-distinct taken-out;
-          }
-        where
-          at : (i : ℕ) → i < n → (t : Bool) → eqb i k ≡ t → getD heads′ i 0 ≡ getD (leftAt qs (takenOne taken k) i) 0 0
-          at i l true e = subst (λ j. getD heads′ j 0 ≡ getD (leftAt qs (takenOne taken k) j) 0 0) (sym (eqb-true i k e)) here
-          at i l false e =
-              let d = eqb-false i k e in
-              elsewhere i d
-              ∙ now .head i l
-              ∙ ap (λ t. getD (drop t (numbersIn (queueAt qs i))) 0 0) (sym (getD-set-other taken k i (getD taken k 0 + 1) 0 d))
+    -- the number taken last stands there once more
+    pub merged-twice : getD heads k 0 ≡ last → distinct (numbersFrom qs 0 n) ≡ false
+    merged-twice e =
+        turn .now .same
+        ∙ ap
+          (λ t. not t && distinct (left qs taken n))
+          (has-true last (left qs taken n) (subst (λ m. Among m (left qs taken n)) e (without-there taken-out)))
+
+    -- another one is taken, and `next` is the queue's next head
+    merged-turn :
+        (next : ℕ) → getD heads k 0 ≢ last → next ≡ getD (drop (getD taken k 0 + 1) (numbersIn (queueAt qs k))) 0 0
+        → Merged qs n (set heads k next) (takenOne taken k) (getD heads k 0)
+    merged-turn next other here =
+        record {
+          heads-long = length-set heads k next ∙ turn .now .heads-long;
+          taken-long = length-set taken k (getD taken k 0 + 1) ∙ turn .now .taken-long;
+          head = λ i l. at i l (eqb i k) refl;
+          above = λ x a. least-left (without-among taken-out a) .1;
+          same =
+              turn .now .same
+              ∙ below-distinct
+                last
+                (left qs taken n)
+                (λ x a. let l = least-left a .1 in let m = turn .now .above _ (without-there taken-out) in omega arith)
+              ∙ without-distinct taken-out;
+        }
+      where
+        at : (i : ℕ) → i < n → (t : Bool) → eqb i k ≡ t → getD (set heads k next) i 0 ≡ getD (leftAt qs (takenOne taken k) i) 0 0
+        at i l true e =
+            subst
+            (λ j. getD (set heads k next) j 0 ≡ getD (leftAt qs (takenOne taken k) j) 0 0)
+            (sym (eqb-true i k e))
+            (getD-set-same heads k next 0 (omega (arith, turn .few, turn .now .heads-long))
+            ∙ here
+            ∙ ap
+              (λ t. getD (drop t (numbersIn (queueAt qs k))) 0 0)
+              (sym (getD-set-same taken k (getD taken k 0 + 1) 0 (omega (arith, turn .few, turn .now .taken-long)))))
+        at i l false e =
+            let d = eqb-false i k e in
+            getD-set-other heads k i next 0 d
+            ∙ turn .now .head i l
+            ∙ ap (λ t. getD (drop t (numbersIn (queueAt qs i))) 0 0) (sym (getD-set-other taken k i (getD taken k 0 + 1) 0 d))
+
+    -- the next head is the queue's next packet, or none if it has no more
+    pub merged-next :
+        getD heads k 0 ≢ last → getD taken k 0 + 1 < getD (qs .lengths) k 0
+        → Merged qs n (set heads k (getD (qs .packets) (16 * k + (getD taken k 0 + 1)) noPacket .number)) (takenOne taken k) (getD heads k 0)
+    merged-next other h = merged-turn _ other (sym (head-at qs k (getD taken k 0 + 1) h (omega (arith, turn .short k inside))))
+
+    pub merged-ended :
+        getD heads k 0 ≢ last → getD (qs .lengths) k 0 ≤ getD taken k 0 + 1 → Merged qs n (set heads k 0) (takenOne taken k) (getD heads k 0)
+    merged-ended other h = merged-turn 0 other (sym (no-head-at qs k (getD taken k 0 + 1) h))

@@ -25,6 +25,8 @@ fn first_heads(queues: Queues, n: usize) -> [u64; 64]
             let at = 16 * i;
             let p = queues.packets[at];
             heads[i] = p.number;
+        } else {
+            heads[i] = 0;
         }
     }
     heads
@@ -83,12 +85,13 @@ pub fn none_twice(queues: Queues, n: usize) -> bool
         last = head;
         let t = taken[k] + 1;
         taken[k] = t;
-        heads[k] = 0;
         let length = queues.lengths[k];
         if t < length {
             let at = 16 * k + t;
             let p = queues.packets[at];
             heads[k] = p.number;
+        } else {
+            heads[k] = 0;
         }
     }
 }

@@ -1,4 +1,8 @@
 use Prim.Native.Nat.{_≤_, _-_}
+use mathlib.Core.Path.{sym, _∙_}
+use mathlib.Core.Logic.{⊎-elim}
+use native.Mathlib.Omega.{arith}
+use lib.ListN.{getD}
 use borrow.Author.Needs.{needs}
 use Rattle.bus.proofs.Merged.{first-yes, first-no, Searched, searched-start, searched-yes, searched-no}
 use Rattle.bus.proofs.merging.least_head.Statement.{statement}
@@ -15,7 +19,7 @@ abbrev μ-loop : tie.MeasureT-loop
 
 -- src/merging.rt:53:5
 loop-holds : tie.Need-loop-holds Inv-loop μ-loop
-loop-holds c = ?
+loop-holds c = (search needs, searched-start (c .args .t1) (c .args .n))
 
 -- src/merging.rt:54:20
 mul-head : tie.Need-mul-head Inv-loop μ-loop
@@ -39,11 +43,23 @@ loop-less c = search needs
 
 -- src/merging.rt:53:5
 loop-again : tie.Need-loop-again Inv-loop μ-loop
-loop-again c = ?
+loop-again c =
+    let turn = c .before .before .before in
+    let head = getD (turn .before .args .t1) (turn .loop .i) 0 in
+    let test = c .before .comes-first .ensures in
+    let s = turn .loop .inv .1 in
+    (search needs,
+     ⊎-elim
+     (λ w. let f = first-yes head (turn .loop .least) (sym test ∙ w .0 .taken) in rw (w .1, w .2) (searched-yes s (omega arith) (f .0) (f .1)))
+     (λ w. rw (w .1, w .2) (searched-no s (first-no head (turn .loop .least) (sym test ∙ w .0 .left))))
+     (c .if1 .came))
 
 -- src/merging.rt:46:1
 returns : tie.Need-returns Inv-loop μ-loop
-returns c = ?
+returns c =
+    let s = c .before .loop .inv .1 in
+    (λ h. let f = s .found h in omega (arith, f .0, f .1),
+     λ i l h. let b = s .before i (omega arith) h in let f = s .found (s .inside (b .0)) in (s .inside (b .0), omega (arith, b .1, f .1)))
 
 pub least-head-spec : {M : Type 1} → statement M
 least-head-spec =

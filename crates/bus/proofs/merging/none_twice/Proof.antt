@@ -1,6 +1,9 @@
+use Prim.Native.Nat.{ℕ, _≤_, _<_, _+_}
+use mathlib.Core.Path.{_≡_, refl, sym, ap, _∙_}
+use native.Mathlib.Omega.{arith}
+use lib.ListN.{length, getD}
 use borrow.Author.Needs.{needs}
-use lib.ListN.{length}
-use Rattle.bus.proofs.Merged.{head-at, no-head-at, left, Merged, merged-start, merged-done, merged-twice, merged-less, merged-turn}
+use Rattle.bus.proofs.Merged.{left, Merged, Turn, merged-start, merged-done, taken-below, merged-less, merged-twice, merged-next, merged-ended}
 use Rattle.bus.proofs.merging.none_twice.Statement.{statement}
 use Rattle.bus.proofs.merging.none_twice.Tie as tie
 use Rattle.bus.proofs.merging.none_twice.Reads as reads
@@ -14,61 +17,76 @@ Inv-loop n queues heads₀ taken₀ last₀ heads taken last = Merged queues n h
 abbrev μ-loop : tie.MeasureT-loop
 μ-loop n queues heads₀ taken₀ last₀ heads taken last = length (left queues taken n)
 
--- src/merging.rt:70:21
+-- what is known once the least head is found
+turn :
+    (c : tie.After-least-head Inv-loop μ-loop)
+    → Turn (c .before .before .before .args .t1) (c .before .before .before .args .n) (c .before .loop .heads) (c .before .loop .taken) (c .before .loop .last) (c .least-head .result)
+turn c =
+    let start = c .before .before .before in
+    record {
+      few = start .pre .0;
+      short = start .pre .1 .0;
+      rises = start .pre .1 .1;
+      now = c .before .loop .inv;
+      there = c .least-head .ensures .0;
+      least = c .least-head .ensures .1;
+    }
+
+-- the next head of the queue is one of its sixteen places
+place-in : (c : tie.Then3 Inv-loop μ-loop) → getD (c .before .before .before .before .before .loop .taken) (c .before .before .before .before .least-head .result) 0 + 1 < 16
+place-in c =
+    let at = c .before .before in
+    omega (arith, turn (at .before .before) .short _ (at .before .if1 .left))
+
+-- src/merging.rt:71:21
 first-heads-requires : tie.Need-first-heads-requires Inv-loop μ-loop
 first-heads-requires c κs = search needs
 
--- src/merging.rt:73:5
+-- src/merging.rt:74:5
 loop-holds : tie.Need-loop-holds Inv-loop μ-loop
-loop-holds c = ?
+loop-holds c =
+    let start = c .before in
+    merged-start (start .args .t1) (start .args .n) (c .first-heads .result) (start .pre .1 .1) (c .first-heads .ok .1 .0 .1) (c .first-heads .ensures)
 
--- src/merging.rt:74:13
+-- src/merging.rt:75:13
 least-head-requires : tie.Need-least-head-requires Inv-loop μ-loop
 least-head-requires c κs = search needs
 
--- src/merging.rt:76:13
+-- src/merging.rt:77:13
 returns : tie.Need-returns Inv-loop μ-loop
-returns c = ?
+returns c = sym (merged-done (turn (c .before)) (c .if1 .taken))
 
--- src/merging.rt:78:20
+-- src/merging.rt:79:20
 mul-head : tie.Need-mul-head Inv-loop μ-loop
 mul-head c = search needs
 
--- src/merging.rt:78:20
+-- src/merging.rt:79:20
 array-read-head : tie.Need-array-read-head Inv-loop μ-loop
 array-read-head c = search needs
 
--- src/merging.rt:80:13
+-- src/merging.rt:81:13
 returns-2 : tie.Need-returns-2 Inv-loop μ-loop
-returns-2 c = ?
+returns-2 c = sym (merged-twice (turn (c .before .before)) (c .before .if1 .left) (c .if2 .taken))
 
--- src/merging.rt:83:17
+-- src/merging.rt:84:17
 mul-t : tie.Need-mul-t Inv-loop μ-loop
 mul-t c = search needs
 
--- src/merging.rt:83:17
+-- src/merging.rt:84:17
 array-read-t : tie.Need-array-read-t Inv-loop μ-loop
 array-read-t c = search needs
 
--- src/merging.rt:83:17
+-- src/merging.rt:84:17
 add-t : tie.Need-add-t Inv-loop μ-loop
-add-t c = ?
+add-t c = omega (arith, taken-below (turn (c .before .before)) (c .before .if1 .left))
 
--- src/merging.rt:84:9
+-- src/merging.rt:85:9
 mul-taken : tie.Need-mul-taken Inv-loop μ-loop
 mul-taken c = search needs
 
--- src/merging.rt:84:9
+-- src/merging.rt:85:9
 array-write-taken : tie.Need-array-write-taken Inv-loop μ-loop
 array-write-taken c = search needs
-
--- src/merging.rt:85:9
-mul-heads : tie.Need-mul-heads Inv-loop μ-loop
-mul-heads c = search needs
-
--- src/merging.rt:85:9
-array-write-heads : tie.Need-array-write-heads Inv-loop μ-loop
-array-write-heads c = search needs
 
 -- src/merging.rt:86:22
 mul-length : tie.Need-mul-length Inv-loop μ-loop
@@ -84,39 +102,51 @@ mul-at c = search needs
 
 -- src/merging.rt:88:22
 add-at : tie.Need-add-at Inv-loop μ-loop
-add-at c = ?
+add-at c = omega (arith, place-in c)
 
 -- src/merging.rt:89:21
 mul-p : tie.Need-mul-p Inv-loop μ-loop
-mul-p c = search needs
+mul-p c = omega (arith, place-in c)
 
 -- src/merging.rt:89:21
 element-copy-out-p : tie.Need-element-copy-out-p Inv-loop μ-loop
-element-copy-out-p c = ?
+element-copy-out-p c = omega (arith, place-in c)
 
 -- src/merging.rt:90:13
+mul-heads : tie.Need-mul-heads Inv-loop μ-loop
+mul-heads c = search needs
+
+-- src/merging.rt:90:13
+array-write-heads : tie.Need-array-write-heads Inv-loop μ-loop
+array-write-heads c = search needs
+
+-- src/merging.rt:74:5
+loop-less : tie.Need-loop-less Inv-loop μ-loop
+loop-less c = let at = c .before .before .before in merged-less (turn (at .before .before)) (at .before .if1 .left)
+
+-- src/merging.rt:74:5
+loop-again : tie.Need-loop-again Inv-loop μ-loop
+loop-again c =
+    let at = c .before .before .before in
+    merged-next (turn (at .before .before)) (at .before .if1 .left) (at .if2 .left) (c .before .if3 .taken)
+
+-- src/merging.rt:92:13
 mul-heads-2 : tie.Need-mul-heads-2 Inv-loop μ-loop
 mul-heads-2 c = search needs
 
--- src/merging.rt:90:13
+-- src/merging.rt:92:13
 array-write-heads-2 : tie.Need-array-write-heads-2 Inv-loop μ-loop
 array-write-heads-2 c = search needs
 
--- src/merging.rt:73:5
-loop-less : tie.Need-loop-less Inv-loop μ-loop
-loop-less c = ?
-
--- src/merging.rt:73:5
-loop-again : tie.Need-loop-again Inv-loop μ-loop
-loop-again c = ?
-
--- src/merging.rt:73:5
+-- src/merging.rt:74:5
 loop-less-2 : tie.Need-loop-less-2 Inv-loop μ-loop
-loop-less-2 c = ?
+loop-less-2 c = let at = c .before .before in merged-less (turn (at .before .before)) (at .before .if1 .left)
 
--- src/merging.rt:73:5
+-- src/merging.rt:74:5
 loop-again-2 : tie.Need-loop-again-2 Inv-loop μ-loop
-loop-again-2 c = ?
+loop-again-2 c =
+    let at = c .before .before in
+    merged-ended (turn (at .before .before)) (at .before .if1 .left) (at .if2 .left) (c .if3 .left)
 
 pub none-twice-spec : {M : Type 1} → statement M
 none-twice-spec =
@@ -136,17 +166,17 @@ none-twice-spec =
     add-t
     mul-taken
     array-write-taken
-    mul-heads
-    array-write-heads
     mul-length
     element-copy-out-length
     mul-at
     add-at
     mul-p
     element-copy-out-p
-    mul-heads-2
-    array-write-heads-2
+    mul-heads
+    array-write-heads
     loop-less
     loop-again
+    mul-heads-2
+    array-write-heads-2
     loop-less-2
     loop-again-2)
