@@ -17,7 +17,7 @@ use borrow.Author.Tests.{ltb-true, ltb-false, eqb-true, eqb-false, eq-eqb, ne-eq
 use Rattle.rules.specs.Lists.{has, distinct, Among, at-head, in-tail, All}
 use Rattle.rules.specs.Bus.{numbersIn}
 use Rattle.rules.specs.Standing.{Rising}
-use Rattle.rules.proofs.Laws.{among-cases, among-none, among-left, among-right, among-append, clash}
+use Rattle.rules.proofs.Laws.{among-cases, among-none, among-append, clash}
 use Rattle.rules.proofs.Tests.{Whether, holds, fails, equal, is-among}
 use Rattle.bus.specs.State.{Queues, Packet, noPacket, queueAt}
 use Rattle.bus.specs.Parts.{numbersFrom}
@@ -29,6 +29,7 @@ data Without (m : ℕ) : List ℕ → List ℕ → Type 0 where
   head-gone : {xs : List ℕ} → Without m (m ∷ xs) xs
   later-gone : {x : ℕ} {xs ys : List ℕ} → Without m xs ys → Without m (x ∷ xs) (x ∷ ys)
 
+-- the same numbers in front of both
 without-left : {m : ℕ} {xs ys : List ℕ} (zs : List ℕ) → Without m xs ys → Without m (zs ++ xs) (zs ++ ys)
 without-left [] w = w
 without-left (z ∷ zs) w = later-gone (without-left zs w)
@@ -95,7 +96,7 @@ has-false n ns never = go (is-among (equal n) ns)
     go (holds i) = absurd (never i)
     go (fails k) = refl
 
--- a number below others
+-- a number below all others is not one of them
 below-distinct : (n : ℕ) (ns : List ℕ) → All (λ x. n < x) ns → distinct (n ∷ ns) ≡ distinct ns
 below-distinct n ns h = ap (λ t. not t && distinct ns) (has-false n ns (λ i. let l = h n i in omega arith))
 
@@ -136,7 +137,9 @@ joined-without :
 joined-without f g j i zero l h e same = absurd (omega arith)
 joined-without {m} f g j i (suc k) l h e same = go (eqb j i) refl (λ n. joined-without f g j (suc i) k n (omega arith) e same)
   where
-    go : (t : Bool) → eqb j i ≡ t → (suc i ≤ j → Without m (joined f (suc i) k) (joined g (suc i) k)) → Without m (joined f i (suc k)) (joined g i (suc k))
+    go :
+        (t : Bool) → eqb j i ≡ t → (suc i ≤ j → Without m (joined f (suc i) k) (joined g (suc i) k))
+        → Without m (joined f i (suc k)) (joined g i (suc k))
     go true d more =
         let p = eqb-true j i d in
         let front : f i ≡ m ∷ g i = subst (λ n. f n ≡ m ∷ g n) p e in
@@ -144,7 +147,10 @@ joined-without {m} f g j i (suc k) l h e same = go (eqb j i) refl (λ n. joined-
         subst (λ ns. Without m ns (joined g i (suc k))) (sym (ap₂ _++_ front back)) head-gone
     go false d more =
         let apart = eqb-false j i d in
-        subst (λ ns. Without m (ns ++ joined f (suc i) k) (joined g i (suc k))) (sym (same i (λ q. apart (sym q)))) (without-left (g i) (more (omega arith)))
+        subst
+        (λ ns. Without m (ns ++ joined f (suc i) k) (joined g i (suc k)))
+        (sym (same i (λ q. apart (sym q))))
+        (without-left (g i) (more (omega arith)))
 
 -- ---- rising queues
 
@@ -187,12 +193,13 @@ head-at qs i t h l =
     getD-drop t (numbersIn (queueAt qs i)) 0 0
     ∙ List·getD-map (λ p. p .number) (queueAt qs i) (t + 0) noPacket
     ∙ ap
-      (λ (p : Packet). p .number)
-      (ap (λ j. getD (queueAt qs i) j noPacket) (add-zero t)
-      ∙ getD-take (getD (qs .lengths) i 0) (take 16 (drop (16 * i) (qs .packets))) t noPacket h
-      ∙ getD-take 16 (drop (16 * i) (qs .packets)) t noPacket l
-      ∙ getD-drop (16 * i) (qs .packets) t noPacket)
+    (λ (p : Packet). p .number)
+    (ap (λ j. getD (queueAt qs i) j noPacket) (add-zero t)
+    ∙ getD-take (getD (qs .lengths) i 0) (take 16 (drop (16 * i) (qs .packets))) t noPacket h
+    ∙ getD-take 16 (drop (16 * i) (qs .packets)) t noPacket l
+    ∙ getD-drop (16 * i) (qs .packets) t noPacket)
 
+-- the head of the whole queue, and no head where all are taken
 pub first-head-at :
     (qs : Queues) (i : ℕ) → 0 < getD (qs .lengths) i 0 → getD (numbersIn (queueAt qs i)) 0 0 ≡ getD (qs .packets) (16 * i) noPacket .number
 first-head-at qs i h = head-at qs i 0 h (omega arith) ∙ ap (λ j. getD (qs .packets) j noPacket .number) (add-zero (16 * i))
@@ -202,15 +209,16 @@ no-head-at qs i t h =
     ap
     (λ ns. getD ns 0 0)
     (drop-of-length-le
-     (numbersIn (queueAt qs i))
-     {i = t}
-     (omega (arith, length-map (queueAt qs i) (λ p. p .number), length-take (getD (qs .lengths) i 0) (take 16 (drop (16 * i) (qs .packets))))))
+    (numbersIn (queueAt qs i))
+    {i = t}
+    (omega (arith, length-map (queueAt qs i) (λ p. p .number), length-take (getD (qs .lengths) i 0) (take 16 (drop (16 * i) (qs .packets))))))
 
 -- the heads of the queues before i are known: what the loop that reads them keeps
 pub record HeadsKnown (qs : Queues) (i : ℕ) (heads : List ℕ) : Type 0 where
   pub long : length heads ≡ 64
   pub head : (j : ℕ) → j < i → getD heads j 0 ≡ getD (numbersIn (queueAt qs j)) 0 0
 
+-- one head more
 pub one-more-known :
     (qs : Queues) (i : ℕ) (heads : List ℕ) {v : ℕ} {heads′ : List ℕ} → HeadsKnown qs i heads → i < 64 → heads′ ≡ set heads i v
     → v ≡ getD (numbersIn (queueAt qs i)) 0 0 → HeadsKnown qs (i + 1) heads′
@@ -308,7 +316,7 @@ pub record Merged (qs : Queues) (n : ℕ) (heads taken : List ℕ) (last : ℕ) 
   pub above : All (λ x. last ≤ x) (left qs taken n)
   pub same : distinct (numbersFrom qs 0 n) ≡ distinct (last ∷ left qs taken n)
 
--- What is known in a turn of the loop, with k the place of the least head, or past the places of stations if there is none.
+-- What is known in a turn of the loop, where k is the place of the least head, and not below n if there is none.
 pub record Turn (qs : Queues) (n : ℕ) (heads taken : List ℕ) (last k : ℕ) : Type 0 where
   pub few : n ≤ 64
   pub short : (i : ℕ) → i < n → getD (qs .lengths) i 0 ≤ 16
@@ -389,9 +397,9 @@ module _ {qs : Queues} {n : ℕ} {heads taken : List ℕ} {last k : ℕ} (turn :
             let there = turn .there inside in
             head-there (getD taken k 0) (numbersIn (queueAt qs k)) (omega arith)
             ∙ ap₂
-              (λ m t. m ∷ drop t (numbersIn (queueAt qs k)))
-              (sym e)
-              (sym (getD-set-same taken k (getD taken k 0 + 1) 0 (omega (arith, turn .few, turn .now .taken-long)) ∙ add-one (getD taken k 0)))
+            (λ m t. m ∷ drop t (numbersIn (queueAt qs k)))
+            (sym e)
+            (sym (getD-set-same taken k (getD taken k 0 + 1) 0 (omega (arith, turn .few, turn .now .taken-long)) ∙ add-one (getD taken k 0)))
 
         others : (i : ℕ) → i ≢ k → leftAt qs taken i ≡ leftAt qs (takenOne taken k) i
         others i d = ap (λ t. drop t (numbersIn (queueAt qs i))) (sym (getD-set-other taken k i (getD taken k 0 + 1) 0 d))
@@ -404,8 +412,8 @@ module _ {qs : Queues} {n : ℕ} {heads taken : List ℕ} {last k : ℕ} (turn :
     merged-twice e =
         turn .now .same
         ∙ ap
-          (λ t. not t && distinct (left qs taken n))
-          (has-true last (left qs taken n) (subst (λ m. Among m (left qs taken n)) e (without-there taken-out)))
+        (λ t. not t && distinct (left qs taken n))
+        (has-true last (left qs taken n) (subst (λ m. Among m (left qs taken n)) e (without-there taken-out)))
 
     -- another one is taken, and `next` is the queue's next head
     merged-turn :
@@ -420,9 +428,9 @@ module _ {qs : Queues} {n : ℕ} {heads taken : List ℕ} {last k : ℕ} (turn :
           same =
               turn .now .same
               ∙ below-distinct
-                last
-                (left qs taken n)
-                (λ x a. let l = least-left a .1 in let m = turn .now .above _ (without-there taken-out) in omega arith)
+              last
+              (left qs taken n)
+              (λ x a. let l = least-left a .1 in let m = turn .now .above _ (without-there taken-out) in omega arith)
               ∙ without-distinct taken-out;
         }
       where
@@ -434,8 +442,8 @@ module _ {qs : Queues} {n : ℕ} {heads taken : List ℕ} {last k : ℕ} (turn :
             (getD-set-same heads k next 0 (omega (arith, turn .few, turn .now .heads-long))
             ∙ here
             ∙ ap
-              (λ t. getD (drop t (numbersIn (queueAt qs k))) 0 0)
-              (sym (getD-set-same taken k (getD taken k 0 + 1) 0 (omega (arith, turn .few, turn .now .taken-long)))))
+            (λ t. getD (drop t (numbersIn (queueAt qs k))) 0 0)
+            (sym (getD-set-same taken k (getD taken k 0 + 1) 0 (omega (arith, turn .few, turn .now .taken-long)))))
         at i l false e =
             let d = eqb-false i k e in
             getD-set-other heads k i next 0 d

@@ -1,6 +1,6 @@
 // 'none twice over all queues': each queue's numbers rise, so the queues' heads are merged, and a number that stands twice comes twice
-// in a row. A walk over the N heads, with two comparisons a head and a third up to the first that is not 0, finds the packet to take
-// next: for a full state, 64 queues of 16 packets, 1,025 walks and about 131,000 comparisons. No packet is compared with each other one.
+// in a row. A walk over the N heads finds the packet to take next: two comparisons a head, and a third up to the first that is there.
+// A full state, 64 queues of 16 packets, takes 1,025 walks and at most 168,000 comparisons, beside those of the loops' counters.
 use crate::Queues;
 ghost use Prim.Native.Nat.{ℕ, _<_, _≤_};
 ghost use mathlib.Core.Path.{_≡_};
@@ -32,7 +32,7 @@ fn first_heads(queues: Queues, n: usize) -> [u64; 64]
     heads
 }
 
-// Whether a head is below the least so far, if there is one, and is there itself.
+// Whether there is a head, and it is below the least so far or there is none so far; 0 stands for none.
 fn comes_first(head: u64, least: u64) -> bool
     ensures { λ r. ⌜ r ≡ ((ltb head least || eqb least 0) && not (eqb head 0)) ⌝ }
 {
@@ -63,7 +63,8 @@ fn least_head(heads: [u64; 64], n: usize) -> usize
     at
 }
 
-// Whether no packet's number stands twice in the queues of the first n stations.
+// Whether no packet's number stands twice in the queues of the first n stations. So many of each queue are taken, the heads are those
+// of what is left of each queue, 0 where nothing is, and the number taken last is kept.
 pub fn none_twice(queues: Queues, n: usize) -> bool
     requires { ⌜ n ≤ 64 ⌝ }
     requires { ⌜ ((i : ℕ) → i < n → getD (queues .lengths) i 0 ≤ 16) ⌝ }

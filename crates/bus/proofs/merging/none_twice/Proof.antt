@@ -1,15 +1,13 @@
-use Prim.Native.Nat.{ℕ, _≤_, _<_, _+_}
-use mathlib.Core.Path.{_≡_, refl, sym, ap, _∙_}
+-- `none_twice` meets its contract: the loop keeps `Merged` (proofs/Merged.antt), and each turn takes one number more out of the queues,
+-- so that fewer are left. Assumes nothing.
+use Prim.Native.Nat.{_<_, _+_}
+use mathlib.Core.Path.{sym}
 use native.Mathlib.Omega.{arith}
 use lib.ListN.{length, getD}
 use borrow.Author.Needs.{needs}
 use Rattle.bus.proofs.Merged.{left, Merged, Turn, merged-start, merged-done, taken-below, merged-less, merged-twice, merged-next, merged-ended}
 use Rattle.bus.proofs.merging.none_twice.Statement.{statement}
 use Rattle.bus.proofs.merging.none_twice.Tie as tie
-use Rattle.bus.proofs.merging.none_twice.Reads as reads
-use Rattle.bus.proofs.merging.none_twice.Lts as lts
-use Rattle.bus.proofs.merging.first_heads.Reads as first-heads-reads
-use Rattle.bus.proofs.merging.least_head.Reads as least-head-reads
 
 abbrev Inv-loop : tie.InvT-loop
 Inv-loop n queues heads₀ taken₀ last₀ heads taken last = Merged queues n heads taken last
@@ -20,7 +18,13 @@ abbrev μ-loop : tie.MeasureT-loop
 -- what is known once the least head is found
 turn :
     (c : tie.After-least-head Inv-loop μ-loop)
-    → Turn (c .before .before .before .args .t1) (c .before .before .before .args .n) (c .before .loop .heads) (c .before .loop .taken) (c .before .loop .last) (c .least-head .result)
+    → Turn
+    (c .before .before .before .args .t1)
+    (c .before .before .before .args .n)
+    (c .before .loop .heads)
+    (c .before .loop .taken)
+    (c .before .loop .last)
+    (c .least-head .result)
 turn c =
     let start = c .before .before .before in
     record {
@@ -32,117 +36,93 @@ turn c =
       least = c .least-head .ensures .1;
     }
 
--- the next head of the queue is one of its sixteen places
-place-in : (c : tie.Then3 Inv-loop μ-loop) → getD (c .before .before .before .before .before .loop .taken) (c .before .before .before .before .least-head .result) 0 + 1 < 16
+-- the next head of the queue is at one of its sixteen places
+place-in :
+    (c : tie.Then3 Inv-loop μ-loop)
+    → getD (c .before .before .before .before .before .loop .taken) (c .before .before .before .before .least-head .result) 0 + 1 < 16
 place-in c =
     let at = c .before .before in
     omega (arith, turn (at .before .before) .short _ (at .before .if1 .left))
 
--- src/merging.rt:71:21
 first-heads-requires : tie.Need-first-heads-requires Inv-loop μ-loop
 first-heads-requires c κs = search needs
 
--- src/merging.rt:74:5
 loop-holds : tie.Need-loop-holds Inv-loop μ-loop
 loop-holds c =
     let start = c .before in
     merged-start (start .args .t1) (start .args .n) (c .first-heads .result) (start .pre .1 .1) (c .first-heads .ok .1 .0 .1) (c .first-heads .ensures)
 
--- src/merging.rt:75:13
 least-head-requires : tie.Need-least-head-requires Inv-loop μ-loop
 least-head-requires c κs = search needs
 
--- src/merging.rt:77:13
 returns : tie.Need-returns Inv-loop μ-loop
 returns c = sym (merged-done (turn (c .before)) (c .if1 .taken))
 
--- src/merging.rt:79:20
 mul-head : tie.Need-mul-head Inv-loop μ-loop
 mul-head c = search needs
 
--- src/merging.rt:79:20
 array-read-head : tie.Need-array-read-head Inv-loop μ-loop
 array-read-head c = search needs
 
--- src/merging.rt:81:13
 returns-2 : tie.Need-returns-2 Inv-loop μ-loop
 returns-2 c = sym (merged-twice (turn (c .before .before)) (c .before .if1 .left) (c .if2 .taken))
 
--- src/merging.rt:84:17
 mul-t : tie.Need-mul-t Inv-loop μ-loop
 mul-t c = search needs
 
--- src/merging.rt:84:17
 array-read-t : tie.Need-array-read-t Inv-loop μ-loop
 array-read-t c = search needs
 
--- src/merging.rt:84:17
 add-t : tie.Need-add-t Inv-loop μ-loop
 add-t c = omega (arith, taken-below (turn (c .before .before)) (c .before .if1 .left))
 
--- src/merging.rt:85:9
 mul-taken : tie.Need-mul-taken Inv-loop μ-loop
 mul-taken c = search needs
 
--- src/merging.rt:85:9
 array-write-taken : tie.Need-array-write-taken Inv-loop μ-loop
 array-write-taken c = search needs
 
--- src/merging.rt:86:22
 mul-length : tie.Need-mul-length Inv-loop μ-loop
 mul-length c = search needs
 
--- src/merging.rt:86:22
 element-copy-out-length : tie.Need-element-copy-out-length Inv-loop μ-loop
 element-copy-out-length c = search needs
 
--- src/merging.rt:88:22
 mul-at : tie.Need-mul-at Inv-loop μ-loop
 mul-at c = search needs
 
--- src/merging.rt:88:22
 add-at : tie.Need-add-at Inv-loop μ-loop
 add-at c = omega (arith, place-in c)
 
--- src/merging.rt:89:21
 mul-p : tie.Need-mul-p Inv-loop μ-loop
 mul-p c = omega (arith, place-in c)
 
--- src/merging.rt:89:21
 element-copy-out-p : tie.Need-element-copy-out-p Inv-loop μ-loop
 element-copy-out-p c = omega (arith, place-in c)
 
--- src/merging.rt:90:13
 mul-heads : tie.Need-mul-heads Inv-loop μ-loop
 mul-heads c = search needs
 
--- src/merging.rt:90:13
 array-write-heads : tie.Need-array-write-heads Inv-loop μ-loop
 array-write-heads c = search needs
 
--- src/merging.rt:74:5
 loop-less : tie.Need-loop-less Inv-loop μ-loop
 loop-less c = let at = c .before .before .before in merged-less (turn (at .before .before)) (at .before .if1 .left)
 
--- src/merging.rt:74:5
 loop-again : tie.Need-loop-again Inv-loop μ-loop
 loop-again c =
     let at = c .before .before .before in
     merged-next (turn (at .before .before)) (at .before .if1 .left) (at .if2 .left) (c .before .if3 .taken)
 
--- src/merging.rt:92:13
 mul-heads-2 : tie.Need-mul-heads-2 Inv-loop μ-loop
 mul-heads-2 c = search needs
 
--- src/merging.rt:92:13
 array-write-heads-2 : tie.Need-array-write-heads-2 Inv-loop μ-loop
 array-write-heads-2 c = search needs
 
--- src/merging.rt:74:5
 loop-less-2 : tie.Need-loop-less-2 Inv-loop μ-loop
 loop-less-2 c = let at = c .before .before in merged-less (turn (at .before .before)) (at .before .if1 .left)
 
--- src/merging.rt:74:5
 loop-again-2 : tie.Need-loop-again-2 Inv-loop μ-loop
 loop-again-2 c =
     let at = c .before .before in
