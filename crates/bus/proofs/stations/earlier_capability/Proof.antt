@@ -1,3 +1,14 @@
+use Prim.Native.Nat.{_≤_, _-_}
+use mathlib.Core.Path.{_≡_, refl, sym, ap, _∙_}
+use mathlib.Core.List.{map}
+use lib.ListN.{length, take}
+use lib.Seq.{slice}
+use borrow.Author.Needs.{needs}
+use mathlib.Core.Bool.{true, false}
+use native.Mathlib.Omega.{arith}
+use Rattle.bus.proofs.SettingUp.{stations-count, earlier-turn, earlier-end}
+use Rattle.rules.specs.Lists.{has}
+use Rattle.bus.specs.Coded.{askedOf}
 use Rattle.bus.proofs.stations.earlier_capability.Statement.{statement}
 use Rattle.bus.proofs.stations.earlier_capability.Tie as tie
 use Rattle.bus.proofs.stations.earlier_capability.Reads as reads
@@ -5,54 +16,70 @@ use Rattle.bus.proofs.stations.earlier_capability.Lts as lts
 use Rattle.bus.proofs.sorts.same_capability.Reads as same-capability-reads
 
 abbrev Inv-loop : tie.InvT-loop
-Inv-loop i stations capability e₀ e = ?
+Inv-loop i stations capability e₀ e =
+    (e ≤ i) × (has (capability .0) (map (λ a. a .capability) (map askedOf (take i stations))) ≡ has (capability .0) (map (λ a. a .capability) (map askedOf (slice e i stations))))
 
 abbrev μ-loop : tie.MeasureT-loop
-μ-loop i stations capability e₀ e = ?
+μ-loop i stations capability e₀ e = i - e
 
--- src/stations.rt:125:13
+-- src/stations.rt:109:13
 mul-s : tie.Need-mul-s Inv-loop μ-loop
-mul-s c = ?
+mul-s c = search needs
 
--- src/stations.rt:125:13
+-- src/stations.rt:109:13
 array-copy-out-s : tie.Need-array-copy-out-s Inv-loop μ-loop
-array-copy-out-s c = ?
+array-copy-out-s c = search needs
 
--- src/stations.rt:127:5
+-- src/stations.rt:111:5
 loop-holds : tie.Need-loop-holds Inv-loop μ-loop
-loop-holds c = ?
+loop-holds c = (search needs, refl)
 
--- src/stations.rt:128:17
+-- src/stations.rt:112:17
 mul-t : tie.Need-mul-t Inv-loop μ-loop
-mul-t c = ?
+mul-t c = search needs
 
--- src/stations.rt:128:17
+-- src/stations.rt:112:17
 array-copy-out-t : tie.Need-array-copy-out-t Inv-loop μ-loop
-array-copy-out-t c = ?
+array-copy-out-t c = search needs
 
--- src/stations.rt:129:12
+-- src/stations.rt:113:12
 same-capability-requires : tie.Need-same-capability-requires Inv-loop μ-loop
-same-capability-requires c κs = ?
+same-capability-requires c κs = search needs
 
--- src/stations.rt:130:13
+-- src/stations.rt:114:13
 returns : tie.Need-returns Inv-loop μ-loop
-returns c = ?
+returns c =
+    let at = c .before .before .before .before in
+    let start = at .before .before .before in
+    sym
+    (at .loop .inv .1
+    ∙ earlier-turn (λ a. a .capability) (start .args .t1) _ _ _ true (stations-count (start .args .t1) _ (start .good .0)) (omega arith) (start .pre)
+    (sym (c .before .same-capability .ensures) ∙ c .if1 .taken))
 
--- src/stations.rt:127:9
+-- src/stations.rt:111:9
 add-e : tie.Need-add-e Inv-loop μ-loop
-add-e c = ?
+add-e c = search needs
 
--- src/stations.rt:127:5
+-- src/stations.rt:111:5
 loop-less : tie.Need-loop-less Inv-loop μ-loop
-loop-less c = ?
+loop-less c = search needs
 
--- src/stations.rt:127:5
+-- src/stations.rt:111:5
 loop-again : tie.Need-loop-again Inv-loop μ-loop
-loop-again c = ?
+loop-again c =
+    let at = c .before .before .before .before in
+    let start = at .before .before .before in (
+      search needs,
+      at .loop .inv .1
+      ∙ earlier-turn (λ a. a .capability) (start .args .t1) _ _ _ false (stations-count (start .args .t1) _ (start .good .0)) (omega arith) (start .pre)
+      (sym (c .before .same-capability .ensures) ∙ c .if1 .left))
 
--- src/stations.rt:121:1
+-- src/stations.rt:105:1
 returns-2 : tie.Need-returns-2 Inv-loop μ-loop
-returns-2 c = ?
+returns-2 c =
+    let at = c .before in
+    let start = at .before .before .before in
+    sym (at .loop .inv .1 ∙ earlier-end (λ a. a .capability) (start .args .t1) _ _ _ (at .loop .inv .0) (omega arith))
 
 pub earlier-capability-spec : {M : Type 1} → statement M
 earlier-capability-spec =
