@@ -3,18 +3,20 @@
 use Prim.Native.Nat.{ℕ, suc, _+_, _-_, _≤_, _<_}
 use mathlib.Core.Path.{_≡_, refl, sym, ap, ap₂, _∙_, subst}
 use mathlib.Core.Bool.{Bool, true, false, not, _&&_, _||_, cond}
-use mathlib.Core.List.{List, [], _∷_, _++_, map}
+use mathlib.Core.List.{List, [], _∷_, _++_, map, map-append}
+use native.Mathlib.Numerals.{add-one}
 use native.Mathlib.Omega.{arith}
-use lib.Dec.{leb, ltb, eqb}
-use borrow.Author.Tests.{leb-true, leb-false, le-leb, lt-leb, lt-ltb, le-ltb, eq-eqb, ne-eqb}
 use mir.Val.{Val}
 use denote.Laws.{Is}
 use denote.Array.{Array}
-use native.Mathlib.Numerals.{add-one}
+use lib.Dec.{leb, ltb, eqb}
 use lib.ListN.{length, getD, take, drop}
-use lib.Seq.{slice, slice-cons, slice-empty}
-use Rattle.rules.specs.Lists.{has, outside, firstOf, verdict}
-use Rattle.rules.specs.SetUp.{Asked}
+use lib.Seq.{slice, slice-cons, slice-empty, take-suc}
+use borrow.Author.Tests.{leb-true, leb-false, ltb-true, le-leb, lt-leb, lt-ltb, le-ltb, eq-eqb, ne-eqb}
+use Rattle.rules.specs.Lists.{each-of, has, outside, firstOf, verdict}
+use Rattle.rules.specs.declared.Verdict.{Verdict}
+use Rattle.rules.specs.SetUp.{Asked, Request, fine, stationTests, rowTests}
+use Rattle.rules.proofs.Laws.{and-true}
 use Rattle.bus.specs.State.{Listed, nobody}
 use Rattle.bus.specs.Coded.{askedOf}
 use Rattle.bus.proofs.Listed.{the-row}
@@ -47,7 +49,66 @@ earlier-turn f stations n e i t count h l same =
     ap (λ xs. has n (map f (map askedOf xs))) (slice-cons e i stations nobody h (omega arith))
     ∙ ap₂ (λ s k. s || has n (map f (map askedOf (slice k i stations)))) same (sym (add-one e))
 
+-- and its end
 pub earlier-end : (f : Asked → ℕ) (stations : List Listed) (n e i : ℕ) → e ≤ i → i ≤ e → has n (map f (map askedOf (slice e i stations))) ≡ false
 earlier-end f stations n e i h l =
     let s : e ≡ i = omega arith in
     ap (λ k. has n (map f (map askedOf (slice k i stations)))) s ∙ ap (λ xs. has n (map f (map askedOf xs))) (slice-empty i stations)
+
+-- ---- tests in turn
+
+-- A test that holds gives its verdict, and one that fails leaves it to the next; s is what the code answers to the test b.
+pub held : {a v : Verdict} {s b : Bool} (rest : Verdict) → s ≡ b → s ≡ true → a ≡ v → a ≡ verdict b v rest
+held {a} {v} rest p h e = e ∙ ap (λ t. verdict t v rest) (sym h ∙ p)
+
+pub past : {a rest : Verdict} {s b : Bool} (v : Verdict) → s ≡ b → s ≡ false → a ≡ rest → a ≡ verdict b v rest
+past {a} {rest} v p h e = e ∙ ap (λ t. verdict t v rest) (sym h ∙ p)
+
+-- Where every refusal has a number from 1 on: further tests decide if the first ones give 0.
+pub in-turn :
+    (ts us : List (Verdict × Bool)) → each-of (λ t. ltb 0 (t .0 .refusal)) ts ≡ true
+    → firstOf fine (ts ++ us) ≡ cond (eqb (firstOf fine ts .refusal) 0) (firstOf fine us) (firstOf fine ts)
+in-turn [] us k = refl
+in-turn (t ∷ ts) us k =
+    let both = and-true (ltb 0 (t .0 .refusal)) (each-of (λ s. ltb 0 (s .0 .refusal)) ts) k in
+    go (t .1) (ltb-true 0 (t .0 .refusal) (both .0)) (in-turn ts us (both .1))
+  where
+    go :
+        (b : Bool) → 0 < t .0 .refusal
+        → firstOf fine (ts ++ us) ≡ cond (eqb (firstOf fine ts .refusal) 0) (firstOf fine us) (firstOf fine ts)
+        → verdict b (t .0) (firstOf fine (ts ++ us))
+        ≡ cond (eqb (verdict b (t .0) (firstOf fine ts) .refusal) 0) (firstOf fine us) (verdict b (t .0) (firstOf fine ts))
+    go true h i = simp (ne-eqb (t .0 .refusal) 0 (λ e. omega arith))
+    go false h i = i
+
+-- one turn of the stations' tests, from station i to n; v is the verdict on station i
+pub faulty-turn :
+    (r : Request) (stations : List Listed) (i n : ℕ) (v : Verdict) (t : Bool) → length stations ≡ 64 → i < n → n ≤ 64
+    → v ≡ firstOf fine (stationTests r i (map askedOf (take i stations)) (askedOf (getD stations i nobody))) → eqb (v .refusal) 0 ≡ t
+    → firstOf fine (rowTests r i (map askedOf (take i stations)) (map askedOf (slice i n stations)))
+    ≡ cond t (firstOf fine (rowTests r (i + 1) (map askedOf (take (i + 1) stations)) (map askedOf (slice (i + 1) n stations)))) v
+faulty-turn r stations i n v t count h l e same =
+    ap (λ xs. firstOf fine (rowTests r i (map askedOf (take i stations)) (map askedOf xs))) (slice-cons i n stations nobody h (omega arith))
+    ∙ in-turn tests (rowTests r (suc i) (map askedOf (take i stations) ++ (askedOf (getD stations i nobody) ∷ [])) (map askedOf (slice (suc i) n stations))) refl
+    ∙ ap (λ earlier. cond (eqb (firstOf fine tests .refusal) 0) (firstOf fine (rowTests r (suc i) earlier (map askedOf (slice (suc i) n stations)))) (firstOf fine tests)) passed
+    ∙ ap (λ k. cond (eqb (firstOf fine tests .refusal) 0) (later k) (firstOf fine tests)) (sym (add-one i))
+    ∙ ap (λ w. cond (eqb (w .refusal) 0) (later (i + 1)) w) (sym e)
+    ∙ ap (λ b. cond b (later (i + 1)) v) same
+  where
+    tests : List (Verdict × Bool)
+    tests = stationTests r i (map askedOf (take i stations)) (askedOf (getD stations i nobody))
+
+    later : ℕ → Verdict
+    later k = firstOf fine (rowTests r k (map askedOf (take k stations)) (map askedOf (slice k n stations)))
+
+    passed : map askedOf (take i stations) ++ (askedOf (getD stations i nobody) ∷ []) ≡ map askedOf (take (suc i) stations)
+    passed = sym (ap (map askedOf) (take-suc stations i nobody (omega arith)) ∙ map-append askedOf (take i stations) (getD stations i nobody ∷ []))
+
+-- and their end
+pub faulty-end :
+    (r : Request) (earlier : List Asked) (stations : List Listed) (i n : ℕ) → i ≤ n → n ≤ i
+    → firstOf fine (rowTests r i earlier (map askedOf (slice i n stations))) ≡ fine
+faulty-end r earlier stations i n h l =
+    let s : i ≡ n = omega arith in
+    ap (λ k. firstOf fine (rowTests r i earlier (map askedOf (slice k n stations)))) s
+    ∙ ap (λ xs. firstOf fine (rowTests r i earlier (map askedOf xs))) (slice-empty n stations)

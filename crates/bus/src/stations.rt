@@ -16,7 +16,7 @@ use crate::waiting;
 use rules::Verdict;
 use window::Side;
 use window::Window;
-ghost use Prim.Native.Nat.{_<_, _≤_};
+ghost use Prim.Native.Nat.{_<_, _≤_, min};
 ghost use mathlib.Core.Path.{_≡_};
 ghost use mathlib.Core.Bool.{_||_, cond};
 ghost use mathlib.Core.List.{List, [], map};
@@ -67,9 +67,9 @@ fn step_outside(discipline: u32, q: u32) -> bool
     q != 1
 }
 
-// 'stations N: 1 to 64', of a row this long. 'A station row shorter than N gives 6.'
+// 'stations N: 1 to 64', of a row with this many of its 64 places filled. 'A station row shorter than N gives 6.'
 fn count_outside(n: usize, count: usize) -> bool
-    ensures { λ r. ⌜ r ≡ (outside 1 most-stations n || ltb count n) ⌝ }
+    ensures { λ r. ⌜ r ≡ (outside 1 most-stations n || ltb (min count most-stations) n) ⌝ }
 {
     if n < 1 {
         return true;
@@ -86,9 +86,9 @@ fn fault(refusal: u32, station: usize) -> Verdict
     Verdict { refusal, station }
 }
 
-// 2 to 6, of a row this long.
+// 2 to 6, of such a row.
 fn settings_verdict(settings: Settings, count: usize) -> Verdict
-    ensures { λ r. ⌜ ((row : List Asked) → length row ≡ count → r ≡ firstOf fine (settingsTests (requestWith settings row))) ⌝ }
+    ensures { λ r. ⌜ ((row : List Asked) → length row ≡ min count most-stations → r ≡ firstOf fine (settingsTests (requestWith settings row))) ⌝ }
 {
     if 2 < settings.discipline {
         return fault(2, 0);
