@@ -1,7 +1,8 @@
 -- The stations of a set-up: the tests of its numbers and of its row in the order in which they are tried, and the state that it gives.
 -- Assumes nothing.
-use Prim.Native.Nat.{ℕ, suc, _+_, _-_, _≤_, _<_}
+use Prim.Native.Nat.{ℕ, zero, suc, _+_, _-_, _≤_, _<_, min}
 use mathlib.Core.Path.{_≡_, refl, sym, ap, ap₂, _∙_, subst}
+use mathlib.Core.Logic.{inl, inr}
 use mathlib.Core.Bool.{Bool, true, false, not, _&&_, _||_, cond}
 use mathlib.Core.List.{List, [], _∷_, _++_, map, map-append}
 use native.Mathlib.Numerals.{add-one}
@@ -10,15 +11,18 @@ use mir.Val.{Val}
 use denote.Laws.{Is}
 use denote.Array.{Array}
 use lib.Dec.{leb, ltb, eqb}
-use lib.ListN.{length, getD, take, drop}
-use lib.Seq.{slice, slice-cons, slice-empty, take-suc}
+use lib.ListN.{length, getD, take, drop, length-map, length-take}
+use lib.Seq.{slice, slice-cons, slice-empty, take-suc, take-take}
 use borrow.Author.Tests.{leb-true, leb-false, ltb-true, le-leb, lt-leb, lt-ltb, le-ltb, eq-eqb, ne-eqb}
 use Rattle.rules.specs.Lists.{each-of, has, outside, firstOf, verdict}
 use Rattle.rules.specs.declared.Verdict.{Verdict}
-use Rattle.rules.specs.SetUp.{Asked, Request, fine, stationTests, rowTests}
+use Rattle.rules.specs.Bus.{most-stations, least-space, most-space, most-step, RTDG, code}
+use Rattle.rules.specs.SetUp.{Asked, Request, fine, settingsTests, stationTests, rowTests, setUpVerdict}
+use Rattle.rules.specs.Conditions.{settingsConditions}
 use Rattle.rules.proofs.Laws.{and-true}
-use Rattle.bus.specs.State.{Listed, nobody}
-use Rattle.bus.specs.Coded.{askedOf}
+use Rattle.rules.proofs.Tests.{below, out-of, by-case, equal, negated, one-of, inside, Tried, done, _then_, NoneHolds, none-held}
+use Rattle.bus.specs.State.{Settings, Listed, nobody}
+use Rattle.bus.specs.Coded.{askedOf, requestWith}
 use Rattle.bus.proofs.Listed.{the-row}
 
 -- ---- ranges
@@ -112,3 +116,61 @@ faulty-end r earlier stations i n h l =
     let s : i ≡ n = omega arith in
     ap (λ k. firstOf fine (rowTests r i earlier (map askedOf (slice k n stations)))) s
     ∙ ap (λ xs. firstOf fine (rowTests r i earlier (map askedOf xs))) (slice-empty n stations)
+
+-- ---- the whole set-up
+
+-- the first n of a row that is asked for
+pub asked-first : (stations : List Listed) (n count : ℕ) → n ≤ count → take n (map askedOf (take count stations)) ≡ map askedOf (take n stations)
+asked-first stations n count h = take-map n (take count stations) ∙ ap (map askedOf) (take-take n count stations h)
+  where
+    take-map : (m : ℕ) (ls : List Listed) → take m (map askedOf ls) ≡ map askedOf (take m ls)
+    take-map zero ls = refl
+    take-map (suc m) [] = refl
+    take-map (suc m) (l ∷ ls) = ap (λ more. askedOf l ∷ more) (take-map m ls)
+
+pub asked-count : (stations : List Listed) (count : ℕ) → length stations ≡ 64 → length (map askedOf (take count stations)) ≡ min count most-stations
+asked-count stations count e = length-map (take count stations) askedOf ∙ length-take count stations ∙ ap (min count) e
+
+-- the stations' tests do not read the row
+unread : (g : Settings) (row : List Asked) (i : ℕ) (earlier later : List Asked) → rowTests (requestWith g row) i earlier later ≡ rowTests (requestWith g []) i earlier later
+unread g row i earlier [] = refl
+unread g row i earlier (s ∷ later) = ap (λ tests. stationTests (requestWith g []) i earlier s ++ tests) (unread g row (suc i) (earlier ++ (s ∷ [])) later)
+
+-- the verdict on the row decides where that on the settings, v, is 0
+pub set-up-turn :
+    (g : Settings) (row : List Asked) (v : Verdict) (t : Bool) → v ≡ firstOf fine (settingsTests (requestWith g row)) → eqb (v .refusal) 0 ≡ t
+    → setUpVerdict (requestWith g row) ≡ cond t (firstOf fine (rowTests (requestWith g []) 0 [] (take (g .n) row))) v
+set-up-turn g row v t e same =
+    in-turn (settingsTests r) (rowTests r 0 [] (take (g .n) row)) refl
+    ∙ ap (λ w. cond (eqb (w .refusal) 0) (firstOf fine (rowTests r 0 [] (take (g .n) row))) w) (sym e)
+    ∙ ap₂ (λ b tests. cond b (firstOf fine tests) v) same (unread g row 0 [] (take (g .n) row))
+  where
+    r : Request
+    r = requestWith g row
+
+-- what settings that pass 2 to 6 tell
+pub record SettingsPass (g : Settings) (row : List Asked) : Type 0 where
+  pub discipline : g .discipline ≤ 2
+  pub few : g .n ≤ most-stations
+  pub filled : g .n ≤ length row
+
+pub settings-pass : (g : Settings) (row : List Asked) → firstOf fine (settingsTests (requestWith g row)) .refusal ≡ 0 → SettingsPass g row
+settings-pass g row e =
+    let h : ¬ (2 < g .discipline) = none .0 in
+    let l : ¬ (length row < g .n) = λ k. none .1 .1 .1 .1 .0 (inr k) in
+    record { discipline = omega arith; few = inside (λ o. none .1 .1 .1 .1 .0 (inl o)) .1; filled = omega arith }
+  where
+    r : Request
+    r = requestWith g row
+
+    tried : Tried (settingsTests r) (settingsConditions r)
+    tried =
+        below 2 (r .discipline)
+        then out-of least-space most-space (r .D)
+        then out-of least-space most-space (r .A)
+        then by-case (equal (r .discipline) (code RTDG)) (out-of 1 most-step (r .q)) (negated (equal (r .q) 1))
+        then one-of (out-of 1 most-stations (r .N)) (below (length (r .row)) (r .N))
+        then done
+
+    none : NoneHolds (settingsConditions r)
+    none = none-held fine (λ v. v .refusal) tried refl e
