@@ -1,6 +1,6 @@
 -- The stations of a set-up: the tests of its numbers and of its row in the order in which they are tried, and the state that it gives.
 -- Assumes nothing.
-use Prim.Native.Nat.{ℕ, zero, suc, _+_, _-_, _≤_, _<_, min}
+use Prim.Native.Nat.{ℕ, zero, suc, _+_, _/_, _%_, _≤_, _<_, min}
 use mathlib.Core.Path.{_≡_, refl, sym, ap, ap₂, _∙_, subst}
 use mathlib.Core.Logic.{inl, inr}
 use mathlib.Core.Bool.{Bool, true, false, not, _&&_, _||_, cond}
@@ -11,19 +11,22 @@ use mir.Val.{Val}
 use denote.Laws.{Is}
 use denote.Array.{Array}
 use lib.Dec.{leb, ltb, eqb}
-use lib.ListN.{length, getD, take, drop, length-map, length-take}
-use lib.Seq.{slice, slice-cons, slice-empty, take-suc, take-take}
-use borrow.Author.Tests.{leb-true, leb-false, ltb-true, le-leb, lt-leb, lt-ltb, le-ltb, eq-eqb, ne-eqb}
+use lib.ListN.{length, getD, take, length-map, length-take, List·getD-map, List·getD-eq-default}
+use lib.Seq.{slice, slice-cons, slice-empty, take-suc, take-take, getD-take, length-take-le}
+use borrow.Author.Tests.{leb-true, leb-false, ltb-true, ltb-false, eqb-true, le-leb, lt-leb, lt-ltb, le-ltb, eq-eqb, ne-eqb}
 use Rattle.rules.specs.Lists.{each-of, has, outside, firstOf, verdict}
 use Rattle.rules.specs.declared.Verdict.{Verdict}
-use Rattle.rules.specs.Bus.{most-stations, least-space, most-space, most-step, RTDG, code}
-use Rattle.rules.specs.SetUp.{Asked, Request, fine, settingsTests, stationTests, rowTests, setUpVerdict}
+use Rattle.rules.specs.Bus.{most-stations, least-space, most-space, most-step, places, RTDG, code, Station, Bus, nothing}
+use Rattle.rules.specs.SetUp.{Asked, Request, fine, settingsTests, stationTests, rowTests, setUpVerdict, freshStation, freshBus}
 use Rattle.rules.specs.Conditions.{settingsConditions}
 use Rattle.rules.proofs.Laws.{and-true}
 use Rattle.rules.proofs.Tests.{below, out-of, by-case, equal, negated, one-of, inside, Tried, done, _then_, NoneHolds, none-held}
-use Rattle.bus.specs.State.{Settings, Listed, nobody}
-use Rattle.bus.specs.Coded.{askedOf, requestWith}
+use Rattle.bus.specs.State.{Settings, Listed, State, noPacket, noContender, noContention, noRound, nobody, row, stationOr, listedForm, contenderForm, form}
+use Rattle.bus.specs.Coded.{SetUp, askedOf, requestWith, codedSetUp, setUpResult}
+use Rattle.bus.specs.Parts.{freshState}
 use Rattle.bus.proofs.Listed.{the-row}
+use Rattle.bus.proofs.Rows.{row-same}
+use Rattle.bus.proofs.Form.{code-discipline}
 
 -- ---- ranges
 
@@ -174,3 +177,87 @@ settings-pass g row e =
 
     none : NoneHolds (settingsConditions r)
     none = none-held fine (λ v. v .refusal) tried refl e
+
+-- and so do those of a set-up that is accepted
+pub set-up-pass : (g : Settings) (row : List Asked) → setUpVerdict (requestWith g row) .refusal ≡ 0 → SettingsPass g row
+set-up-pass g row e = settings-pass g row (go (eqb (v .refusal) 0) refl)
+  where
+    v : Verdict
+    v = firstOf fine (settingsTests (requestWith g row))
+
+    go : (t : Bool) → eqb (v .refusal) 0 ≡ t → v .refusal ≡ 0
+    go true same = eqb-true (v .refusal) 0 same
+    go false same = ap (λ (w : Verdict). w .refusal) (sym (set-up-turn g row v false refl same)) ∙ e
+
+-- ---- the state that a set-up gives
+
+-- the answer of a set-up, by the verdict and whether that is 0
+pub set-up-answer :
+    (r : Request) (v : Verdict) (s : State) (t : Bool) → v ≡ setUpVerdict r → eqb (v .refusal) 0 ≡ t → s ≡ form (cond t (freshBus r) nothing)
+    → _≡_ {A = SetUp} (record { verdict = v; state = s }) (setUpResult (codedSetUp r))
+set-up-answer r v s t e same given =
+    ap₂
+    (λ (w : Verdict) (x : State). record { verdict = w; state = x })
+    e
+    (given ∙ ap (λ b. form (cond b (freshBus r) nothing)) (sym same ∙ ap (λ (w : Verdict). eqb (w .refusal) 0) e))
+
+-- 'an all-zero state'
+pub nothing-form : freshState (record { discipline = 0; d = 0; a = 0; q = 0; n = 0 }) (row 64 (λ i. nobody)) ≡ form nothing
+nothing-form = refl
+
+-- what stands at a place of the first n
+first-place : (stations : List Listed) (n i : ℕ) → getD (take n stations) i nobody ≡ cond (ltb i n) (getD stations i nobody) nobody
+first-place stations n i = go (ltb i n) refl
+  where
+    go : (t : Bool) → ltb i n ≡ t → getD (take n stations) i nobody ≡ cond t (getD stations i nobody) nobody
+    go true e = getD-take n stations i nobody (ltb-true i n e)
+    go false e = List·getD-eq-default (take n stations) nobody (omega (arith, ltb-false i n e, length-take n stations))
+
+-- the fresh bus is held in a fresh state: its stations have no packets and no offers
+pub fresh-form :
+    (g : Settings) (stations : List Listed) (count : ℕ) → SettingsPass g (map askedOf (take count stations))
+    → form (freshBus (requestWith g (map askedOf (take count stations))))
+    ≡ freshState g (row 64 (λ i. cond (ltb i (g .n)) (getD stations i nobody) nobody))
+fresh-form g stations count pass = λ j.
+    record {
+      segment = record {
+        settings =
+            record { discipline = sym (code-discipline (g .discipline) (pass .discipline)) j; d = g .d; a = g .a; q = g .q; n = long j };
+        listed = row-same 64 (λ i. listedForm (stationOr b i)) (λ i. cond (ltb i (g .n)) (getD stations i nobody) nobody) (λ i h. ap listedForm (at i) ∙ first-place stations (g .n) i) j;
+        clock = record { 0 = 0 };
+        admitted = 0;
+        sent = 0;
+        lost = 0;
+        round = noRound;
+        contention = noContention;
+        contenders = row-same 64 (λ i. contenderForm (stationOr b i .offer)) (λ i. noContender) (λ i h. ap (λ (s : Station). contenderForm (s .offer)) (at i)) j;
+      };
+      queues = record {
+        lengths = row-same 64 (λ i. length (stationOr b i .queue)) (λ i. 0) (λ i h. ap (λ (s : Station). length (s .queue)) (at i)) j;
+        packets =
+            row-same
+            1024
+            (λ k. getD (stationOr b (k / places) .queue) (k % places) noPacket)
+            (λ k. noPacket)
+            (λ k h. ap (λ (s : Station). getD (s .queue) (k % places) noPacket) (at (k / places)))
+            j;
+      };
+    }
+  where
+    rest : List Asked
+    rest = map askedOf (take count stations)
+
+    b : Bus
+    b = freshBus (requestWith g rest)
+
+    long : length (map freshStation (take (g .n) rest)) ≡ g .n
+    long = length-map (take (g .n) rest) freshStation ∙ length-take-le (g .n) rest (pass .filled)
+
+    within : g .n ≤ count
+    within = omega (arith, pass .filled, length-map (take count stations) askedOf, length-take count stations)
+
+    at : (i : ℕ) → stationOr b i ≡ freshStation (askedOf (getD (take (g .n) stations) i nobody))
+    at i =
+        List·getD-map freshStation (take (g .n) rest) i (askedOf nobody)
+        ∙ ap (λ asked. freshStation (getD asked i (askedOf nobody))) (asked-first stations (g .n) count within)
+        ∙ ap freshStation (List·getD-map askedOf (take (g .n) stations) i nobody)
