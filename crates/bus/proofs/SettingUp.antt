@@ -12,20 +12,21 @@ use denote.Laws.{Is}
 use denote.Array.{Array}
 use lib.Dec.{leb, ltb, eqb}
 use lib.ListN.{length, getD, take, length-map, length-take, List·getD-map, List·getD-eq-default}
-use lib.Seq.{slice, slice-cons, slice-empty, take-suc, take-take, getD-take, length-take-le}
+use lib.Seq.{slice, slice-cons, slice-empty, take-suc, take-all, take-take, getD-take, length-take-le}
 use borrow.Author.Tests.{leb-true, leb-false, ltb-true, ltb-false, eqb-true, le-leb, lt-leb, lt-ltb, le-ltb, eq-eqb, ne-eqb}
 use Rattle.rules.specs.Lists.{each-of, has, outside, firstOf, verdict}
 use Rattle.rules.specs.declared.Verdict.{Verdict}
 use Rattle.rules.specs.Bus.{most-stations, least-space, most-space, most-step, places, RTDG, code, Station, Bus, nothing}
 use Rattle.rules.specs.SetUp.{Asked, Request, fine, settingsTests, stationTests, rowTests, setUpVerdict, freshStation, freshBus}
+use Rattle.rules.specs.Standing.{asked, askedFor}
 use Rattle.rules.specs.Conditions.{settingsConditions}
 use Rattle.rules.proofs.Laws.{and-true}
 use Rattle.rules.proofs.Tests.{below, out-of, by-case, equal, negated, one-of, inside, Tried, done, _then_, NoneHolds, none-held}
-use Rattle.bus.specs.State.{Settings, Listed, State, noPacket, noContender, noContention, noRound, nobody, row, stationOr, listedForm, contenderForm, form}
+use Rattle.bus.specs.State.{Settings, Listed, State, noPacket, noContender, noContention, noRound, nobody, row, stationOr, listedForm, contenderForm, form, stationAt, stationsOf, meaning}
 use Rattle.bus.specs.Coded.{SetUp, askedOf, requestWith, codedSetUp, setUpResult}
 use Rattle.bus.specs.Parts.{freshState}
 use Rattle.bus.proofs.Listed.{the-row}
-use Rattle.bus.proofs.Rows.{row-same}
+use Rattle.bus.proofs.Rows.{values-length, values-map, values-take, row-same}
 use Rattle.bus.proofs.Form.{code-discipline}
 
 -- ---- ranges
@@ -261,3 +262,71 @@ fresh-form g stations count pass = λ j.
         List·getD-map freshStation (take (g .n) rest) i (askedOf nobody)
         ∙ ap (λ asked. freshStation (getD asked i (askedOf nobody))) (asked-first stations (g .n) count within)
         ∙ ap freshStation (List·getD-map askedOf (take (g .n) stations) i nobody)
+
+-- ---- what a state would be asked for by
+
+-- 'what stands past N is unread': two rows with the same first N give the same verdict
+same-read :
+    (g : Settings) (asked asked′ : List Asked) → g .n ≤ length asked → g .n ≤ length asked′ → take (g .n) asked ≡ take (g .n) asked′
+    → setUpVerdict (requestWith g asked) ≡ setUpVerdict (requestWith g asked′)
+same-read g asked asked′ h h′ e =
+    rw
+    (le-ltb (length asked) (g .n) h, le-ltb (length asked′) (g .n) h′, unread g asked 0 [] (take (g .n) asked), unread g asked′ 0 [] (take (g .n) asked′), e)
+
+-- more stations than 64 are refused
+many-refused : (g : Settings) (asked : List Asked) → most-stations < g .n → eqb (setUpVerdict (requestWith g asked) .refusal) 0 ≡ false
+many-refused g asked h = ne-eqb (setUpVerdict (requestWith g asked) .refusal) 0 (λ e. omega (arith, set-up-pass g asked e .few))
+
+-- The row of all 64 places passes 2 to 10 exactly when what the meaning would be asked for by does.
+pub passes-as-asked :
+    (s : State) → length (s .segment .listed) ≡ 64 → s .segment .settings .discipline ≤ 2
+    → eqb (setUpVerdict (requestWith (s .segment .settings) (map askedOf (take 64 (s .segment .listed)))) .refusal) 0
+    ≡ eqb (setUpVerdict (askedFor (meaning s)) .refusal) 0
+passes-as-asked s count d = go (leb (g .n) 64) refl ∙ ap (λ (r : Request). eqb (setUpVerdict r .refusal) 0) (sym again)
+  where
+    g : Settings
+    g = s .segment .settings
+
+    listed : List Listed
+    listed = s .segment .listed
+
+    all : List Asked
+    all = map askedOf (take 64 listed)
+
+    meant : List Asked
+    meant = map asked (stationsOf s)
+
+    meant-length : length meant ≡ g .n
+    meant-length = length-map (stationsOf s) asked ∙ values-length (stationAt s) 0 (g .n)
+
+    -- what the meaning would be asked for by
+    again : askedFor (meaning s) ≡ requestWith g meant
+    again = λ i.
+        record {
+          discipline = sym (code-discipline (g .discipline) d) i;
+          D = g .d;
+          A = g .a;
+          q = g .q;
+          N = values-length (stationAt s) 0 (g .n) i;
+          row = meant;
+        }
+
+    meant-first : g .n ≤ 64 → meant ≡ map askedOf (take (g .n) listed)
+    meant-first h =
+        values-map asked (stationAt s) 0 (g .n)
+        ∙ sym (values-map askedOf (λ i. getD listed i nobody) 0 (g .n))
+        ∙ ap (map askedOf) (sym (values-take listed nobody (g .n) (omega arith)))
+
+    go : (t : Bool) → leb (g .n) 64 ≡ t → eqb (setUpVerdict (requestWith g all) .refusal) 0 ≡ eqb (setUpVerdict (requestWith g meant) .refusal) 0
+    go true e =
+        let h : g .n ≤ 64 = leb-true (g .n) 64 e in
+        ap
+        (λ (v : Verdict). eqb (v .refusal) 0)
+        (same-read
+        g
+        all
+        meant
+        (omega (arith, asked-count listed 64 count))
+        (omega (arith, meant-length))
+        (asked-first listed (g .n) 64 h ∙ sym (meant-first h) ∙ sym (take-all (g .n) meant (omega (arith, meant-length)))))
+    go false e = let h = leb-false (g .n) 64 e in many-refused g all h ∙ sym (many-refused g meant h)
