@@ -7,6 +7,7 @@ use mathlib.Core.Bool.{and-true as Bool-and-true}
 use mathlib.Core.Option.{Option, none, some}
 use mathlib.Core.List.{List, [], _∷_, _++_, map}
 use native.Mathlib.Nat.{zero-add, add-zero, suc-add, add-suc}
+use native.Mathlib.Numerals.{add-one}
 use native.Mathlib.Omega.{arith}
 use lib.Dec.{leb, ltb, eqb}
 use lib.ListN.{length, getD, take, drop, length-take}
@@ -24,8 +25,8 @@ use Rattle.rules.proofs.Tests.{Whether, holds, fails}
 use Rattle.rules.proofs.Standing.{stands-exactly}
 use Rattle.bus.specs.State.{Packet, Listed, Contender, Contention, Round, Segment, Queues, State, noPacket, noContender, nobody, placesAt, queueAt, offerOf, contentionOf, stationAt, stationsOf, valuesFrom, lastOf, tieOf, meaning, no-packet, queue-padded, contender-padded, station-padded, no-station, each-place, round-padded, contention-padded, padded}
 use Rattle.bus.specs.Coded.{standing, askedOf, requestWith}
-use Rattle.bus.specs.Parts.{parameterFits, contenderSound, stationSound, nobodyAt, numbersFrom, queuesSound, roundSound, contentionSound}
-use Rattle.bus.proofs.Rows.{each-place-all, values-take}
+use Rattle.bus.specs.Parts.{Queue, queueOf, parameterFits, contenderSound, stationTest, stationSound, nobodyTest, nobodyAt, numbersFrom, queuesSound, roundSound, contentionSound}
+use Rattle.bus.proofs.Rows.{each-place-all, each-place-turn, values-take}
 use Rattle.bus.proofs.Form.{Held, padded-parts, places-length}
 
 -- ---- tests
@@ -67,6 +68,55 @@ each-values : {X : Type 0} (test : X → Bool) (f : ℕ → X) (i k : ℕ) → e
 unfolding each-place
 each-values test f i zero = refl
 each-values test f i (suc k) = ap (λ t. test (f i) && t) (each-values test f (suc i) k)
+
+-- ---- the loops over the places of stations
+
+-- one turn of a loop over the places from i to n: the test at i, and those that are left
+turn : {t : Bool} (test : ℕ → Bool) (i n : ℕ) → i < n → test i ≡ t → each-place test i (n - i) ≡ (t && each-place test (i + 1) (n - (i + 1)))
+turn test i n l e = each-place-turn test i n l ∙ ap₂ (λ t j. t && each-place test j (n - j)) e (sym (add-one i))
+
+-- where station i is tested, and where place i is tested for nobody
+pub station-turn :
+    {r t : Bool} {queue : Queue} (g : Segment) (qs : Queues) (i : ℕ) → i < g .settings .n → queue ≡ queueOf qs i
+    → r
+    ≡ stationTest
+    (g .settings)
+    (g .contention .begun)
+    (g .admitted)
+    (getD (g .listed) i nobody)
+    (getD (g .contenders) i noContender)
+    queue
+    → r ≡ t
+    → each-place (stationSound g qs) i (g .settings .n - i)
+    ≡ (t && each-place (stationSound g qs) (i + 1) (g .settings .n - (i + 1)))
+station-turn g qs i l taken tested e =
+    turn
+    (stationSound g qs)
+    i
+    (g .settings .n)
+    l
+    (ap
+    (stationTest
+    (g .settings)
+    (g .contention .begun)
+    (g .admitted)
+    (getD (g .listed) i nobody)
+    (getD (g .contenders) i noContender))
+    (sym taken)
+    ∙ sym tested
+    ∙ e)
+
+pub nobody-turn :
+    {r t : Bool} {queue : Queue} (g : Segment) (qs : Queues) (i : ℕ) → i < 64 → queue ≡ queueOf qs i
+    → r ≡ nobodyTest (getD (g .listed) i nobody) (getD (g .contenders) i noContender) queue → r ≡ t
+    → each-place (nobodyAt g qs) i (64 - i) ≡ (t && each-place (nobodyAt g qs) (i + 1) (64 - (i + 1)))
+nobody-turn g qs i l taken tested e =
+    turn
+    (nobodyAt g qs)
+    i
+    64
+    l
+    (ap (nobodyTest (getD (g .listed) i nobody) (getD (g .contenders) i noContender)) (sym taken) ∙ sym tested ∙ e)
 
 -- ---- a station
 
