@@ -39,6 +39,13 @@ and-four true false true d = refl
 and-four true true false d = refl
 and-four true true true d = refl
 
+-- what a call that answers no, and one that answers yes, tells of its test
+pub answered-no : {r t : Bool} → r ≡ t → not r ≡ true → t ≡ false
+answered-no {r} e k = sym e ∙ not-true r k
+
+pub answered-yes : {r t : Bool} → r ≡ t → not r ≡ false → t ≡ true
+answered-yes {r} e k = sym e ∙ not-false r k
+
 -- ---- each place
 
 -- the places from i on, in two parts
