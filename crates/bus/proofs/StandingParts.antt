@@ -9,10 +9,12 @@ use mathlib.Core.List.{List, [], _∷_, _++_, map}
 use native.Mathlib.Nat.{zero-add, add-zero, suc-add, add-suc}
 use native.Mathlib.Numerals.{add-one}
 use native.Mathlib.Omega.{arith}
+use mir.Val.{Val}
+use denote.Laws.{Is}
 use lib.Dec.{leb, ltb, eqb}
-use lib.ListN.{length, getD, take, drop, length-take}
+use lib.ListN.{length, getD, take, drop, length-take, length-map}
 use lib.Seq.{length-take-le}
-use borrow.Author.Tests.{eqb-true, leb-true, ltb-true, ltb-false, not-true, not-false, le-leb, eq-eqb}
+use borrow.Author.Tests.{eqb-true, leb-true, ltb-true, ltb-false, not-true, not-false, le-leb, eq-eqb, ne-eqb}
 use Rattle.window.specs.Splitting.{placed}
 use Rattle.rules.specs.Lists.{each-of, some-of, total, distinct, outside, firstOf, verdict}
 use Rattle.rules.specs.Bus as Machine
@@ -26,6 +28,7 @@ use Rattle.rules.proofs.Standing.{stands-exactly}
 use Rattle.bus.specs.State.{Packet, Listed, Contender, Contention, Round, Segment, Queues, State, noPacket, noContender, nobody, placesAt, queueAt, offerOf, contentionOf, stationAt, stationsOf, valuesFrom, lastOf, tieOf, meaning, no-packet, queue-padded, contender-padded, station-padded, no-station, each-place, round-padded, contention-padded, padded}
 use Rattle.bus.specs.Coded.{standing, askedOf, requestWith}
 use Rattle.bus.specs.Parts.{Queue, queueOf, parameterFits, contenderSound, stationTest, stationSound, nobodyTest, nobodyAt, numbersFrom, queuesSound, roundSound, contentionSound}
+use Rattle.bus.proofs.State as state
 use Rattle.bus.proofs.Rows.{each-place-all, each-place-turn, values-take}
 use Rattle.bus.proofs.Form.{Held, padded-parts, places-length}
 
@@ -404,8 +407,8 @@ accepted-settings r e =
     let few = not-false (leb 1 (r .N) && leb (r .N) most-stations) (or-false (outside 1 most-stations (r .N)) (ltb (length (r .row)) (r .N)) (N .0) .0) in
     (ltb-false 2 (r .discipline) (discipline .0), leb-true (r .N) most-stations (and-true (leb 1 (r .N)) (leb (r .N) most-stations) few .1))
 
-pub few-stations : (s : State) → eqb (setUpVerdict (tried s) .refusal) 0 ≡ true → s .segment .settings .n ≤ most-stations
-few-stations s e = accepted-settings (tried s) (eqb-true (setUpVerdict (tried s) .refusal) 0 e) .1
+pub few-stations : (s : State) → setUpVerdict (tried s) .refusal ≡ 0 → s .segment .settings .n ≤ most-stations
+few-stations s e = accepted-settings (tried s) e .1
 
 -- the code's test is that the discipline is one of the three and the meaning passes
 set-up-same :
@@ -423,6 +426,19 @@ set-up-same s h = go (leb d 2) refl (eqb (setUpVerdict (tried s) .refusal) 0) re
     go true e v k = sym (passes-as-asked s (h .listed) (leb-true d 2 e)) ∙ k
     go false e false k = refl
     go false e true k = clash (le-leb d 2 (accepted-settings (tried s) (eqb-true (setUpVerdict (tried s) .refusal) 0 k) .0)) e
+
+-- ---- the rows of a state that a function is handed are as long as its arrays
+
+pub state-held : (s : State) (vs : List Val) → Is state.the-row s vs → Held s
+state-held s vs owned =
+    let segment = owned .1 .1 .0 .1 .1 in
+    let queues = owned .1 .1 .1 .0 .1 .1 in
+    record {
+      listed = sym (length-map (s .segment .listed) _) ∙ segment .1 .0 .1 .0 .1;
+      contenders = sym (length-map (s .segment .contenders) _) ∙ segment .1 .1 .1 .1 .1 .1 .1 .1 .0 .1 .0 .1;
+      lengths = sym (length-map (s .queues .lengths) _) ∙ queues .0 .1 .0 .1;
+      packets = sym (length-map (s .queues .packets) _) ∙ queues .1 .0 .1 .0 .1;
+    }
 
 -- ---- the standing conditions
 
@@ -456,12 +472,12 @@ parts-order zeros past round contention clock admitted counts stand apart last w
     queues-last true b c true = sym (Bool-and-true (b && c))
 
 -- a state that a set-up would refuse does not stand
-pub not-set-up : (s : State) → Held s → eqb (setUpVerdict (tried s) .refusal) 0 ≡ false → standing s ≡ false
-not-set-up s h e = go (standing s) refl
+pub not-set-up : (s : State) → Held s → (setUpVerdict (tried s) .refusal ≡ 0 → ⊥) → standing s ≡ false
+not-set-up s h n = go (standing s) refl
   where
     passes : {t : Bool} → Whether (Standing (meaning s)) t → t ≡ true → setUpVerdict (askedFor (meaning s)) .refusal ≡ 0
     passes (holds b) k = b .passes
-    passes (fails n) k = clash k refl
+    passes (fails m) k = clash k refl
 
     go : (t : Bool) → standing s ≡ t → standing s ≡ false
     go false k = k
@@ -471,7 +487,7 @@ not-set-up s h e = go (standing s) refl
         (true-and
         (le-leb (s .segment .settings .discipline) 2 (padded-parts s (both .0) .discipline))
         (eq-eqb (setUpVerdict (askedFor (meaning s)) .refusal) 0 (passes (stands-exactly (meaning s)) (both .1))))
-        (set-up-same s h ∙ e)
+        (set-up-same s h ∙ ne-eqb (setUpVerdict (tried s) .refusal) 0 n)
 
 -- the parts of a sound station's queue that other tests lean on
 record SoundQueue (g : Segment) (qs : Queues) (i : ℕ) : Type 0 where
@@ -502,17 +518,22 @@ sound-rises g qs n e i l = rises 0 (queueAt qs i) (sound-queue g qs n e i l .ris
         let both = and-true (ltb before (p .number)) (rising (p .number) (g .admitted) queue) h in
         (ltb-true before (p .number) (both .0), rises (p .number) queue (both .1))
 
--- of a state that a set-up would not refuse, the code's tests are the standing conditions
+-- a state that a set-up would not refuse stands as the code's other tests, in turn, tell
 pub standing-parts :
-    (s : State) → Held s → eqb (setUpVerdict (tried s) .refusal) 0 ≡ true
-    → standing s
-    ≡ (leb (s .segment .clock .0) clock-end
-    && leb (s .segment .admitted) most-admitted
-    && roundSound (s .segment)
-    && contentionSound (s .segment .settings) (s .segment .contention)
-    && queuesSound (s .segment) (s .queues))
-standing-parts s h e =
-    let both = and-true (leb (s .segment .settings .discipline) 2) (eqb (setUpVerdict (askedFor (meaning s)) .refusal) 0) (set-up-same s h ∙ e) in
+    {clock′ admitted′ round′ contention′ queues′ : Bool} (s : State) → Held s → setUpVerdict (tried s) .refusal ≡ 0
+    → leb (s .segment .clock .0) clock-end ≡ clock′
+    → leb (s .segment .admitted) most-admitted ≡ admitted′
+    → roundSound (s .segment) ≡ round′
+    → contentionSound (s .segment .settings) (s .segment .contention) ≡ contention′
+    → queuesSound (s .segment) (s .queues) ≡ queues′
+    → standing s ≡ (clock′ && admitted′ && round′ && contention′ && queues′)
+standing-parts {clock′} {admitted′} {round′} {contention′} s h e clock-is admitted-is round-is contention-is queues-is =
+    let both =
+        and-true
+        (leb (s .segment .settings .discipline) 2)
+        (eqb (setUpVerdict (askedFor (meaning s)) .refusal) 0)
+        (set-up-same s h ∙ eq-eqb (setUpVerdict (tried s) .refusal) 0 e)
+    in
     let few = few-stations s e in
     let n = s .segment .settings .n in
     let clock = leb (s .segment .clock .0) clock-end in
@@ -551,12 +572,11 @@ standing-parts s h e =
     counts′
     (places-same s few)
     (λ k. ap counted (waiting-same s h few (sound-room (s .segment) (s .queues) n k)))
-    ∙ ap₂ (λ r c. clock && admitted && r && c && (sound && nobodies && counts′ && apart)) (sym (round-same s h few)) (sym (contention-same s))
+    ∙ ap₂ (λ k a. k && a && (round && last) && (contention && window) && (sound && nobodies && counts′ && apart)) clock-is admitted-is
+    ∙ ap₂
+    (λ r c. clock′ && admitted′ && r && c && (sound && nobodies && counts′ && apart))
+    (sym (round-same s h few) ∙ round-is)
+    (sym (contention-same s) ∙ contention-is)
     ∙ ap
-    (λ ns.
-    clock
-    && admitted
-    && roundSound (s .segment)
-    && contentionSound (s .segment .settings) (s .segment .contention)
-    && (sound && nobodies && counts′ && distinct ns))
-    (numbers-same s 0 n)
+    (λ q. clock′ && admitted′ && round′ && contention′ && q)
+    (ap (λ ns. sound && nobodies && counts′ && distinct ns) (numbers-same s 0 n) ∙ queues-is)
