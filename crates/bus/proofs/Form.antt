@@ -110,8 +110,9 @@ parts-padded s h =
     (h .round))
     (h .contention)
 
--- a packet, a discipline's number, a contender, a round and a contention are the forms of what they mean
-no-packet-is : (p : Packet) → no-packet p ≡ true → p ≡ noPacket
+-- where what has no meaning is zero: a packet that is none, and a discipline's number, a contender, a round and a contention, which are
+-- the forms of what they mean
+pub no-packet-is : (p : Packet) → no-packet p ≡ true → p ≡ noPacket
 no-packet-is p e =
     let ab = and-true (eqb (p .number) 0 && eqb (p .value) 0) (eqb (p .length) 0) e in
     let both = and-true (eqb (p .number) 0) (eqb (p .value) 0) (ab .0) in
@@ -122,13 +123,13 @@ no-packet-is p e =
       length = eqb-true (p .length) 0 (ab .1) i;
     }
 
-code-discipline : (n : ℕ) → n ≤ 2 → n ≡ code (disciplineOf n)
+pub code-discipline : (n : ℕ) → n ≤ 2 → n ≡ code (disciplineOf n)
 code-discipline zero h = refl
 code-discipline (suc zero) h = refl
 code-discipline (suc (suc zero)) h = refl
 code-discipline (suc (suc (suc n))) h = absurd (omega arith)
 
-contender-form : (c : Contender) → contender-padded c ≡ true → c ≡ contenderForm (offerOf c)
+pub contender-form : (c : Contender) → contender-padded c ≡ true → c ≡ contenderForm (offerOf c)
 contender-form c e = go (c .contends) e
   where
     held : Bool → Contender
@@ -140,7 +141,7 @@ contender-form c e = go (c .contends) e
         let both = and-true (eqb (c .parameter) 0) (no-packet (c .packet)) z in
         λ i. record { contends = false; parameter = eqb-true (c .parameter) 0 (both .0) i; packet = no-packet-is (c .packet) (both .1) i }
 
-round-form : (r : Round) → round-padded r ≡ true → r ≡ roundForm (lastOf r)
+pub round-form : (r : Round) → round-padded r ≡ true → r ≡ roundForm (lastOf r)
 round-form r e = go (r .won) e
   where
     held : Bool → Round
@@ -160,7 +161,7 @@ no-window-is w e =
     let both = and-true (eqb (w .start) 0) (eqb (w .size) 0) (ab .0) in
     λ i. record { start = eqb-true (w .start) 0 (both .0) i; size = eqb-true (w .size) 0 (both .1) i; side = left-side (w .side) (ab .1) i }
 
-contention-form : (c : Contention) → contention-padded c ≡ true → c ≡ contentionForm (contentionOf c)
+pub contention-form : (c : Contention) → contention-padded c ≡ true → c ≡ contentionForm (contentionOf c)
 contention-form c e = go (c .begun) (c .tied) e
   where
     held : Bool → Bool → Contention
@@ -221,7 +222,7 @@ no-station-is s i e =
     }
 
 -- what the meaning has at place i is station i: past N, where both are no station, too
-station-at : (s : State) → Padded s → (i : ℕ) → i < most-stations → stationAt s i ≡ stationOr (meaning s) i
+pub station-at : (s : State) → Padded s → (i : ℕ) → i < most-stations → stationAt s i ≡ stationOr (meaning s) i
 station-at s p i h = go (ltb i (s .segment .settings .n)) refl
   where
     n : ℕ
@@ -256,7 +257,7 @@ module _ (s : State) (h : Held s) (p : Padded s) where
       contender-form (getD (s .segment .contenders) i noContender) (p .contenders i l)
       ∙ ap (λ x. contenderForm (x .offer)) (station-at s p i l))
 
-  queue-length : (i : ℕ) → i < most-stations → length (queueAt (s .queues) i) ≡ getD (s .queues .lengths) i 0
+  pub queue-length : (i : ℕ) → i < most-stations → length (queueAt (s .queues) i) ≡ getD (s .queues .lengths) i 0
   queue-length i l =
       let n = getD (s .queues .lengths) i 0 in
       let room = leb-true n places (and-true (leb n places) (each-of no-packet (drop n (placesAt (s .queues) i))) (p .queues i l) .0) in
@@ -396,18 +397,18 @@ module _
         ∙ same (length queue + m) (omega (arith, length-drop (length queue) packets))
         ∙ List·getD-eq-default queue noPacket (omega arith))))
 
-module _ (b : Bus) (fits : Fits b) where
-  -- what the form has for station i
-  listed-at : (i : ℕ) → i < most-stations → getD (form b .segment .listed) i nobody ≡ listedForm (stationOr b i)
+-- what the form has for station i
+module _ (b : Bus) where
+  pub listed-at : (i : ℕ) → i < most-stations → getD (form b .segment .listed) i nobody ≡ listedForm (stationOr b i)
   listed-at i l = row-at most-stations (λ k. listedForm (stationOr b k)) i nobody l
 
-  contender-at : (i : ℕ) → i < most-stations → getD (form b .segment .contenders) i noContender ≡ contenderForm (stationOr b i .offer)
+  pub contender-at : (i : ℕ) → i < most-stations → getD (form b .segment .contenders) i noContender ≡ contenderForm (stationOr b i .offer)
   contender-at i l = row-at most-stations (λ k. contenderForm (stationOr b k .offer)) i noContender l
 
-  length-at : (i : ℕ) → i < most-stations → getD (form b .queues .lengths) i 0 ≡ length (stationOr b i .queue)
+  pub length-at : (i : ℕ) → i < most-stations → getD (form b .queues .lengths) i 0 ≡ length (stationOr b i .queue)
   length-at i l = row-at most-stations (λ k. length (stationOr b k .queue)) i 0 l
 
-  packet-in :
+  pub packet-in :
       (i : ℕ) → i < most-stations → (m : ℕ) → m < places
       → getD (placesAt (form b .queues) i) m noPacket ≡ getD (stationOr b i .queue) m noPacket
   packet-in i l m h =
@@ -422,22 +423,23 @@ module _ (b : Bus) (fits : Fits b) where
       (omega arith)
       ∙ ap₂ (λ k n. getD (stationOr b k .queue) n noPacket) station place
 
-  has-room : (i : ℕ) → length (stationOr b i .queue) ≤ places
+module _ (b : Bus) (fits : Fits b) where
+  pub has-room : (i : ℕ) → length (stationOr b i .queue) ≤ places
   has-room i = at-place (λ s. length (s .queue) ≤ places) (b .stations) noStation i (omega arith) (fits .room)
 
-  queue-in : (i : ℕ) → i < most-stations → queueAt (form b .queues) i ≡ stationOr b i .queue
+  pub queue-in : (i : ℕ) → i < most-stations → queueAt (form b .queues) i ≡ stationOr b i .queue
   queue-in i l =
-      ap (λ n. take n (placesAt (form b .queues) i)) (length-at i l)
-      ∙ front (stationOr b i .queue) (placesAt (form b .queues) i) (has-room i) (places-length (form b) (held-form b) i l) (packet-in i l)
+      ap (λ n. take n (placesAt (form b .queues) i)) (length-at b i l)
+      ∙ front (stationOr b i .queue) (placesAt (form b .queues) i) (has-room i) (places-length (form b) (held-form b) i l) (packet-in b i l)
 
-  station-in : (i : ℕ) → i < most-stations → stationAt (form b) i ≡ stationOr b i
+  pub station-in : (i : ℕ) → i < most-stations → stationAt (form b) i ≡ stationOr b i
   station-in i l =
       λ j.
       record {
-        address = listed-at i l j .address .0;
-        capability = listed-at i l j .capability .0;
+        address = listed-at b i l j .address .0;
+        capability = listed-at b i l j .capability .0;
         queue = queue-in i l j;
-        offer = (ap offerOf (contender-at i l) ∙ offer-contender (stationOr b i .offer) .0) j;
+        offer = (ap offerOf (contender-at b i l) ∙ offer-contender (stationOr b i .offer) .0) j;
       }
 
   stations-in : stationsOf (form b) ≡ b .stations
@@ -473,18 +475,18 @@ module _ (b : Bus) (fits : Fits b) where
 
   queue-zeros : (i : ℕ) → i < most-stations → queue-padded (getD (form b .queues .lengths) i 0) (placesAt (form b .queues) i) ≡ true
   queue-zeros i l =
-      ap (λ n. queue-padded n (placesAt (form b .queues) i)) (length-at i l)
-      ∙ zeros-past (stationOr b i .queue) (placesAt (form b .queues) i) (has-room i) (places-length (form b) (held-form b) i l) (packet-in i l)
+      ap (λ n. queue-padded n (placesAt (form b .queues) i)) (length-at b i l)
+      ∙ zeros-past (stationOr b i .queue) (placesAt (form b .queues) i) (has-room i) (places-length (form b) (held-form b) i l) (packet-in b i l)
 
   past-zeros : (i : ℕ) → length (b .stations) ≤ i → i < most-stations → no-station (form b) i ≡ true
   past-zeros i n l =
       let past = List·getD-eq-default (b .stations) noStation n in
-      let listed = listed-at i l ∙ ap listedForm past in
+      let listed = listed-at b i l ∙ ap listedForm past in
       true-and
       (true-and
       (true-and (ap (λ x. eqb (x .address .0) 0) listed) (ap (λ x. eqb (x .capability .0) 0) listed))
-      (ap (λ n. eqb n 0) (length-at i l ∙ ap (λ s. length (s .queue)) past)))
-      (ap (λ c. not (c .contends)) (contender-at i l ∙ ap (λ s. contenderForm (s .offer)) past))
+      (ap (λ n. eqb n 0) (length-at b i l ∙ ap (λ s. length (s .queue)) past)))
+      (ap (λ c. not (c .contends)) (contender-at b i l ∙ ap (λ s. contenderForm (s .offer)) past))
 
   pub padded-form : padded (form b) ≡ true
   padded-form =
@@ -493,7 +495,7 @@ module _ (b : Bus) (fits : Fits b) where
       (record {
         discipline = discipline-code (b .discipline) .1;
         queues = queue-zeros;
-        contenders = λ i l. ap contender-padded (contender-at i l) ∙ offer-contender (stationOr b i .offer) .1;
+        contenders = λ i l. ap contender-padded (contender-at b i l) ∙ offer-contender (stationOr b i .offer) .1;
         past-N = past-zeros;
         round = last-round (b .last) .1;
         contention = contention-of (b .contention) .1;
