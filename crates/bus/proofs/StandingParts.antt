@@ -31,6 +31,7 @@ use Rattle.bus.specs.Parts.{Queue, queueOf, parameterFits, contenderSoun
 use Rattle.bus.proofs.State as state
 use Rattle.bus.proofs.Rows.{each-place-all, each-place-turn, values-take}
 use Rattle.bus.proofs.Form.{Held, padded-parts, places-length}
+use Rattle.bus.proofs.SettingUp.{passes-as-asked}
 
 -- ---- tests
 
@@ -385,11 +386,6 @@ contention-same s = ap (λ t. contention-padded c && t) (go (c .begun) (c .tied)
 -- the set-up that the code tries again: the settings, and all 64 places as the row
 abbrev pub tried : State → Request
 tried s = requestWith (s .segment .settings) (map askedOf (take 64 (s .segment .listed)))
-
-passes-as-asked :
-    (s : State) → length (s .segment .listed) ≡ 64 → s .segment .settings .discipline ≤ 2
-    → eqb (setUpVerdict (tried s) .refusal) 0 ≡ eqb (setUpVerdict (askedFor (meaning s)) .refusal) 0
-passes-as-asked s h d = ?
 
 -- where a refusal has a number from 1 on and 0 is given, its test does not hold
 not-held : (number : ℕ) (test : Bool) (rest : Verdict) → verdict test (fault (suc number) 0) rest .refusal ≡ 0 → (test ≡ false) × (rest .refusal ≡ 0)
