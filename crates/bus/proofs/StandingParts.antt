@@ -2,9 +2,8 @@
 -- padding is zero and the meaning stands. Assumes nothing.
 use Prim.Native.Nat.{ℕ, zero, suc, _+_, _-_, _*_, _≤_, _<_}
 use mathlib.Core.Path.{_≡_, refl, sym, ap, ap₂, _∙_}
-use mathlib.Core.Bool.{Bool, true, false, not, _&&_, _||_, cond, and-false, and-assoc, and-comm}
-use mathlib.Core.Bool.{and-true as Bool-and-true}
-use mathlib.Core.Option.{Option, none, some}
+use mathlib.Core.Bool.{Bool, true, false, not, _&&_, _||_, cond, and-true as and-last-true, and-false, and-assoc, and-comm}
+use mathlib.Core.Option.{none, some}
 use mathlib.Core.List.{List, [], _∷_, _++_, map}
 use native.Mathlib.Nat.{zero-add, add-zero, suc-add, add-suc}
 use native.Mathlib.Numerals.{add-one}
@@ -14,24 +13,24 @@ use denote.Laws.{Is}
 use lib.Dec.{leb, ltb, eqb}
 use lib.ListN.{length, getD, take, drop, length-take, length-map}
 use lib.Seq.{length-take-le}
-use borrow.Author.Tests.{eqb-true, leb-true, ltb-true, ltb-false, not-true, not-false, le-leb, eq-eqb, ne-eqb}
+use borrow.Author.Tests.{eqb-true, leb-true, ltb-true, le-leb, eq-eqb, ne-eqb}
 use Rattle.window.specs.Splitting.{placed}
-use Rattle.rules.specs.Lists.{each-of, some-of, total, distinct, outside, firstOf, verdict}
+use Rattle.rules.specs.Lists.{each-of, some-of, total, distinct}
 use Rattle.rules.specs.Bus as Machine
-use Rattle.rules.specs.Bus.{places, most-stations, least-space, most-space, clock-end, most-admitted, Discipline, PRI, RTDG, RTVC, Bus, waiting, numbers, numbersIn}
-use Rattle.rules.specs.declared.Verdict.{Verdict}
-use Rattle.rules.specs.SetUp.{Request, fine, fault, disciplineOf, step-outside, setUpVerdict}
+use Rattle.rules.specs.Bus.{places, most-stations, clock-end, most-admitted, Discipline, PRI, RTDG, RTVC, waiting, numbers, numbersIn}
+use Rattle.rules.specs.SetUp.{Request, disciplineOf, setUpVerdict}
 use Rattle.rules.specs.Standing.{value-fits, length-fits, rising, Rising, same-packet, parameter-fits, offer-stands, station-stands, last-stands, contention-stands, stands, askedFor, Standing}
-use Rattle.rules.proofs.Laws.{clash, and-true, true-and, or-false}
+use Rattle.rules.proofs.Laws.{clash, and-true, true-and}
 use Rattle.rules.proofs.Tests.{Whether, holds, fails}
 use Rattle.rules.proofs.Standing.{stands-exactly}
-use Rattle.bus.specs.State.{Packet, Listed, Contender, Contention, Round, Segment, Queues, State, noPacket, noContender, nobody, placesAt, queueAt, offerOf, contentionOf, stationAt, stationsOf, valuesFrom, lastOf, tieOf, meaning, no-packet, queue-padded, contender-padded, station-padded, no-station, each-place, round-padded, contention-padded, padded}
+use Rattle.bus.specs.State.{Packet, Contender, Contention, Segment, Queues, State, noContender, nobody, placesAt, queueAt, stationAt, stationsOf, valuesFrom, tieOf, meaning, no-packet, queue-padded, contender-padded, station-padded, no-station, each-place, round-padded, contention-padded, padded}
 use Rattle.bus.specs.Coded.{standing, askedOf, requestWith}
 use Rattle.bus.specs.Parts.{Queue, queueOf, parameterFits, contenderSound, stationTest, stationSound, nobodyTest, nobodyAt, numbersFrom, queuesSound, roundSound, contentionSound}
 use Rattle.bus.proofs.State as state
 use Rattle.bus.proofs.Rows.{each-place-all, each-place-turn, values-take}
 use Rattle.bus.proofs.Form.{Held, padded-parts, places-length}
-use Rattle.bus.proofs.SettingUp.{passes-as-asked}
+use Rattle.bus.proofs.QueueLaws.{queues-arrays}
+use Rattle.bus.proofs.SettingUp.{set-up-pass, passes-as-asked}
 
 -- ---- tests
 
@@ -42,13 +41,6 @@ and-four true false false d = refl
 and-four true false true d = refl
 and-four true true false d = refl
 and-four true true true d = refl
-
--- what a call that answers no, and one that answers yes, tells of its test
-pub answered-no : {r t : Bool} → r ≡ t → not r ≡ true → t ≡ false
-answered-no {r} e k = sym e ∙ not-true r k
-
-pub answered-yes : {r t : Bool} → r ≡ t → not r ≡ false → t ≡ true
-answered-yes {r} e k = sym e ∙ not-false r k
 
 -- ---- each place
 
@@ -234,7 +226,7 @@ nobody-order true true false contends parameter packet zeros room h = sym (and-f
 nobody-order true true true true parameter packet zeros room h = sym (and-false (room && zeros && true))
 nobody-order true true true false parameter packet zeros room h =
     and-comm (parameter && packet) zeros
-    ∙ sym (Bool-and-true (zeros && (parameter && packet)))
+    ∙ sym (and-last-true (zeros && (parameter && packet)))
     ∙ ap (λ t. t && zeros && (parameter && packet) && true) (sym (h refl))
 
 nobody-same : (s : State) (i : ℕ) → nobodyAt (s .segment) (s .queues) i ≡ (station-padded s i && no-station s i)
@@ -262,7 +254,7 @@ nobody-same s i =
 gathered : (padded stand past empty : Bool) → (padded && stand && (past && empty)) ≡ (padded && past && empty && stand)
 gathered false stand past empty = refl
 gathered true false past empty = sym (and-false (past && empty))
-gathered true true past empty = sym (Bool-and-true (past && empty))
+gathered true true past empty = sym (and-last-true (past && empty))
 
 places-same :
     (s : State) → s .segment .settings .n ≤ most-stations
@@ -387,24 +379,8 @@ contention-same s = ap (λ t. contention-padded c && t) (go (c .begun) (c .tied)
 abbrev pub tried : State → Request
 tried s = requestWith (s .segment .settings) (map askedOf (take 64 (s .segment .listed)))
 
--- where a refusal has a number from 1 on and 0 is given, its test does not hold
-not-held : (number : ℕ) (test : Bool) (rest : Verdict) → verdict test (fault (suc number) 0) rest .refusal ≡ 0 → (test ≡ false) × (rest .refusal ≡ 0)
-not-held number true rest e = absurd (omega arith)
-not-held number false rest e = (refl, e)
-
--- what an accepted set-up tells of the discipline's number and of N
-accepted-settings : (r : Request) → setUpVerdict r .refusal ≡ 0 → (r .discipline ≤ 2) × (r .N ≤ most-stations)
-accepted-settings r e =
-    let discipline = not-held 1 (ltb 2 (r .discipline)) _ e in
-    let D = not-held 2 (outside least-space most-space (r .D)) _ (discipline .1) in
-    let A = not-held 3 (outside least-space most-space (r .A)) _ (D .1) in
-    let q = not-held 4 (step-outside (r .discipline) (r .q)) _ (A .1) in
-    let N = not-held 5 (outside 1 most-stations (r .N) || ltb (length (r .row)) (r .N)) _ (q .1) in
-    let few = not-false (leb 1 (r .N) && leb (r .N) most-stations) (or-false (outside 1 most-stations (r .N)) (ltb (length (r .row)) (r .N)) (N .0) .0) in
-    (ltb-false 2 (r .discipline) (discipline .0), leb-true (r .N) most-stations (and-true (leb 1 (r .N)) (leb (r .N) most-stations) few .1))
-
 pub few-stations : (s : State) → setUpVerdict (tried s) .refusal ≡ 0 → s .segment .settings .n ≤ most-stations
-few-stations s e = accepted-settings (tried s) e .1
+few-stations s e = set-up-pass (s .segment .settings) (tried s .row) e .few
 
 -- the code's test is that the discipline is one of the three and the meaning passes
 set-up-same :
@@ -421,19 +397,20 @@ set-up-same s h = go (leb d 2) refl (eqb (setUpVerdict (tried s) .refusal) 0) re
         → (t && eqb (setUpVerdict (askedFor (meaning s)) .refusal) 0) ≡ v
     go true e v k = sym (passes-as-asked s (h .listed) (leb-true d 2 e)) ∙ k
     go false e false k = refl
-    go false e true k = clash (le-leb d 2 (accepted-settings (tried s) (eqb-true (setUpVerdict (tried s) .refusal) 0 k) .0)) e
+    go false e true k =
+        clash (le-leb d 2 (set-up-pass (s .segment .settings) (tried s .row) (eqb-true (setUpVerdict (tried s) .refusal) 0 k) .discipline)) e
 
 -- ---- the rows of a state that a function is handed are as long as its arrays
 
 pub state-held : (s : State) (vs : List Val) → Is state.the-row s vs → Held s
 state-held s vs owned =
     let segment = owned .1 .1 .0 .1 .1 in
-    let queues = owned .1 .1 .1 .0 .1 .1 in
+    let queues = queues-arrays (s .queues) _ (owned .1 .1 .1 .0) in
     record {
       listed = sym (length-map (s .segment .listed) _) ∙ segment .1 .0 .1 .0 .1;
       contenders = sym (length-map (s .segment .contenders) _) ∙ segment .1 .1 .1 .1 .1 .1 .1 .1 .0 .1 .0 .1;
-      lengths = sym (length-map (s .queues .lengths) _) ∙ queues .0 .1 .0 .1;
-      packets = sym (length-map (s .queues .packets) _) ∙ queues .1 .0 .1 .0 .1;
+      lengths = queues .0;
+      packets = queues .1;
     }
 
 -- ---- the standing conditions
@@ -465,7 +442,7 @@ parts-order zeros past round contention clock admitted counts stand apart last w
     queues-last : (a b c d : Bool) → (a && d && b && c) ≡ (a && b && c && d)
     queues-last false b c d = refl
     queues-last true b c false = sym (and-false (b && c))
-    queues-last true b c true = sym (Bool-and-true (b && c))
+    queues-last true b c true = sym (and-last-true (b && c))
 
 -- a state that a set-up would refuse does not stand
 pub not-set-up : (s : State) → Held s → (setUpVerdict (tried s) .refusal ≡ 0 → ⊥) → standing s ≡ false

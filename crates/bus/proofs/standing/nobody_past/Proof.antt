@@ -10,10 +10,6 @@ use Rattle.bus.proofs.Rows.{each-place-end}
 use Rattle.bus.proofs.StandingParts.{nobody-turn}
 use Rattle.bus.proofs.standing.nobody_past.Statement.{statement}
 use Rattle.bus.proofs.standing.nobody_past.Tie as tie
-use Rattle.bus.proofs.standing.nobody_past.Reads as reads
-use Rattle.bus.proofs.standing.nobody_past.Lts as lts
-use Rattle.bus.proofs.standing.nobody_at.Reads as nobody-at-reads
-use Rattle.bus.proofs.waiting.queue_at.Reads as queue-at-reads
 
 abbrev Inv-loop : tie.InvT-loop
 Inv-loop queues g n i₀ i =
@@ -22,35 +18,27 @@ Inv-loop queues g n i₀ i =
 abbrev μ-loop : tie.MeasureT-loop
 μ-loop queues g n i₀ i = 64 - i
 
--- src/standing.rt:225:5
 loop-holds : tie.Need-loop-holds Inv-loop μ-loop
 loop-holds c = (search needs, search needs, refl)
 
--- src/standing.rt:226:17
 mul-l : tie.Need-mul-l Inv-loop μ-loop
 mul-l c = search needs
 
--- src/standing.rt:226:17
 element-copy-out-l : tie.Need-element-copy-out-l Inv-loop μ-loop
 element-copy-out-l c = search needs
 
--- src/standing.rt:227:17
 mul-c : tie.Need-mul-c Inv-loop μ-loop
 mul-c c = search needs
 
--- src/standing.rt:227:17
 element-copy-out-c : tie.Need-element-copy-out-c Inv-loop μ-loop
 element-copy-out-c c = search needs
 
--- src/standing.rt:228:13
 queue-at-requires : tie.Need-queue-at-requires Inv-loop μ-loop
 queue-at-requires c κs = search needs
 
--- src/standing.rt:229:13
 nobody-at-requires : tie.Need-nobody-at-requires Inv-loop μ-loop
 nobody-at-requires c κs = search needs
 
--- src/standing.rt:230:13
 returns : tie.Need-returns Inv-loop μ-loop
 returns c =
     let at = c .before .before .before .before .before .before in
@@ -66,15 +54,12 @@ returns c =
     (c .before .nobody-at .ensures)
     (not-true (c .before .nobody-at .result) (c .if1 .taken)))
 
--- src/standing.rt:225:9
 add-i : tie.Need-add-i Inv-loop μ-loop
 add-i c = search needs
 
--- src/standing.rt:225:5
 loop-less : tie.Need-loop-less Inv-loop μ-loop
 loop-less c = search needs
 
--- src/standing.rt:225:5
 loop-again : tie.Need-loop-again Inv-loop μ-loop
 loop-again c =
     let at = c .before .before .before .before .before .before in
@@ -92,7 +77,6 @@ loop-again c =
       (not-false (c .before .nobody-at .result) (c .if1 .left)),
     )
 
--- src/standing.rt:219:1
 returns-2 : tie.Need-returns-2 Inv-loop μ-loop
 returns-2 c = sym (c .before .loop .inv .2 ∙ each-place-end _ _ _ (c .loop-test .left))
 

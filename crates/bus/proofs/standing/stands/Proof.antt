@@ -1,15 +1,16 @@
 -- `stands` meets its contract: each part that fails makes the standing conditions fail, and where all hold they hold. Assumes nothing.
 use Prim.Native.Nat.{_≤_}
 use mathlib.Core.Path.{_≡_, refl, sym, ap, _∙_}
-use mathlib.Core.Bool.{true}
-use lib.Dec.{leb}
+use mathlib.Core.Bool.{Bool, true, false}
+use lib.Dec.{leb, ltb}
 use borrow.Author.Needs.{needs}
 use borrow.Author.Tests.{ltb-true, ltb-false, le-leb, lt-leb}
 use Rattle.rules.specs.Bus.{clock-end, most-admitted, most-stations}
 use Rattle.rules.specs.SetUp.{setUpVerdict}
 use Rattle.bus.specs.State.{State}
 use Rattle.bus.proofs.Form.{Held}
-use Rattle.bus.proofs.StandingParts.{answered-no, answered-yes, tried, few-stations, state-held, not-set-up, standing-parts}
+use Rattle.bus.proofs.Tested.{denied, granted}
+use Rattle.bus.proofs.StandingParts.{tried, few-stations, state-held, not-set-up, standing-parts}
 use Rattle.bus.proofs.standing.stands.Statement.{statement}
 use Rattle.bus.proofs.standing.stands.Tie as tie
 use Rattle.bus.proofs.standing.stands.Reads as reads
@@ -20,26 +21,10 @@ use Rattle.bus.proofs.standing.queues_stand.Reads as queues-stand-reads
 use Rattle.bus.proofs.standing.round_stands.Reads as round-stands-reads
 use Rattle.bus.proofs.stations.verdict.Reads as verdict-reads
 
--- what is known where the set-up is not refused, and where the clock is in its range too
+-- what is known where the set-up is not refused
 abbrev SetUp : Type 0
 SetUp =
     lts.Else1
-    (verdict-reads.Asked,
-    verdict-reads.Learnt,
-    before-reads.Asked,
-    before-reads.Learnt,
-    round-stands-reads.Asked,
-    round-stands-reads.Learnt,
-    contention-stands-reads.Asked,
-    contention-stands-reads.Learnt,
-    queues-stand-reads.Asked,
-    queues-stand-reads.Learnt)
-    reads.Pre
-    reads.Post
-
-abbrev InTime : Type 0
-InTime =
-    lts.Else2
     (verdict-reads.Asked,
     verdict-reads.Learnt,
     before-reads.Asked,
@@ -65,10 +50,10 @@ held c = state-held (lent c) _ (c .before .before .before .before .before .befor
 few : (c : SetUp) → lent c .segment .settings .n ≤ most-stations
 few c = few-stations (lent c) (passed c)
 
-in-time : (c : InTime) → leb (lent (c .before .before) .segment .clock .0) clock-end ≡ true
-in-time c =
-    let clock = lent (c .before .before) .segment .clock .0 in
-    le-leb clock clock-end (ltb-false clock-end clock (sym (c .before .before2 .ensures) ∙ c .if2 .left))
+in-time : {r : Bool} (c : SetUp) → r ≡ ltb clock-end (lent c .segment .clock .0) → r ≡ false → leb (lent c .segment .clock .0) clock-end ≡ true
+in-time c e k =
+    let clock = lent c .segment .clock .0 in
+    le-leb clock clock-end (ltb-false clock-end clock (sym e ∙ k))
 
 verdict-requires : tie.Need-verdict-requires
 verdict-requires c κs = search needs
@@ -100,7 +85,7 @@ returns-3 c =
     s
     (held first)
     (passed first)
-    (in-time second)
+    (in-time first (second .before .before2 .ensures) (second .if2 .left))
     (lt-leb (s .segment .admitted) most-admitted (c .if3 .taken))
     refl
     refl
@@ -120,9 +105,9 @@ returns-4 c =
     s
     (held first)
     (passed first)
-    (in-time second)
+    (in-time first (second .before .before2 .ensures) (second .if2 .left))
     (le-leb (s .segment .admitted) most-admitted (third .if3 .left))
-    (answered-no (c .before .round-stands .ensures) (c .if4 .taken))
+    (denied (c .before .round-stands .ensures) (c .if4 .taken))
     refl
     refl)
 
@@ -141,10 +126,10 @@ returns-5 c =
     s
     (held first)
     (passed first)
-    (in-time second)
+    (in-time first (second .before .before2 .ensures) (second .if2 .left))
     (le-leb (s .segment .admitted) most-admitted (third .if3 .left))
-    (answered-yes (fourth .before .round-stands .ensures) (fourth .if4 .left))
-    (answered-no (c .before .contention-stands .ensures) (c .if5 .taken))
+    (granted (fourth .before .round-stands .ensures) (fourth .if4 .left))
+    (denied (c .before .contention-stands .ensures) (c .if5 .taken))
     refl)
 
 queues-stand-requires : tie.Need-queues-stand-requires
@@ -163,10 +148,10 @@ returns-6 c =
     s
     (held first)
     (passed first)
-    (in-time second)
+    (in-time first (second .before .before2 .ensures) (second .if2 .left))
     (le-leb (s .segment .admitted) most-admitted (third .if3 .left))
-    (answered-yes (fourth .before .round-stands .ensures) (fourth .if4 .left))
-    (answered-yes (fifth .before .contention-stands .ensures) (fifth .if5 .left))
+    (granted (fourth .before .round-stands .ensures) (fourth .if4 .left))
+    (granted (fifth .before .contention-stands .ensures) (fifth .if5 .left))
     (sym (c .queues-stand .ensures)))
 
 pub stands-spec : {M : Type 1} → statement M

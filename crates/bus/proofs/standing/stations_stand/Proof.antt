@@ -11,10 +11,6 @@ use Rattle.bus.proofs.Rows.{each-place-end}
 use Rattle.bus.proofs.StandingParts.{station-turn}
 use Rattle.bus.proofs.standing.stations_stand.Statement.{statement}
 use Rattle.bus.proofs.standing.stations_stand.Tie as tie
-use Rattle.bus.proofs.standing.stations_stand.Reads as reads
-use Rattle.bus.proofs.standing.stations_stand.Lts as lts
-use Rattle.bus.proofs.standing.station_stands.Reads as station-stands-reads
-use Rattle.bus.proofs.waiting.queue_at.Reads as queue-at-reads
 
 abbrev Inv-loop : tie.InvT-loop
 Inv-loop queues g settings contention n i₀ i = (i ≤ n) × (each-place (stationSound g queues) 0 n ≡ each-place (stationSound g queues) i (n - i))
@@ -22,35 +18,27 @@ Inv-loop queues g settings contention n i₀ i = (i ≤ n) × (each-place (stati
 abbrev μ-loop : tie.MeasureT-loop
 μ-loop queues g settings contention n i₀ i = n - i
 
--- src/standing.rt:182:5
 loop-holds : tie.Need-loop-holds Inv-loop μ-loop
 loop-holds c = (search needs, ap (each-place _ 0) (sym (sub-zero _)))
 
--- src/standing.rt:183:17
 mul-l : tie.Need-mul-l Inv-loop μ-loop
 mul-l c = search needs
 
--- src/standing.rt:183:17
 element-copy-out-l : tie.Need-element-copy-out-l Inv-loop μ-loop
 element-copy-out-l c = search needs
 
--- src/standing.rt:184:17
 mul-c : tie.Need-mul-c Inv-loop μ-loop
 mul-c c = search needs
 
--- src/standing.rt:184:17
 element-copy-out-c : tie.Need-element-copy-out-c Inv-loop μ-loop
 element-copy-out-c c = search needs
 
--- src/standing.rt:185:13
 queue-at-requires : tie.Need-queue-at-requires Inv-loop μ-loop
 queue-at-requires c κs = search needs
 
--- src/standing.rt:186:13
 station-stands-requires : tie.Need-station-stands-requires Inv-loop μ-loop
 station-stands-requires c κs = search needs
 
--- src/standing.rt:187:13
 returns : tie.Need-returns Inv-loop μ-loop
 returns c =
     let at = c .before .before .before .before .before .before in
@@ -66,15 +54,12 @@ returns c =
     (c .before .station-stands .ensures)
     (not-true (c .before .station-stands .result) (c .if1 .taken)))
 
--- src/standing.rt:182:9
 add-i : tie.Need-add-i Inv-loop μ-loop
 add-i c = search needs
 
--- src/standing.rt:182:5
 loop-less : tie.Need-loop-less Inv-loop μ-loop
 loop-less c = search needs
 
--- src/standing.rt:182:5
 loop-again : tie.Need-loop-again Inv-loop μ-loop
 loop-again c =
     let at = c .before .before .before .before .before .before in
@@ -91,7 +76,6 @@ loop-again c =
       (not-false (c .before .station-stands .result) (c .if1 .left)),
     )
 
--- src/standing.rt:175:1
 returns-2 : tie.Need-returns-2 Inv-loop μ-loop
 returns-2 c = sym (c .before .loop .inv .1 ∙ each-place-end _ _ _ (c .loop-test .left))
 
