@@ -59,8 +59,10 @@ each-both : (one two : ℕ → Bool) (i k : ℕ) → each-place (λ j. one j && 
 unfolding each-place
 each-both one two i zero = refl
 each-both one two i (suc k) =
-    ap (λ t. one i && two i && t) (each-both one two (suc i) k) ∙ and-four (one i) (two i) (each-place one (suc i) k) (each-place two (suc i) k)
+    ap (λ t. one i && two i && t) (each-both one two (suc i) k)
+    ∙ and-four (one i) (two i) (each-place one (suc i) k) (each-place two (suc i) k)
 
+-- tests that agree at each place
 each-same : (one two : ℕ → Bool) → ((j : ℕ) → one j ≡ two j) → (i k : ℕ) → each-place one i k ≡ each-place two i k
 unfolding each-place
 each-same one two h i zero = refl
@@ -182,13 +184,14 @@ station-order true true false false o = refl
 station-order true true true false o = refl
 
 -- a queue has sixteen places
-queue-room : (qs : Queues) (i : ℕ) → leb (length (queueAt qs i)) places ≡ true
-queue-room qs i =
+queue-in-places : (qs : Queues) (i : ℕ) → leb (length (queueAt qs i)) places ≡ true
+queue-in-places qs i =
     let some-of-them = length-take (getD (qs .lengths) i 0) (placesAt qs i) in
     let all-of-them = length-take places (drop (places * i) (qs .packets)) in
     le-leb (length (queueAt qs i)) places (omega arith)
 
-station-same : (s : State) (i : ℕ) → stationSound (s .segment) (s .queues) i ≡ (station-padded s i && station-stands (meaning s) (stationAt s i))
+station-same :
+    (s : State) (i : ℕ) → stationSound (s .segment) (s .queues) i ≡ (station-padded s i && station-stands (meaning s) (stationAt s i))
 station-same s i =
     ap (λ t. queue-padded (getD (s .queues .lengths) i 0) (placesAt (s .queues) i) && rises && fits && t) (contender-same s i)
     ∙ station-order
@@ -199,7 +202,7 @@ station-same s i =
     offered
     ∙ ap
     (λ t. station-padded s i && (t && rises && fits && offered))
-    (sym (queue-room (s .queues) i))
+    (sym (queue-in-places (s .queues) i))
   where
     rises : Bool
     rises = rising 0 (s .segment .admitted) (queueAt (s .queues) i)
@@ -220,9 +223,12 @@ nobody-order :
     (address capability empty contends parameter packet zeros room : Bool) → (empty ≡ true → room ≡ true)
     → (address && capability && empty && not contends && parameter && packet && zeros)
     ≡ (room && zeros && (contends || (parameter && packet)) && (address && capability && empty && not contends))
-nobody-order false capability empty contends parameter packet zeros room h = sym (and-false (room && zeros && (contends || (parameter && packet))))
-nobody-order true false empty contends parameter packet zeros room h = sym (and-false (room && zeros && (contends || (parameter && packet))))
-nobody-order true true false contends parameter packet zeros room h = sym (and-false (room && zeros && (contends || (parameter && packet))))
+nobody-order false capability empty contends parameter packet zeros room h =
+    sym (and-false (room && zeros && (contends || (parameter && packet))))
+nobody-order true false empty contends parameter packet zeros room h =
+    sym (and-false (room && zeros && (contends || (parameter && packet))))
+nobody-order true true false contends parameter packet zeros room h =
+    sym (and-false (room && zeros && (contends || (parameter && packet))))
 nobody-order true true true true parameter packet zeros room h = sym (and-false (room && zeros && true))
 nobody-order true true true false parameter packet zeros room h =
     and-comm (parameter && packet) zeros
@@ -294,16 +300,19 @@ numbers-same : (s : State) (i k : ℕ) → numbers (valuesFrom (stationAt s) i k
 numbers-same s i zero = refl
 numbers-same s i (suc k) = ap (λ ns. numbersIn (queueAt (s .queues) i) ++ ns) (numbers-same s (suc i) k)
 
--- a queue is as long as its length says
-queue-length : (s : State) → Held s → (i : ℕ) → i < most-stations → getD (s .queues .lengths) i 0 ≤ places → length (queueAt (s .queues) i) ≡ getD (s .queues .lengths) i 0
-queue-length s h i l room = length-take-le (getD (s .queues .lengths) i 0) (placesAt (s .queues) i) (omega (arith, places-length s h i l))
+-- a queue whose length is in range is as long as that says
+length-is :
+    (s : State) → Held s → (i : ℕ) → i < most-stations → getD (s .queues .lengths) i 0 ≤ places
+    → length (queueAt (s .queues) i) ≡ getD (s .queues .lengths) i 0
+length-is s h i l room = length-take-le (getD (s .queues .lengths) i 0) (placesAt (s .queues) i) (omega (arith, places-length s h i l))
 
+-- the packets waiting at the k stations from i on, by the lengths of their queues
 waiting-from :
     (s : State) → Held s → (i k : ℕ) → i + k ≤ most-stations → ((j : ℕ) → j < i + k → getD (s .queues .lengths) j 0 ≤ places)
     → waiting (valuesFrom (stationAt s) i k) ≡ total (λ n. n) (valuesFrom (λ j. getD (s .queues .lengths) j 0) i k)
 waiting-from s h i zero l room = refl
 waiting-from s h i (suc k) l room =
-    ap₂ _+_ (queue-length s h i (omega arith) (room i (omega arith))) (waiting-from s h (suc i) k (omega arith) (λ j m. room j (omega arith)))
+    ap₂ _+_ (length-is s h i (omega arith) (room i (omega arith))) (waiting-from s h (suc i) k (omega arith) (λ j m. room j (omega arith)))
 
 waiting-same :
     (s : State) → Held s → s .segment .settings .n ≤ most-stations
@@ -316,12 +325,14 @@ waiting-same s h l room =
 
 -- ---- the round
 
+-- two tests of values that agree at each place
 some-values :
     {X Y : Type 0} (one : X → Bool) (two : Y → Bool) (f : ℕ → X) (g : ℕ → Y) → ((j : ℕ) → one (f j) ≡ two (g j)) → (i k : ℕ)
     → some-of one (valuesFrom f i k) ≡ some-of two (valuesFrom g i k)
 some-values one two f g h i zero = refl
 some-values one two f g h i (suc k) = ap₂ _||_ (h i) (some-values one two f g h (suc i) k)
 
+-- `held` is whether a station has the last winner's capability
 last-same :
     (discipline last : ℕ) (won held : Bool) (stations : List Machine.Station) → held ≡ some-of (λ s. eqb last (s .capability)) stations
     → (not won || (leb 2 discipline && held)) ≡ last-stands (disciplineOf discipline) stations (cond won (some last) none)
@@ -348,7 +359,14 @@ round-same s h l =
     (some-of (λ l. eqb last (l .capability .0)) (take n (s .segment .listed)))
     (stationsOf s)
     (ap (some-of (λ l. eqb last (l .capability .0))) (values-take (s .segment .listed) nobody n (omega (arith, h .listed)))
-    ∙ some-values (λ l. eqb last (l .capability .0)) (λ x. eqb last (x .capability)) (λ i. getD (s .segment .listed) i nobody) (stationAt s) (λ j. refl) 0 n))
+    ∙ some-values
+    (λ l. eqb last (l .capability .0))
+    (λ x. eqb last (x .capability))
+    (λ i. getD (s .segment .listed) i nobody)
+    (stationAt s)
+    (λ j. refl)
+    0
+    n))
 
 -- ---- the contention
 
@@ -445,7 +463,7 @@ parts-order zeros past round contention clock admitted counts stand apart last w
     queues-last true b c true = sym (and-last-true (b && c))
 
 -- a state that a set-up would refuse does not stand
-pub not-set-up : (s : State) → Held s → (setUpVerdict (tried s) .refusal ≡ 0 → ⊥) → standing s ≡ false
+pub not-set-up : (s : State) → Held s → ¬ (setUpVerdict (tried s) .refusal ≡ 0) → standing s ≡ false
 not-set-up s h n = go (standing s) refl
   where
     passes : {t : Bool} → Whether (Standing (meaning s)) t → t ≡ true → setUpVerdict (askedFor (meaning s)) .refusal ≡ 0
@@ -471,14 +489,14 @@ sound-queue : (g : Segment) (qs : Queues) (n : ℕ) → each-place (stationSound
 sound-queue g qs n e i l =
     let k = getD (qs .lengths) i 0 in
     let zeros = each-of no-packet (drop k (placesAt qs i)) in
-    let fits = each-of (λ p. value-fits (disciplineOf (g .settings .discipline)) (g .settings .d) (p .value) && length-fits (p .length)) (queueAt qs i) in
     let sound = each-place-all (stationSound g qs) 0 n e i (omega arith) (omega arith) in
-    let abc = and-true (leb k places && zeros && rising 0 (g .admitted) (queueAt qs i) && fits) _ sound in
-    let ab = and-true (leb k places && zeros && rising 0 (g .admitted) (queueAt qs i)) fits (abc .0) in
+    let abc = and-true (leb k places && zeros && rising 0 (g .admitted) (queueAt qs i) && _) _ sound in
+    let ab = and-true (leb k places && zeros && rising 0 (g .admitted) (queueAt qs i)) _ (abc .0) in
     let both = and-true (leb k places && zeros) (rising 0 (g .admitted) (queueAt qs i)) (ab .0) in
     record { room = leb-true k places (and-true (leb k places) zeros (both .0) .0); rises = both .1 }
 
-pub sound-room : (g : Segment) (qs : Queues) (n : ℕ) → each-place (stationSound g qs) 0 n ≡ true → (i : ℕ) → i < n → getD (qs .lengths) i 0 ≤ places
+pub sound-room :
+    (g : Segment) (qs : Queues) (n : ℕ) → each-place (stationSound g qs) 0 n ≡ true → (i : ℕ) → i < n → getD (qs .lengths) i 0 ≤ places
 sound-room g qs n e i l = sound-queue g qs n e i l .room
 
 pub sound-rises :
@@ -501,12 +519,8 @@ pub standing-parts :
     → queuesSound (s .segment) (s .queues) ≡ queues′
     → standing s ≡ (clock′ && admitted′ && round′ && contention′ && queues′)
 standing-parts {clock′} {admitted′} {round′} {contention′} s h e clock-is admitted-is round-is contention-is queues-is =
-    let both =
-        and-true
-        (leb (s .segment .settings .discipline) 2)
-        (eqb (setUpVerdict (askedFor (meaning s)) .refusal) 0)
-        (set-up-same s h ∙ eq-eqb (setUpVerdict (tried s) .refusal) 0 e)
-    in
+    let passes = set-up-same s h ∙ eq-eqb (setUpVerdict (tried s) .refusal) 0 e in
+    let both = and-true (leb (s .segment .settings .discipline) 2) (eqb (setUpVerdict (askedFor (meaning s)) .refusal) 0) passes in
     let few = few-stations s e in
     let n = s .segment .settings .n in
     let clock = leb (s .segment .clock .0) clock-end in

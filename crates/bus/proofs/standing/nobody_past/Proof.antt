@@ -67,14 +67,14 @@ loop-again c =
       search needs,
       search needs,
       at .loop .inv .2
-      ∙ nobody-turn
-      (start .args .t1)
-      (start .args .queues)
-      (at .loop .i)
-      (omega arith)
-      (c .before .before .queue-at .ensures)
-      (c .before .nobody-at .ensures)
-      (not-false (c .before .nobody-at .result) (c .if1 .left)),
+          ∙ nobody-turn
+          (start .args .t1)
+          (start .args .queues)
+          (at .loop .i)
+          (omega arith)
+          (c .before .before .queue-at .ensures)
+          (c .before .nobody-at .ensures)
+          (not-false (c .before .nobody-at .result) (c .if1 .left)),
     )
 
 returns-2 : tie.Need-returns-2 Inv-loop μ-loop

@@ -21,20 +21,21 @@ use Rattle.bus.proofs.standing.queues_stand.Reads as queues-stand-reads
 use Rattle.bus.proofs.standing.round_stands.Reads as round-stands-reads
 use Rattle.bus.proofs.stations.verdict.Reads as verdict-reads
 
--- what is known where the set-up is not refused
+-- what is known where the set-up is not refused; `lent` is the state there
 abbrev SetUp : Type 0
 SetUp =
-    lts.Else1
-    (verdict-reads.Asked,
-    verdict-reads.Learnt,
-    before-reads.Asked,
-    before-reads.Learnt,
-    round-stands-reads.Asked,
-    round-stands-reads.Learnt,
-    contention-stands-reads.Asked,
-    contention-stands-reads.Learnt,
-    queues-stand-reads.Asked,
-    queues-stand-reads.Learnt)
+    lts.Else1 (
+      verdict-reads.Asked,
+      verdict-reads.Learnt,
+      before-reads.Asked,
+      before-reads.Learnt,
+      round-stands-reads.Asked,
+      round-stands-reads.Learnt,
+      contention-stands-reads.Asked,
+      contention-stands-reads.Learnt,
+      queues-stand-reads.Asked,
+      queues-stand-reads.Learnt,
+    )
     reads.Pre
     reads.Post
 
@@ -50,10 +51,9 @@ held c = state-held (lent c) _ (c .before .before .before .before .before .befor
 few : (c : SetUp) → lent c .segment .settings .n ≤ most-stations
 few c = few-stations (lent c) (passed c)
 
-in-time : {r : Bool} (c : SetUp) → r ≡ ltb clock-end (lent c .segment .clock .0) → r ≡ false → leb (lent c .segment .clock .0) clock-end ≡ true
-in-time c e k =
-    let clock = lent c .segment .clock .0 in
-    le-leb clock clock-end (ltb-false clock-end clock (sym e ∙ k))
+in-time :
+    {r : Bool} (c : SetUp) → r ≡ ltb clock-end (lent c .segment .clock .0) → r ≡ false → leb (lent c .segment .clock .0) clock-end ≡ true
+in-time c e k = let clock = lent c .segment .clock .0 in le-leb clock clock-end (ltb-false clock-end clock (sym e ∙ k))
 
 verdict-requires : tie.Need-verdict-requires
 verdict-requires c κs = search needs

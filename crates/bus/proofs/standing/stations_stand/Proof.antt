@@ -13,7 +13,8 @@ use Rattle.bus.proofs.standing.stations_stand.Statement.{statement}
 use Rattle.bus.proofs.standing.stations_stand.Tie as tie
 
 abbrev Inv-loop : tie.InvT-loop
-Inv-loop queues g settings contention n i₀ i = (i ≤ n) × (each-place (stationSound g queues) 0 n ≡ each-place (stationSound g queues) i (n - i))
+Inv-loop queues g settings contention n i₀ i =
+    (i ≤ n) × (each-place (stationSound g queues) 0 n ≡ each-place (stationSound g queues) i (n - i))
 
 abbrev μ-loop : tie.MeasureT-loop
 μ-loop queues g settings contention n i₀ i = n - i
@@ -66,14 +67,14 @@ loop-again c =
     let start = at .before .before .before in (
       search needs,
       at .loop .inv .1
-      ∙ station-turn
-      (start .args .t1)
-      (start .args .queues)
-      (at .loop .i)
-      (omega arith)
-      (c .before .before .queue-at .ensures)
-      (c .before .station-stands .ensures)
-      (not-false (c .before .station-stands .result) (c .if1 .left)),
+          ∙ station-turn
+          (start .args .t1)
+          (start .args .queues)
+          (at .loop .i)
+          (omega arith)
+          (c .before .before .queue-at .ensures)
+          (c .before .station-stands .ensures)
+          (not-false (c .before .station-stands .result) (c .if1 .left)),
     )
 
 returns-2 : tie.Need-returns-2 Inv-loop μ-loop
