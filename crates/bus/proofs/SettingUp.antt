@@ -1,9 +1,9 @@
 -- The stations of a set-up: the tests of its numbers and of its row in the order in which they are tried, and the state that it gives.
 -- Assumes nothing.
 use Prim.Native.Nat.{ℕ, zero, suc, _+_, _/_, _%_, _≤_, _<_, min}
-use mathlib.Core.Path.{_≡_, refl, sym, ap, ap₂, _∙_, subst}
+use mathlib.Core.Path.{_≡_, refl, sym, ap, ap₂, _∙_}
 use mathlib.Core.Logic.{inl, inr}
-use mathlib.Core.Bool.{Bool, true, false, not, _&&_, _||_, cond}
+use mathlib.Core.Bool.{Bool, true, false, not, _||_, cond}
 use mathlib.Core.List.{List, [], _∷_, _++_, map, map-append}
 use native.Mathlib.Numerals.{add-one}
 use native.Mathlib.Omega.{arith}
@@ -13,7 +13,7 @@ use denote.Array.{Array}
 use lib.Dec.{leb, ltb, eqb}
 use lib.ListN.{length, getD, take, length-map, length-take, List·getD-map, List·getD-eq-default}
 use lib.Seq.{slice, slice-cons, slice-empty, take-suc, take-all, take-take, getD-take, length-take-le}
-use borrow.Author.Tests.{leb-true, leb-false, ltb-true, ltb-false, eqb-true, le-leb, lt-leb, lt-ltb, le-ltb, eq-eqb, ne-eqb}
+use borrow.Author.Tests.{leb-true, leb-false, ltb-true, ltb-false, eqb-true, le-leb, lt-leb, lt-ltb, le-ltb, ne-eqb}
 use Rattle.rules.specs.Lists.{each-of, has, outside, firstOf, verdict}
 use Rattle.rules.specs.declared.Verdict.{Verdict}
 use Rattle.rules.specs.Bus.{most-stations, least-space, most-space, most-step, places, RTDG, code, Station, Bus, nothing}
@@ -45,23 +45,28 @@ outside-above least most n h = simp (le-leb least n h) (go (leb n most) refl)
 -- ---- the row of stations
 
 -- the array of stations that a function is handed has its 64 places
-pub stations-count : (stations : List Listed) (vs : List Val) → Is (Array (the-row) 64) stations vs → length stations ≡ 64
+pub stations-count : (stations : List Listed) (vs : List Val) → Is (Array the-row 64) stations vs → length stations ≡ 64
 stations-count stations vs owned = owned .1 .0 .1
+
+-- a number of each station
+abbrev pub numbered : (Asked → ℕ) → List Listed → List ℕ
+numbered f stations = map f (map askedOf stations)
 
 -- one turn of the search for a number among the stations from e to i
 pub earlier-turn :
     (f : Asked → ℕ) (stations : List Listed) (n e i : ℕ) (t : Bool) → length stations ≡ 64 → e < i → i < 64
     → eqb n (f (askedOf (getD stations e nobody))) ≡ t
-    → has n (map f (map askedOf (slice e i stations))) ≡ (t || has n (map f (map askedOf (slice (e + 1) i stations))))
+    → has n (numbered f (slice e i stations)) ≡ (t || has n (numbered f (slice (e + 1) i stations)))
 earlier-turn f stations n e i t count h l same =
-    ap (λ xs. has n (map f (map askedOf xs))) (slice-cons e i stations nobody h (omega arith))
-    ∙ ap₂ (λ s k. s || has n (map f (map askedOf (slice k i stations)))) same (sym (add-one e))
+    ap (λ xs. has n (numbered f xs)) (slice-cons e i stations nobody h (omega arith))
+    ∙ ap₂ (λ s k. s || has n (numbered f (slice k i stations))) same (sym (add-one e))
 
 -- and its end
-pub earlier-end : (f : Asked → ℕ) (stations : List Listed) (n e i : ℕ) → e ≤ i → i ≤ e → has n (map f (map askedOf (slice e i stations))) ≡ false
+pub earlier-end :
+    (f : Asked → ℕ) (stations : List Listed) (n e i : ℕ) → e ≤ i → i ≤ e → has n (numbered f (slice e i stations)) ≡ false
 earlier-end f stations n e i h l =
     let s : e ≡ i = omega arith in
-    ap (λ k. has n (map f (map askedOf (slice k i stations)))) s ∙ ap (λ xs. has n (map f (map askedOf xs))) (slice-empty i stations)
+    ap (λ k. has n (numbered f (slice k i stations))) s ∙ ap (λ xs. has n (numbered f xs)) (slice-empty i stations)
 
 -- ---- tests in turn
 
@@ -73,7 +78,7 @@ pub past : {a rest : Verdict} {s b : Bool} (v : Verdict) → s ≡ b → s ≡ f
 past {a} {rest} v p h e = e ∙ ap (λ t. verdict t v rest) (sym h ∙ p)
 
 -- Where every refusal has a number from 1 on: further tests decide if the first ones give 0.
-pub in-turn :
+in-turn :
     (ts us : List (Verdict × Bool)) → each-of (λ t. ltb 0 (t .0 .refusal)) ts ≡ true
     → firstOf fine (ts ++ us) ≡ cond (eqb (firstOf fine ts .refusal) 0) (firstOf fine us) (firstOf fine ts)
 in-turn [] us k = refl
@@ -89,42 +94,53 @@ in-turn (t ∷ ts) us k =
     go true h i = simp (ne-eqb (t .0 .refusal) 0 (λ e. omega arith))
     go false h i = i
 
--- one turn of the stations' tests, from station i to n; v is the verdict on station i
+-- the tests of the stations from i to n
+abbrev testsFrom : Request → List Listed → ℕ → ℕ → List (Verdict × Bool)
+testsFrom r stations n i = rowTests r i (map askedOf (take i stations)) (map askedOf (slice i n stations))
+
+-- the verdict on the stations from i to n
+abbrev pub faultFrom : Request → List Listed → ℕ → ℕ → Verdict
+faultFrom r stations n i = firstOf fine (testsFrom r stations n i)
+
+-- one turn of the search for a faulty station; v is the verdict on station i
 pub faulty-turn :
     (r : Request) (stations : List Listed) (i n : ℕ) (v : Verdict) (t : Bool) → length stations ≡ 64 → i < n → n ≤ 64
     → v ≡ firstOf fine (stationTests r i (map askedOf (take i stations)) (askedOf (getD stations i nobody))) → eqb (v .refusal) 0 ≡ t
-    → firstOf fine (rowTests r i (map askedOf (take i stations)) (map askedOf (slice i n stations)))
-    ≡ cond t (firstOf fine (rowTests r (i + 1) (map askedOf (take (i + 1) stations)) (map askedOf (slice (i + 1) n stations)))) v
+    → faultFrom r stations n i ≡ cond t (faultFrom r stations n (i + 1)) v
 faulty-turn r stations i n v t count h l e same =
-    ap (λ xs. firstOf fine (rowTests r i (map askedOf (take i stations)) (map askedOf xs))) (slice-cons i n stations nobody h (omega arith))
-    ∙ in-turn tests (rowTests r (suc i) (map askedOf (take i stations) ++ (askedOf (getD stations i nobody) ∷ [])) (map askedOf (slice (suc i) n stations))) refl
-    ∙ ap (λ earlier. cond (eqb (firstOf fine tests .refusal) 0) (firstOf fine (rowTests r (suc i) earlier (map askedOf (slice (suc i) n stations)))) (firstOf fine tests)) passed
-    ∙ ap (λ k. cond (eqb (firstOf fine tests .refusal) 0) (later k) (firstOf fine tests)) (sym (add-one i))
-    ∙ ap (λ w. cond (eqb (w .refusal) 0) (later (i + 1)) w) (sym e)
-    ∙ ap (λ b. cond b (later (i + 1)) v) same
+    ap
+    (λ xs. firstOf fine (rowTests r i (map askedOf (take i stations)) (map askedOf xs)))
+    (slice-cons i n stations nobody h (omega arith))
+    ∙ in-turn tests (testsAfter (map askedOf (take i stations) ++ (askedOf s ∷ []))) refl
+    ∙ ap₂ (λ w us. cond (eqb (w .refusal) 0) (firstOf fine us) w) (sym e) next
+    ∙ ap (λ b. cond b (faultFrom r stations n (i + 1)) v) same
   where
+    s : Listed
+    s = getD stations i nobody
+
     tests : List (Verdict × Bool)
-    tests = stationTests r i (map askedOf (take i stations)) (askedOf (getD stations i nobody))
+    tests = stationTests r i (map askedOf (take i stations)) (askedOf s)
 
-    later : ℕ → Verdict
-    later k = firstOf fine (rowTests r k (map askedOf (take k stations)) (map askedOf (slice k n stations)))
+    testsAfter : List Asked → List (Verdict × Bool)
+    testsAfter earlier = rowTests r (suc i) earlier (map askedOf (slice (suc i) n stations))
 
-    passed : map askedOf (take i stations) ++ (askedOf (getD stations i nobody) ∷ []) ≡ map askedOf (take (suc i) stations)
-    passed = sym (ap (map askedOf) (take-suc stations i nobody (omega arith)) ∙ map-append askedOf (take i stations) (getD stations i nobody ∷ []))
+    next : testsAfter (map askedOf (take i stations) ++ (askedOf s ∷ [])) ≡ testsFrom r stations n (i + 1)
+    next =
+        ap testsAfter (sym (ap (map askedOf) (take-suc stations i nobody (omega arith)) ∙ map-append askedOf (take i stations) (s ∷ [])))
+        ∙ ap (testsFrom r stations n) (sym (add-one i))
 
--- and their end
-pub faulty-end :
-    (r : Request) (earlier : List Asked) (stations : List Listed) (i n : ℕ) → i ≤ n → n ≤ i
-    → firstOf fine (rowTests r i earlier (map askedOf (slice i n stations))) ≡ fine
-faulty-end r earlier stations i n h l =
+-- and its end
+pub faulty-end : (r : Request) (stations : List Listed) (i n : ℕ) → i ≤ n → n ≤ i → faultFrom r stations n i ≡ fine
+faulty-end r stations i n h l =
     let s : i ≡ n = omega arith in
-    ap (λ k. firstOf fine (rowTests r i earlier (map askedOf (slice k n stations)))) s
-    ∙ ap (λ xs. firstOf fine (rowTests r i earlier (map askedOf xs))) (slice-empty n stations)
+    ap (faultFrom r stations n) s
+    ∙ ap (λ xs. firstOf fine (rowTests r n (map askedOf (take n stations)) (map askedOf xs))) (slice-empty n stations)
 
 -- ---- the whole set-up
 
 -- the first n of a row that is asked for
-pub asked-first : (stations : List Listed) (n count : ℕ) → n ≤ count → take n (map askedOf (take count stations)) ≡ map askedOf (take n stations)
+pub asked-first :
+    (stations : List Listed) (n count : ℕ) → n ≤ count → take n (map askedOf (take count stations)) ≡ map askedOf (take n stations)
 asked-first stations n count h = take-map n (take count stations) ∙ ap (map askedOf) (take-take n count stations h)
   where
     take-map : (m : ℕ) (ls : List Listed) → take m (map askedOf ls) ≡ map askedOf (take m ls)
@@ -132,17 +148,23 @@ asked-first stations n count h = take-map n (take count stations) ∙ ap (map as
     take-map (suc m) [] = refl
     take-map (suc m) (l ∷ ls) = ap (λ more. askedOf l ∷ more) (take-map m ls)
 
-pub asked-count : (stations : List Listed) (count : ℕ) → length stations ≡ 64 → length (map askedOf (take count stations)) ≡ min count most-stations
+-- how long it is
+pub asked-count :
+    (stations : List Listed) (count : ℕ) → length stations ≡ 64 → length (map askedOf (take count stations)) ≡ min count most-stations
 asked-count stations count e = length-map (take count stations) askedOf ∙ length-take count stations ∙ ap (min count) e
 
 -- the stations' tests do not read the row
-unread : (g : Settings) (row : List Asked) (i : ℕ) (earlier later : List Asked) → rowTests (requestWith g row) i earlier later ≡ rowTests (requestWith g []) i earlier later
+unread :
+    (g : Settings) (row : List Asked) (i : ℕ) (earlier later : List Asked)
+    → rowTests (requestWith g row) i earlier later ≡ rowTests (requestWith g []) i earlier later
 unread g row i earlier [] = refl
-unread g row i earlier (s ∷ later) = ap (λ tests. stationTests (requestWith g []) i earlier s ++ tests) (unread g row (suc i) (earlier ++ (s ∷ [])) later)
+unread g row i earlier (s ∷ later) =
+    ap (λ tests. stationTests (requestWith g []) i earlier s ++ tests) (unread g row (suc i) (earlier ++ (s ∷ [])) later)
 
 -- the verdict on the row decides where that on the settings, v, is 0
 pub set-up-turn :
-    (g : Settings) (row : List Asked) (v : Verdict) (t : Bool) → v ≡ firstOf fine (settingsTests (requestWith g row)) → eqb (v .refusal) 0 ≡ t
+    (g : Settings) (row : List Asked) (v : Verdict) (t : Bool) → v ≡ firstOf fine (settingsTests (requestWith g row))
+    → eqb (v .refusal) 0 ≡ t
     → setUpVerdict (requestWith g row) ≡ cond t (firstOf fine (rowTests (requestWith g []) 0 [] (take (g .n) row))) v
 set-up-turn g row v t e same =
     in-turn (settingsTests r) (rowTests r 0 [] (take (g .n) row)) refl
@@ -194,7 +216,8 @@ set-up-pass g row e = settings-pass g row (go (eqb (v .refusal) 0) refl)
 
 -- the answer of a set-up, by the verdict and whether that is 0
 pub set-up-answer :
-    (r : Request) (v : Verdict) (s : State) (t : Bool) → v ≡ setUpVerdict r → eqb (v .refusal) 0 ≡ t → s ≡ form (cond t (freshBus r) nothing)
+    (r : Request) (v : Verdict) (s : State) (t : Bool) → v ≡ setUpVerdict r → eqb (v .refusal) 0 ≡ t
+    → s ≡ form (cond t (freshBus r) nothing)
     → _≡_ {A = SetUp} (record { verdict = v; state = s }) (setUpResult (codedSetUp r))
 set-up-answer r v s t e same given =
     ap₂
@@ -224,14 +247,26 @@ fresh-form g stations count pass = λ j.
       segment = record {
         settings =
             record { discipline = sym (code-discipline (g .discipline) (pass .discipline)) j; d = g .d; a = g .a; q = g .q; n = long j };
-        listed = row-same 64 (λ i. listedForm (stationOr b i)) (λ i. cond (ltb i (g .n)) (getD stations i nobody) nobody) (λ i h. ap listedForm (at i) ∙ first-place stations (g .n) i) j;
+        listed =
+            row-same
+            64
+            (λ i. listedForm (stationOr b i))
+            (λ i. cond (ltb i (g .n)) (getD stations i nobody) nobody)
+            (λ i h. ap listedForm (at i) ∙ first-place stations (g .n) i)
+            j;
         clock = record { 0 = 0 };
         admitted = 0;
         sent = 0;
         lost = 0;
         round = noRound;
         contention = noContention;
-        contenders = row-same 64 (λ i. contenderForm (stationOr b i .offer)) (λ i. noContender) (λ i h. ap (λ (s : Station). contenderForm (s .offer)) (at i)) j;
+        contenders =
+            row-same
+            64
+            (λ i. contenderForm (stationOr b i .offer))
+            (λ i. noContender)
+            (λ i h. ap (λ (s : Station). contenderForm (s .offer)) (at i))
+            j;
       };
       queues = record {
         lengths = row-same 64 (λ i. length (stationOr b i .queue)) (λ i. 0) (λ i h. ap (λ (s : Station). length (s .queue)) (at i)) j;
@@ -267,15 +302,16 @@ fresh-form g stations count pass = λ j.
 
 -- 'what stands past N is unread': two rows with the same first N give the same verdict
 same-read :
-    (g : Settings) (asked asked′ : List Asked) → g .n ≤ length asked → g .n ≤ length asked′ → take (g .n) asked ≡ take (g .n) asked′
-    → setUpVerdict (requestWith g asked) ≡ setUpVerdict (requestWith g asked′)
-same-read g asked asked′ h h′ e =
-    rw
-    (le-ltb (length asked) (g .n) h, le-ltb (length asked′) (g .n) h′, unread g asked 0 [] (take (g .n) asked), unread g asked′ 0 [] (take (g .n) asked′), e)
+    (g : Settings) (row row′ : List Asked) → g .n ≤ length row → g .n ≤ length row′ → take (g .n) row ≡ take (g .n) row′
+    → setUpVerdict (requestWith g row) ≡ setUpVerdict (requestWith g row′)
+same-read g row row′ h h′ e =
+    let long = le-ltb (length row) (g .n) h in
+    let long′ = le-ltb (length row′) (g .n) h′ in
+    rw (long, long′, unread g row 0 [] (take (g .n) row), unread g row′ 0 [] (take (g .n) row′), e)
 
 -- more stations than 64 are refused
-many-refused : (g : Settings) (asked : List Asked) → most-stations < g .n → eqb (setUpVerdict (requestWith g asked) .refusal) 0 ≡ false
-many-refused g asked h = ne-eqb (setUpVerdict (requestWith g asked) .refusal) 0 (λ e. omega (arith, set-up-pass g asked e .few))
+many-refused : (g : Settings) (row : List Asked) → most-stations < g .n → eqb (setUpVerdict (requestWith g row) .refusal) 0 ≡ false
+many-refused g row h = ne-eqb (setUpVerdict (requestWith g row) .refusal) 0 (λ e. omega (arith, set-up-pass g row e .few))
 
 -- The row of all 64 places passes 2 to 10 exactly when what the meaning would be asked for by does.
 pub passes-as-asked :
@@ -317,7 +353,9 @@ passes-as-asked s count d = go (leb (g .n) 64) refl ∙ ap (λ (r : Request). eq
         ∙ sym (values-map askedOf (λ i. getD listed i nobody) 0 (g .n))
         ∙ ap (map askedOf) (sym (values-take listed nobody (g .n) (omega arith)))
 
-    go : (t : Bool) → leb (g .n) 64 ≡ t → eqb (setUpVerdict (requestWith g all) .refusal) 0 ≡ eqb (setUpVerdict (requestWith g meant) .refusal) 0
+    go :
+        (t : Bool) → leb (g .n) 64 ≡ t
+        → eqb (setUpVerdict (requestWith g all) .refusal) 0 ≡ eqb (setUpVerdict (requestWith g meant) .refusal) 0
     go true e =
         let h : g .n ≤ 64 = leb-true (g .n) 64 e in
         ap

@@ -34,6 +34,7 @@ const MOST_STATIONS: usize = 64;
 
 // 'parameter space D', 'address space A: 2 to 65,536'
 const LEAST_SPACE: u32 = 2;
+
 const MOST_SPACE: u32 = 65_536;
 
 // 'laxity step q: RTDG: 1 to 65,535'

@@ -13,11 +13,6 @@ use Rattle.bus.proofs.SettingUp.{set-up-answer, nothing-form, set-up-pa
 use borrow.Author.Needs.{needs}
 use Rattle.bus.proofs.set_up.Statement.{statement}
 use Rattle.bus.proofs.set_up.Tie as tie
-use Rattle.bus.proofs.set_up.Reads as reads
-use Rattle.bus.proofs.set_up.Lts as lts
-use Rattle.bus.proofs.stations.fresh.Reads as fresh-reads
-use Rattle.bus.proofs.stations.up_to.Reads as up-to-reads
-use Rattle.bus.proofs.stations.verdict.Reads as verdict-reads
 
 verdict-requires : tie.Need-verdict-requires
 verdict-requires c κs = search needs

@@ -9,8 +9,6 @@ use borrow.Author.Tests.{ltb-true, ltb-false, lt-ltb, le-ltb}
 use Rattle.bus.proofs.SettingUp.{outside-below, outside-above}
 use Rattle.bus.proofs.stations.count_outside.Statement.{statement}
 use Rattle.bus.proofs.stations.count_outside.Tie as tie
-use Rattle.bus.proofs.stations.count_outside.Reads as reads
-use Rattle.bus.proofs.stations.count_outside.Lts as lts
 
 filled : (count n : ℕ) → n ≤ 64 → ltb count n ≡ ltb (min count 64) n
 filled count n h = go (ltb (min count 64) n) refl

@@ -3,28 +3,18 @@
 use Prim.Native.Nat.{_≤_, _-_}
 use mathlib.Core.Path.{_≡_, refl, sym, _∙_}
 use mathlib.Core.Bool.{true, false}
-use mathlib.Core.List.{[], map}
+use mathlib.Core.List.{[]}
 use native.Mathlib.Omega.{arith}
-use lib.ListN.{take}
-use lib.Seq.{slice}
 use borrow.Author.Needs.{needs}
 use borrow.Author.Tests.{eq-eqb, ne-eqb}
-use Rattle.rules.specs.Lists.{firstOf}
-use Rattle.rules.specs.SetUp.{fine, rowTests}
-use Rattle.bus.specs.Coded.{askedOf, requestWith}
-use Rattle.bus.proofs.SettingUp.{stations-count, faulty-turn, faulty-end}
+use Rattle.bus.specs.Coded.{requestWith}
+use Rattle.bus.proofs.SettingUp.{stations-count, faultFrom, faulty-turn, faulty-end}
 use Rattle.bus.proofs.stations.first_faulty.Statement.{statement}
 use Rattle.bus.proofs.stations.first_faulty.Tie as tie
-use Rattle.bus.proofs.stations.first_faulty.Reads as reads
-use Rattle.bus.proofs.stations.first_faulty.Lts as lts
-use Rattle.bus.proofs.stations.fault.Reads as fault-reads
-use Rattle.bus.proofs.stations.station_verdict.Reads as station-verdict-reads
 
 abbrev Inv-loop : tie.InvT-loop
 Inv-loop settings stations n i₀ i =
-    (i ≤ n)
-    × (firstOf fine (rowTests (requestWith settings []) 0 [] (map askedOf (take n stations)))
-    ≡ firstOf fine (rowTests (requestWith settings []) i (map askedOf (take i stations)) (map askedOf (slice i n stations))))
+    (i ≤ n) × (faultFrom (requestWith settings []) stations n 0 ≡ faultFrom (requestWith settings []) stations n i)
 
 abbrev μ-loop : tie.MeasureT-loop
 μ-loop settings stations n i₀ i = n - i
@@ -39,10 +29,12 @@ returns : tie.Need-returns Inv-loop μ-loop
 returns c =
     let at = c .before .before .before .before in
     let start = at .before in
+    let stations = start .args .stations in
+    let count = stations-count stations _ (start .good .1 .0) in
     sym
     (at .loop .inv .1
-    ∙ faulty-turn (requestWith (start .args .settings) []) (start .args .stations) _ _ _ false (stations-count (start .args .stations) _ (start .good .1 .0)) (omega arith) (start .pre)
-      (c .before .before .station-verdict .ensures) (ne-eqb _ _ (c .if1 .taken)))
+    ∙ faulty-turn (requestWith (start .args .settings) []) stations _ _ _ false count (omega arith) (start .pre)
+    (c .before .before .station-verdict .ensures) (ne-eqb _ _ (c .if1 .taken)))
 
 add-i : tie.Need-add-i Inv-loop μ-loop
 add-i c = search needs
@@ -53,11 +45,13 @@ loop-less c = search needs
 loop-again : tie.Need-loop-again Inv-loop μ-loop
 loop-again c =
     let at = c .before .before .before .before in
-    let start = at .before in (
+    let start = at .before in
+    let stations = start .args .stations in
+    let count = stations-count stations _ (start .good .1 .0) in (
       search needs,
       at .loop .inv .1
-      ∙ faulty-turn (requestWith (start .args .settings) []) (start .args .stations) _ _ _ true (stations-count (start .args .stations) _ (start .good .1 .0)) (omega arith) (start .pre)
-      (c .before .before .station-verdict .ensures) (eq-eqb _ _ (c .if1 .left)),
+          ∙ faulty-turn (requestWith (start .args .settings) []) stations _ _ _ true count (omega arith) (start .pre)
+          (c .before .before .station-verdict .ensures) (eq-eqb _ _ (c .if1 .left)),
     )
 
 fault-requires : tie.Need-fault-requires Inv-loop μ-loop
@@ -68,7 +62,8 @@ returns-2 c =
     let at = c .before .before in
     let start = at .before in
     c .fault .ensures
-    ∙ sym (at .loop .inv .1 ∙ faulty-end (requestWith (start .args .settings) []) _ (start .args .stations) _ _ (at .loop .inv .0) (omega arith))
+    ∙ sym
+    (at .loop .inv .1 ∙ faulty-end (requestWith (start .args .settings) []) (start .args .stations) _ _ (at .loop .inv .0) (omega arith))
 
 pub first-faulty-spec : {M : Type 1} → statement M
 first-faulty-spec =

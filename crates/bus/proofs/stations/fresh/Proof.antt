@@ -3,8 +3,6 @@ use Rattle.bus.specs.State.{noPacket, noContender, noContention, noRound
 use Rattle.bus.proofs.Rows.{row-replicate}
 use Rattle.bus.proofs.stations.fresh.Statement.{statement}
 use Rattle.bus.proofs.stations.fresh.Tie as tie
-use Rattle.bus.proofs.stations.fresh.Reads as reads
-use Rattle.bus.proofs.stations.fresh.Lts as lts
 
 returns : tie.Need-returns
 returns c = λ i.

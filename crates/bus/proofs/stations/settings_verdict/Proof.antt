@@ -13,12 +13,6 @@ use Rattle.rules.specs.SetUp.{Asked}
 use Rattle.bus.proofs.SettingUp.{held, past}
 use Rattle.bus.proofs.stations.settings_verdict.Statement.{statement}
 use Rattle.bus.proofs.stations.settings_verdict.Tie as tie
-use Rattle.bus.proofs.stations.settings_verdict.Reads as reads
-use Rattle.bus.proofs.stations.settings_verdict.Lts as lts
-use Rattle.bus.proofs.stations.count_outside.Reads as count-outside-reads
-use Rattle.bus.proofs.stations.fault.Reads as fault-reads
-use Rattle.bus.proofs.stations.space_outside.Reads as space-outside-reads
-use Rattle.bus.proofs.stations.step_outside.Reads as step-outside-reads
 
 -- the test of 6, by the row's own length
 counted :
@@ -86,11 +80,12 @@ returns-5 c row e =
     let four = five .before .before in
     let three = four .before .before in
     let two = three .before .before in
+    let g = two .before .before .before .before .args .settings in
     past _ refl (le-ltb _ _ (two .before .before .if1 .left))
     (past _ (two .before .space-outside .ensures) (two .if2 .left)
     (past _ (three .before .space-outside2 .ensures) (three .if3 .left)
     (past _ (four .before .step-outside .ensures) (four .if4 .left)
-    (held _ (counted row (two .before .before .before .before .args .settings .n) _ e (five .before .count-outside .ensures)) (five .if5 .taken) (c .fault5 .ensures)))))
+    (held _ (counted row (g .n) _ e (five .before .count-outside .ensures)) (five .if5 .taken) (c .fault5 .ensures)))))
 
 fault-requires-6 : tie.Need-fault-requires-6
 fault-requires-6 c κs = search needs
@@ -101,11 +96,12 @@ returns-6 c row e =
     let four = five .before .before in
     let three = four .before .before in
     let two = three .before .before in
+    let g = two .before .before .before .before .args .settings in
     past _ refl (le-ltb _ _ (two .before .before .if1 .left))
     (past _ (two .before .space-outside .ensures) (two .if2 .left)
     (past _ (three .before .space-outside2 .ensures) (three .if3 .left)
     (past _ (four .before .step-outside .ensures) (four .if4 .left)
-    (past _ (counted row (two .before .before .before .before .args .settings .n) _ e (five .before .count-outside .ensures)) (five .if5 .left) (c .fault6 .ensures)))))
+    (past _ (counted row (g .n) _ e (five .before .count-outside .ensures)) (five .if5 .left) (c .fault6 .ensures)))))
 
 pub settings-verdict-spec : {M : Type 1} → statement M
 settings-verdict-spec =

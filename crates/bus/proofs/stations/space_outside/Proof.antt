@@ -3,8 +3,6 @@ use mathlib.Core.Path.{sym}
 use Rattle.bus.proofs.SettingUp.{outside-below, outside-above}
 use Rattle.bus.proofs.stations.space_outside.Statement.{statement}
 use Rattle.bus.proofs.stations.space_outside.Tie as tie
-use Rattle.bus.proofs.stations.space_outside.Reads as reads
-use Rattle.bus.proofs.stations.space_outside.Lts as lts
 
 returns : tie.Need-returns
 returns c = sym (outside-below _ _ _ (c .if1 .taken))

@@ -1,7 +1,7 @@
 -- `station_of` meets its contract. The loop's invariant: the first place with the address is the first one from i on.
 -- Assumes nothing.
 use Prim.Native.Nat.{ℕ, suc, _≤_, _-_}
-use mathlib.Core.Path.{_≡_, refl, sym, ap, _∙_}
+use mathlib.Core.Path.{_≡_, sym, ap, _∙_}
 use mathlib.Core.Bool.{Bool, cond}
 use mathlib.Core.List.{List}
 use native.Mathlib.Numerals.{add-one}
@@ -14,9 +14,6 @@ use Rattle.bus.specs.Parts.{firstPlace}
 use Rattle.bus.proofs.Rows.{first-place-turn, first-place-end}
 use Rattle.bus.proofs.stations.station_of.Statement.{statement}
 use Rattle.bus.proofs.stations.station_of.Tie as tie
-use Rattle.bus.proofs.stations.station_of.Reads as reads
-use Rattle.bus.proofs.stations.station_of.Lts as lts
-use Rattle.bus.proofs.sorts.same_address.Reads as same-address-reads
 
 abbrev has-it : Address → List Listed → ℕ → Bool
 has-it address listed j = eqb (address .0) (getD listed j nobody .address .0)
@@ -45,11 +42,13 @@ returns : tie.Need-returns Inv-loop μ-loop
 returns c =
     let at = c .before .before .before .before in
     let start = at .before in
+    let i = at .loop .i in
+    let n = start .args .n in
     let test = has-it (start .args .address) (start .args .t1) in
     sym
     (at .loop .inv .1
-    ∙ first-place-turn test (at .loop .i) (start .args .n) (omega arith)
-    ∙ ap (λ t. cond t (at .loop .i) (firstPlace test (suc (at .loop .i)) (start .args .n - suc (at .loop .i)))) (sym (c .before .same-address .ensures) ∙ c .if1 .taken))
+    ∙ first-place-turn test i n (omega arith)
+    ∙ ap (λ t. cond t i (firstPlace test (suc i) (n - suc i))) (sym (c .before .same-address .ensures) ∙ c .if1 .taken))
 
 add-i : tie.Need-add-i Inv-loop μ-loop
 add-i c = search needs
@@ -61,20 +60,24 @@ loop-again : tie.Need-loop-again Inv-loop μ-loop
 loop-again c =
     let at = c .before .before .before .before in
     let start = at .before in
+    let i = at .loop .i in
+    let n = start .args .n in
     let test = has-it (start .args .address) (start .args .t1) in (
       search needs,
       at .loop .inv .1
-      ∙ first-place-turn test (at .loop .i) (start .args .n) (omega arith)
-      ∙ ap (λ t. cond t (at .loop .i) (firstPlace test (suc (at .loop .i)) (start .args .n - suc (at .loop .i)))) (sym (c .before .same-address .ensures) ∙ c .if1 .left)
-      ∙ ap (λ k. firstPlace test k (start .args .n - k)) (sym (add-one (at .loop .i))),
+          ∙ first-place-turn test i n (omega arith)
+          ∙ ap (λ t. cond t i (firstPlace test (suc i) (n - suc i))) (sym (c .before .same-address .ensures) ∙ c .if1 .left)
+          ∙ ap (λ k. firstPlace test k (n - k)) (sym (add-one i)),
     )
 
 returns-2 : tie.Need-returns-2 Inv-loop μ-loop
 returns-2 c =
     let at = c .before in
     let start = at .before in
-    let e : start .args .n ≡ at .loop .i = omega arith in
-    e ∙ sym (at .loop .inv .1 ∙ first-place-end (has-it (start .args .address) (start .args .t1)) (at .loop .i) (start .args .n) (omega arith))
+    let i = at .loop .i in
+    let n = start .args .n in
+    let e : n ≡ i = omega arith in
+    e ∙ sym (at .loop .inv .1 ∙ first-place-end (has-it (start .args .address) (start .args .t1)) i n (omega arith))
 
 pub station-of-spec : {M : Type 1} → statement M
 station-of-spec =

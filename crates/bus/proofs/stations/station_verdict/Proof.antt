@@ -1,17 +1,11 @@
-use mathlib.Core.Path.{refl, sym, ap₂, _∙_}
+-- `station_verdict` meets its contract: the tests 7 to 10, in their order. Assumes nothing.
+use mathlib.Core.Path.{refl, sym, ap₂}
 use mathlib.Core.Bool.{_&&_}
 use Rattle.bus.proofs.SettingUp.{held, past}
 use borrow.Author.Tests.{eq-eqb, ne-eqb}
 use borrow.Author.Needs.{needs}
 use Rattle.bus.proofs.stations.station_verdict.Statement.{statement}
 use Rattle.bus.proofs.stations.station_verdict.Tie as tie
-use Rattle.bus.proofs.stations.station_verdict.Reads as reads
-use Rattle.bus.proofs.stations.station_verdict.Lts as lts
-use Rattle.bus.proofs.sorts.address_past.Reads as address-past-reads
-use Rattle.bus.proofs.stations.capability_outside.Reads as capability-outside-reads
-use Rattle.bus.proofs.stations.earlier_address.Reads as earlier-address-reads
-use Rattle.bus.proofs.stations.earlier_capability.Reads as earlier-capability-reads
-use Rattle.bus.proofs.stations.fault.Reads as fault-reads
 
 mul-s : tie.Need-mul-s
 mul-s c = search needs
@@ -38,7 +32,11 @@ returns-2 : tie.Need-returns-2
 returns-2 c =
     let two = c .before in
     let one = two .before .before in
-    past _ (one .before .address-past .ensures) (one .if1 .left) (held _ (two .before .earlier-address .ensures) (two .if2 .taken) (c .fault2 .ensures))
+    past
+    _
+    (one .before .address-past .ensures)
+    (one .if1 .left)
+    (held _ (two .before .earlier-address .ensures) (two .if2 .taken) (c .fault2 .ensures))
 
 capability-outside-requires : tie.Need-capability-outside-requires
 capability-outside-requires c κs = search needs
@@ -95,7 +93,8 @@ returns-5 c =
     (one .if1 .left)
     (past _ (two .before .earlier-address .ensures) (two .if2 .left)
     (past _ (three .before .capability-outside .ensures) (three .if3 .left)
-    (held _ (sym (ap₂ _&&_ (eq-eqb _ _ (four .if4 .left)) (sym (five .before .earlier-capability .ensures)))) (five .if5 .taken) (c .fault5 .ensures))))
+    (held _ (sym (ap₂ _&&_ (eq-eqb _ _ (four .if4 .left)) (sym (five .before .earlier-capability .ensures)))) (five .if5 .taken)
+    (c .fault5 .ensures))))
 
 fault-requires-6 : tie.Need-fault-requires-6
 fault-requires-6 c κs = search needs
@@ -113,7 +112,8 @@ returns-6 c =
     (one .if1 .left)
     (past _ (two .before .earlier-address .ensures) (two .if2 .left)
     (past _ (three .before .capability-outside .ensures) (three .if3 .left)
-    (past _ (sym (ap₂ _&&_ (eq-eqb _ _ (four .if4 .left)) (sym (five .before .earlier-capability .ensures)))) (five .if5 .left) (c .fault6 .ensures))))
+    (past _ (sym (ap₂ _&&_ (eq-eqb _ _ (four .if4 .left)) (sym (five .before .earlier-capability .ensures)))) (five .if5 .left)
+    (c .fault6 .ensures))))
 
 pub station-verdict-spec : {M : Type 1} → statement M
 station-verdict-spec =

@@ -1,11 +1,9 @@
 -- `step_outside` meets its contract: its tests are those of the definition. Assumes nothing.
-use mathlib.Core.Path.{sym, _∙_}
+use mathlib.Core.Path.{sym}
 use borrow.Author.Tests.{eq-eqb, ne-eqb}
 use Rattle.bus.proofs.SettingUp.{outside-below, outside-above}
 use Rattle.bus.proofs.stations.step_outside.Statement.{statement}
 use Rattle.bus.proofs.stations.step_outside.Tie as tie
-use Rattle.bus.proofs.stations.step_outside.Reads as reads
-use Rattle.bus.proofs.stations.step_outside.Lts as lts
 
 returns : tie.Need-returns
 returns c = simp (eq-eqb _ _ (c .before .if1 .taken)) (sym (outside-below _ _ _ (c .if2 .taken)))

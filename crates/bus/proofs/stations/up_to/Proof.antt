@@ -1,6 +1,6 @@
 -- `up_to` meets its contract. The loop's invariant: the places before i are those of the stations, and the others nobody's.
 -- Assumes nothing.
-use Prim.Native.Nat.{ℕ, _+_, _≤_, _<_, _-_}
+use Prim.Native.Nat.{ℕ, _+_, _≤_, _-_}
 use mathlib.Core.Path.{_≡_, refl, sym, ap, ap₂, _∙_}
 use mathlib.Core.Bool.{Bool, true, false, cond}
 use mathlib.Core.List.{List}
@@ -13,8 +13,6 @@ use Rattle.bus.specs.State.{Listed, nobody, row}
 use Rattle.bus.proofs.Rows.{row-replicate, row-same, row-set}
 use Rattle.bus.proofs.stations.up_to.Statement.{statement}
 use Rattle.bus.proofs.stations.up_to.Tie as tie
-use Rattle.bus.proofs.stations.up_to.Reads as reads
-use Rattle.bus.proofs.stations.up_to.Lts as lts
 
 -- the station at place j of the first i, and nobody past them
 abbrev first : List Listed → ℕ → ℕ → Listed
@@ -43,7 +41,9 @@ abbrev μ-loop : tie.MeasureT-loop
 μ-loop n stations listed₀ i₀ listed i = n - i
 
 loop-holds : tie.Need-loop-holds Inv-loop μ-loop
-loop-holds c = (search needs, row-replicate 64 nobody ∙ row-same 64 (λ j. nobody) (first (c .args .t1) 0) (λ j h. first-none (c .args .t1) j))
+loop-holds c =
+    let stations = c .args .t1 in
+    (search needs, row-replicate 64 nobody ∙ row-same 64 (λ j. nobody) (first stations 0) (λ j h. first-none stations j))
 
 mul-listed : tie.Need-mul-listed Inv-loop μ-loop
 mul-listed c = search needs
@@ -66,13 +66,13 @@ loop-less c = search needs
 loop-again : tie.Need-loop-again Inv-loop μ-loop
 loop-again c =
     let at = c .before .before in
-    let start = at .before in
+    let stations = at .before .args .t1 in
     let i = at .loop .i in
-    let x = getD (start .args .t1) i nobody in (
+    let x = getD stations i nobody in (
       search needs,
       ap (λ listed. set listed i x) (at .loop .inv .1)
-      ∙ row-set 64 (first (start .args .t1) i) i x (omega arith)
-      ∙ row-same 64 (λ j. cond (eqb j i) x (first (start .args .t1) i j)) (first (start .args .t1) (i + 1)) (λ j h. first-turn (start .args .t1) i j),
+          ∙ row-set 64 (first stations i) i x (omega arith)
+          ∙ row-same 64 (λ j. cond (eqb j i) x (first stations i j)) (first stations (i + 1)) (λ j h. first-turn stations i j),
     )
 
 returns : tie.Need-returns Inv-loop μ-loop

@@ -13,10 +13,6 @@ use Rattle.bus.proofs.SettingUp.{stations-count, asked-count, asked-fir
 use borrow.Author.Needs.{needs}
 use Rattle.bus.proofs.stations.verdict.Statement.{statement}
 use Rattle.bus.proofs.stations.verdict.Tie as tie
-use Rattle.bus.proofs.stations.verdict.Reads as reads
-use Rattle.bus.proofs.stations.verdict.Lts as lts
-use Rattle.bus.proofs.stations.first_faulty.Reads as first-faulty-reads
-use Rattle.bus.proofs.stations.settings_verdict.Reads as settings-verdict-reads
 
 settings-verdict-requires : tie.Need-settings-verdict-requires
 settings-verdict-requires c κs = search needs
@@ -49,7 +45,9 @@ returns-2 c =
     c .first-faulty .ensures
     ∙ sym
     (set-up-turn g row _ true e (eq-eqb _ _ (c .before .if1 .left))
-    ∙ ap (λ xs. firstOf fine (rowTests (requestWith g []) 0 [] xs)) (asked-first stations (g .n) (start .args .length) (omega (arith, pass .filled))))
+    ∙ ap
+    (λ xs. firstOf fine (rowTests (requestWith g []) 0 [] xs))
+    (asked-first stations (g .n) (start .args .length) (omega (arith, pass .filled))))
 
 pub verdict-spec : {M : Type 1} → statement M
 verdict-spec = tie.close (tie.spec settings-verdict-requires returns first-faulty-requires returns-2)
