@@ -34,7 +34,9 @@ returns-4 : tie.Need-returns-4
 returns-4 c =
     let three = c .before .before in
     let args = three .before .before .before .args in
-    rw (not-false (args .c .contends) (three .before .if1 .left), not-false (args .begun) (three .if3 .left), denied (c .before .holds .ensures) (c .if4 .taken))
+    let contends = not-false (args .c .contends) (three .before .if1 .left) in
+    let begun = not-false (args .begun) (three .if3 .left) in
+    rw (contends, begun, denied (c .before .holds .ensures) (c .if4 .taken))
 
 wide-requires : tie.Need-wide-requires
 wide-requires c κs = search needs
@@ -44,8 +46,10 @@ returns-5 c =
     let wide = c .before .before in
     let three = wide .before .before .before in
     let args = three .before .before .before .args in
-    rw
-    (not-false (args .c .contends) (three .before .if1 .left), not-false (args .begun) (three .if3 .left), granted (wide .before .before .holds .ensures) (wide .before .if4 .left), le-ltb (args .c .parameter) (args .settings .d) (omega arith))
+    let contends = not-false (args .c .contends) (three .before .if1 .left) in
+    let begun = not-false (args .begun) (three .if3 .left) in
+    let held = granted (wide .before .before .holds .ensures) (wide .before .if4 .left) in
+    rw (contends, begun, held, le-ltb (args .c .parameter) (args .settings .d) (omega arith))
 
 parameter-fits-requires : tie.Need-parameter-fits-requires
 parameter-fits-requires c κs = search needs
@@ -55,9 +59,10 @@ returns-6 c =
     let wide = c .before .before .before in
     let three = wide .before .before .before in
     let args = three .before .before .before .args in
-    c .parameter-fits .ensures
-    ∙ rw
-    (not-false (args .c .contends) (three .before .if1 .left), not-false (args .begun) (three .if3 .left), granted (wide .before .before .holds .ensures) (wide .before .if4 .left), lt-ltb (args .c .parameter) (args .settings .d) (omega arith))
+    let contends = not-false (args .c .contends) (three .before .if1 .left) in
+    let begun = not-false (args .begun) (three .if3 .left) in
+    let held = granted (wide .before .before .holds .ensures) (wide .before .if4 .left) in
+    c .parameter-fits .ensures ∙ rw (contends, begun, held, lt-ltb (args .c .parameter) (args .settings .d) (omega arith))
 
 pub contender-stands-spec : {M : Type 1} → statement M
 contender-stands-spec =

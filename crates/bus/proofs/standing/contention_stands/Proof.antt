@@ -1,6 +1,5 @@
 -- `standing::contention_stands` meets its contract: between contentions, in the tie phase and outside it, each test of the definition.
 -- Assumes nothing.
-use mathlib.Core.Path.{sym, _∙_}
 use mathlib.Core.Bool.{and-true, and-false}
 use native.Mathlib.Omega.{arith}
 use borrow.Author.Needs.{needs}
@@ -18,7 +17,8 @@ returns-2 : tie.Need-returns-2
 returns-2 c =
     let two = c .before .before in
     let k = two .before .before .before .args .c in
-    rw (not-true (k .begun) (two .before .if1 .taken), two .if2 .left, ne-eqb _ _ (c .if3 .taken), and-true (no-window (k .window)), and-false (no-window (k .window)))
+    let zero = no-window (k .window) in
+    rw (not-true (k .begun) (two .before .if1 .taken), two .if2 .left, ne-eqb _ _ (c .if3 .taken), and-true zero, and-false zero)
 
 no-window-requires : tie.Need-no-window-requires
 no-window-requires c κs = search needs
@@ -28,7 +28,8 @@ returns-3 c =
     let two = c .before .before .before in
     let k = two .before .before .before .args .c in
     let zero = and-true (no-window (k .window)) in
-    rw (not-true (k .begun) (two .before .if1 .taken), two .if2 .left, eq-eqb _ _ (c .before .if3 .left), zero, zero, zero) (c .no-window .ensures)
+    rw (not-true (k .begun) (two .before .if1 .taken), two .if2 .left, eq-eqb _ _ (c .before .if3 .left), zero, zero, zero)
+    (c .no-window .ensures)
 
 wide-requires : tie.Need-wide-requires
 wide-requires c κs = search needs

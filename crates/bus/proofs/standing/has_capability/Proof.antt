@@ -1,6 +1,6 @@
 -- `standing::has_capability` meets its contract. The loop's invariant: some station has it if one of those from i on has.
 -- Assumes nothing.
-use Prim.Native.Nat.{ℕ, _-_, _≤_}
+use Prim.Native.Nat.{_-_, _≤_}
 use mathlib.Core.Path.{_≡_, refl, sym, _∙_}
 use mathlib.Core.Bool.{Bool}
 use native.Mathlib.Omega.{arith}
@@ -41,7 +41,8 @@ returns c =
     let start = turn .before .before in
     let places : length (start .args .t1) ≡ 64 = start .good .0 .1 .0 .1 in
     let room : start .args .n ≤ length (start .args .t1) = omega arith in
-    sym (turn .before .loop .inv ∙ some-holds _ _ (turn .before .loop .i) _ nobody (turn .loop-test .taken) room (sym (c .before .same-capability .ensures) ∙ c .if1 .taken))
+    let same = sym (c .before .same-capability .ensures) ∙ c .if1 .taken in
+    sym (turn .before .loop .inv ∙ some-holds _ _ (turn .before .loop .i) _ nobody (turn .loop-test .taken) room same)
 
 add-i : tie.Need-add-i Inv-loop μ-loop
 add-i c = search needs
@@ -55,7 +56,8 @@ loop-again c =
     let start = turn .before .before in
     let places : length (start .args .t1) ≡ 64 = start .good .0 .1 .0 .1 in
     let room : start .args .n ≤ length (start .args .t1) = omega arith in
-    turn .before .loop .inv ∙ some-fails _ _ (turn .before .loop .i) _ nobody (turn .loop-test .taken) room (sym (c .before .same-capability .ensures) ∙ c .if1 .left)
+    let other = sym (c .before .same-capability .ensures) ∙ c .if1 .left in
+    turn .before .loop .inv ∙ some-fails _ _ (turn .before .loop .i) _ nobody (turn .loop-test .taken) room other
 
 returns-2 : tie.Need-returns-2 Inv-loop μ-loop
 returns-2 c = sym (c .before .loop .inv ∙ some-end _ _ _ _ (c .loop-test .left))

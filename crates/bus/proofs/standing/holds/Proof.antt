@@ -36,7 +36,8 @@ returns c =
     let turn = c .before .before .before in
     let start = turn .before .before in
     let room = queue-room (start .args .t1) _ (start .good .0) (start .pre) in
-    sym (turn .before .loop .inv ∙ some-holds _ _ (turn .before .loop .j) _ noPacket (turn .loop-test .taken) room (sym (c .before .same-packet .ensures) ∙ c .if1 .taken))
+    let same = sym (c .before .same-packet .ensures) ∙ c .if1 .taken in
+    sym (turn .before .loop .inv ∙ some-holds _ _ (turn .before .loop .j) _ noPacket (turn .loop-test .taken) room same)
 
 add-j : tie.Need-add-j Inv-loop μ-loop
 add-j c = search needs
@@ -49,7 +50,8 @@ loop-again c =
     let turn = c .before .before .before in
     let start = turn .before .before in
     let room = queue-room (start .args .t1) _ (start .good .0) (start .pre) in
-    turn .before .loop .inv ∙ some-fails _ _ (turn .before .loop .j) _ noPacket (turn .loop-test .taken) room (sym (c .before .same-packet .ensures) ∙ c .if1 .left)
+    let other = sym (c .before .same-packet .ensures) ∙ c .if1 .left in
+    turn .before .loop .inv ∙ some-fails _ _ (turn .before .loop .j) _ noPacket (turn .loop-test .taken) room other
 
 returns-2 : tie.Need-returns-2 Inv-loop μ-loop
 returns-2 c = sym (c .before .loop .inv ∙ some-end _ _ _ _ (c .loop-test .left))

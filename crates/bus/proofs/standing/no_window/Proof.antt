@@ -3,8 +3,6 @@ use borrow.Author.Needs.{needs}
 use borrow.Author.Tests.{eq-eqb, ne-eqb}
 use Rattle.bus.proofs.standing.no_window.Statement.{statement}
 use Rattle.bus.proofs.standing.no_window.Tie as tie
-use Rattle.bus.proofs.standing.no_window.Reads as reads
-use Rattle.bus.proofs.standing.no_window.Lts as lts
 
 returns : tie.Need-returns
 returns c = rw (ne-eqb _ _ (c .if1 .taken))

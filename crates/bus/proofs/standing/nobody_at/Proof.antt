@@ -24,16 +24,18 @@ returns-3 : tie.Need-returns-3
 returns-3 c =
     let two = c .before .before in
     let one = two .before .before in
-    rw
-    (granted (one .before .same-address .ensures) (one .if1 .left), granted (two .before .same-capability .ensures) (two .if2 .left), ne-eqb _ _ (c .if3 .taken))
+    let address = granted (one .before .same-address .ensures) (one .if1 .left) in
+    let capability = granted (two .before .same-capability .ensures) (two .if2 .left) in
+    rw (address, capability, ne-eqb _ _ (c .if3 .taken))
 
 returns-4 : tie.Need-returns-4
 returns-4 c =
     let three = c .before in
     let two = three .before .before in
     let one = two .before .before in
-    rw
-    (granted (one .before .same-address .ensures) (one .if1 .left), granted (two .before .same-capability .ensures) (two .if2 .left), eq-eqb _ _ (three .if3 .left), c .if4 .taken)
+    let address = granted (one .before .same-address .ensures) (one .if1 .left) in
+    let capability = granted (two .before .same-capability .ensures) (two .if2 .left) in
+    rw (address, capability, eq-eqb _ _ (three .if3 .left), c .if4 .taken)
 
 returns-5 : tie.Need-returns-5
 returns-5 c =
@@ -41,8 +43,9 @@ returns-5 c =
     let three = four .before in
     let two = three .before .before in
     let one = two .before .before in
-    rw
-    (granted (one .before .same-address .ensures) (one .if1 .left), granted (two .before .same-capability .ensures) (two .if2 .left), eq-eqb _ _ (three .if3 .left), four .if4 .left, ne-eqb _ _ (c .if5 .taken))
+    let address = granted (one .before .same-address .ensures) (one .if1 .left) in
+    let capability = granted (two .before .same-capability .ensures) (two .if2 .left) in
+    rw (address, capability, eq-eqb _ _ (three .if3 .left), four .if4 .left, ne-eqb _ _ (c .if5 .taken))
 
 no-packet-requires : tie.Need-no-packet-requires
 no-packet-requires c κs = search needs
@@ -54,8 +57,10 @@ returns-6 c =
     let three = four .before in
     let two = three .before .before in
     let one = two .before .before in
-    rw
-    (granted (one .before .same-address .ensures) (one .if1 .left), granted (two .before .same-capability .ensures) (two .if2 .left), eq-eqb _ _ (three .if3 .left), four .if4 .left, eq-eqb _ _ (five .if5 .left), denied (c .before .no-packet .ensures) (c .if6 .taken))
+    let address = granted (one .before .same-address .ensures) (one .if1 .left) in
+    let capability = granted (two .before .same-capability .ensures) (two .if2 .left) in
+    let packet = denied (c .before .no-packet .ensures) (c .if6 .taken) in
+    rw (address, capability, eq-eqb _ _ (three .if3 .left), four .if4 .left, eq-eqb _ _ (five .if5 .left), packet)
 
 zero-past-end-requires : tie.Need-zero-past-end-requires
 zero-past-end-requires c κs = search needs
@@ -68,9 +73,11 @@ returns-7 c =
     let three = four .before in
     let two = three .before .before in
     let one = two .before .before in
+    let address = granted (one .before .same-address .ensures) (one .if1 .left) in
+    let capability = granted (two .before .same-capability .ensures) (two .if2 .left) in
+    let packet = granted (six .before .no-packet .ensures) (six .if6 .left) in
     c .zero-past-end .ensures
-    ∙ rw
-    (granted (one .before .same-address .ensures) (one .if1 .left), granted (two .before .same-capability .ensures) (two .if2 .left), eq-eqb _ _ (three .if3 .left), four .if4 .left, eq-eqb _ _ (five .if5 .left), granted (six .before .no-packet .ensures) (six .if6 .left))
+    ∙ rw (address, capability, eq-eqb _ _ (three .if3 .left), four .if4 .left, eq-eqb _ _ (five .if5 .left), packet)
 
 pub nobody-at-spec : {M : Type 1} → statement M
 nobody-at-spec =

@@ -3,8 +3,6 @@ use borrow.Author.Needs.{needs}
 use Rattle.bus.proofs.Tested.{denied, granted}
 use Rattle.bus.proofs.standing.packet_fits.Statement.{statement}
 use Rattle.bus.proofs.standing.packet_fits.Tie as tie
-use Rattle.bus.proofs.standing.packet_fits.Reads as reads
-use Rattle.bus.proofs.standing.packet_fits.Lts as lts
 
 value-fits-requires : tie.Need-value-fits-requires
 value-fits-requires c κs = search needs

@@ -40,7 +40,8 @@ returns c =
     let turn = c .before .before .before in
     let start = turn .before .before in
     let room = queue-room (start .args .t1) _ (start .good .0) (start .pre) in
-    sym (turn .before .loop .inv ∙ each-fails _ _ (turn .before .loop .j) _ noPacket (turn .loop-test .taken) room (denied (c .before .packet-fits .ensures) (c .if1 .taken)))
+    let unfit = denied (c .before .packet-fits .ensures) (c .if1 .taken) in
+    sym (turn .before .loop .inv ∙ each-fails _ _ (turn .before .loop .j) _ noPacket (turn .loop-test .taken) room unfit)
 
 add-j : tie.Need-add-j Inv-loop μ-loop
 add-j c = search needs
@@ -53,7 +54,8 @@ loop-again c =
     let turn = c .before .before .before in
     let start = turn .before .before in
     let room = queue-room (start .args .t1) _ (start .good .0) (start .pre) in
-    turn .before .loop .inv ∙ each-holds _ _ (turn .before .loop .j) _ noPacket (turn .loop-test .taken) room (granted (c .before .packet-fits .ensures) (c .if1 .left))
+    let fit = granted (c .before .packet-fits .ensures) (c .if1 .left) in
+    turn .before .loop .inv ∙ each-holds _ _ (turn .before .loop .j) _ noPacket (turn .loop-test .taken) room fit
 
 returns-2 : tie.Need-returns-2 Inv-loop μ-loop
 returns-2 c = sym (c .before .loop .inv ∙ each-end _ _ _ _ (c .loop-test .left))

@@ -33,7 +33,8 @@ returns c =
     let turn = c .before .before .before in
     let start = turn .before .before in
     let room = queue-room (start .args .t1) _ (start .good .0) (start .pre) in
-    sym (turn .before .loop .inv ∙ rw (left-turn _ (start .args .t1 .packets) _ noPacket (turn .loop-test .taken) room, le-ltb _ _ (c .if1 .taken)))
+    let next = left-turn _ (start .args .t1 .packets) _ noPacket (turn .loop-test .taken) room in
+    sym (turn .before .loop .inv ∙ rw (next, le-ltb _ _ (c .if1 .taken)))
 
 add-j : tie.Need-add-j Inv-loop μ-loop
 add-j c = search needs
@@ -46,7 +47,8 @@ loop-again c =
     let turn = c .before .before .before in
     let start = turn .before .before in
     let room = queue-room (start .args .t1) _ (start .good .0) (start .pre) in
-    turn .before .loop .inv ∙ rw (left-turn _ (start .args .t1 .packets) _ noPacket (turn .loop-test .taken) room, lt-ltb _ _ (c .if1 .left))
+    let next = left-turn _ (start .args .t1 .packets) _ noPacket (turn .loop-test .taken) room in
+    turn .before .loop .inv ∙ rw (next, lt-ltb _ _ (c .if1 .left))
 
 returns-2 : tie.Need-returns-2 Inv-loop μ-loop
 returns-2 c = sym (c .before .loop .inv ∙ ap (rising (c .before .loop .before) _) (left-end _ _ _ (c .loop-test .left)))

@@ -2,8 +2,6 @@
 use borrow.Author.Tests.{eq-eqb, ne-eqb}
 use Rattle.bus.proofs.standing.same_packet.Statement.{statement}
 use Rattle.bus.proofs.standing.same_packet.Tie as tie
-use Rattle.bus.proofs.standing.same_packet.Reads as reads
-use Rattle.bus.proofs.standing.same_packet.Lts as lts
 
 returns : tie.Need-returns
 returns c = rw (ne-eqb _ _ (c .if1 .taken))

@@ -20,8 +20,8 @@ rises-requires c κs = search needs
 returns-3 : tie.Need-returns-3
 returns-3 c =
     let two = c .before .before in
-    rw
-    (le-leb _ _ (two .before .before .if1 .left), granted (two .before .zero-past-end .ensures) (two .if2 .left), denied (c .before .rises .ensures) (c .if3 .taken))
+    let zero = granted (two .before .zero-past-end .ensures) (two .if2 .left) in
+    rw (le-leb _ _ (two .before .before .if1 .left), zero, denied (c .before .rises .ensures) (c .if3 .taken))
 
 packets-fit-requires : tie.Need-packets-fit-requires
 packets-fit-requires c κs = search needs
@@ -30,8 +30,9 @@ returns-4 : tie.Need-returns-4
 returns-4 c =
     let three = c .before .before in
     let two = three .before .before in
-    rw
-    (le-leb _ _ (two .before .before .if1 .left), granted (two .before .zero-past-end .ensures) (two .if2 .left), granted (three .before .rises .ensures) (three .if3 .left), denied (c .before .packets-fit .ensures) (c .if4 .taken))
+    let zero = granted (two .before .zero-past-end .ensures) (two .if2 .left) in
+    let rise = granted (three .before .rises .ensures) (three .if3 .left) in
+    rw (le-leb _ _ (two .before .before .if1 .left), zero, rise, denied (c .before .packets-fit .ensures) (c .if4 .taken))
 
 contender-stands-requires : tie.Need-contender-stands-requires
 contender-stands-requires c κs = search needs
@@ -41,9 +42,10 @@ returns-5 c =
     let four = c .before in
     let three = four .before .before in
     let two = three .before .before in
-    rw
-    (le-leb _ _ (two .before .before .if1 .left), granted (two .before .zero-past-end .ensures) (two .if2 .left), granted (three .before .rises .ensures) (three .if3 .left), granted (four .before .packets-fit .ensures) (four .if4 .left))
-    (c .contender-stands .ensures)
+    let zero = granted (two .before .zero-past-end .ensures) (two .if2 .left) in
+    let rise = granted (three .before .rises .ensures) (three .if3 .left) in
+    let fit = granted (four .before .packets-fit .ensures) (four .if4 .left) in
+    rw (le-leb _ _ (two .before .before .if1 .left), zero, rise, fit) (c .contender-stands .ensures)
 
 pub station-stands-spec : {M : Type 1} → statement M
 station-stands-spec =

@@ -1,8 +1,8 @@
 -- `standing::waiting_in` meets its contract. The loop's invariant: the sum and what is left from i on make the total, and no length is
 -- above 16. Assumes nothing.
 use Prim.Native.Nat.{_+_, _-_, _*_, _≤_}
-use mathlib.Core.Path.{_≡_, refl, sym, ap, _∙_}
-use native.Mathlib.Nat.{zero-add, add-zero, add-assoc}
+use mathlib.Core.Path.{_≡_, sym, ap}
+use native.Mathlib.Nat.{zero-add}
 use native.Mathlib.Omega.{arith}
 use borrow.Author.Needs.{needs}
 use lib.ListN.{length, take}
@@ -41,7 +41,8 @@ loop-again c =
     let start = c .before .before in
     let turn = c .before .loop in
     let room : start .args .n ≤ length (start .args .t1) = search needs in
-    (omega (arith, start .pre .1 (turn .i) (c .loop-test .taken)), omega (arith, ap (total (λ k. k)) (left-turn _ (start .args .t1) (turn .i) 0 (c .loop-test .taken) room)))
+    let next = ap (total (λ k. k)) (left-turn _ (start .args .t1) (turn .i) 0 (c .loop-test .taken) room) in
+    (omega (arith, start .pre .1 (turn .i) (c .loop-test .taken)), omega arith)
 
 returns : tie.Need-returns Inv-loop μ-loop
 returns c =

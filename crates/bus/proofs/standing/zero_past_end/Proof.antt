@@ -1,14 +1,15 @@
 -- `standing::zero_past_end` meets its contract. The loop's invariant: the places past the end are zero if those from j on are.
 -- Assumes nothing.
 use Prim.Native.Nat.{_-_, _≤_}
-use mathlib.Core.Path.{_≡_, refl, sym, ap, _∙_}
+use mathlib.Core.Path.{_≡_, sym, ap, _∙_}
 use native.Mathlib.Omega.{arith}
 use borrow.Author.Needs.{needs}
 use lib.ListN.{length, drop}
 use lib.Seq.{slice, take-all}
 use Rattle.rules.specs.Lists.{each-of}
 use Rattle.bus.specs.State.{no-packet, noPacket}
-use Rattle.bus.proofs.Tested.{queue-array, denied, granted, each-holds, each-fails, each-end}
+use Rattle.bus.proofs.QueueLaws.{queue-array}
+use Rattle.bus.proofs.Tested.{denied, granted, each-holds, each-fails, each-end}
 use Rattle.bus.proofs.standing.zero_past_end.Statement.{statement}
 use Rattle.bus.proofs.standing.zero_past_end.Tie as tie
 
@@ -37,7 +38,10 @@ returns c =
     let turn = c .before .before .before in
     let start = turn .before .before in
     let room : 16 ≤ length (start .args .t1 .packets) = omega (arith, queue-array (start .args .t1) _ (start .good .0)) in
-    sym (turn .before .loop .inv ∙ each-fails 16 (start .args .t1 .packets) (turn .before .loop .j) no-packet noPacket (turn .loop-test .taken) room (denied (c .before .no-packet .ensures) (c .if1 .taken)))
+    let other = denied (c .before .no-packet .ensures) (c .if1 .taken) in
+    sym
+    (turn .before .loop .inv
+    ∙ each-fails 16 (start .args .t1 .packets) (turn .before .loop .j) no-packet noPacket (turn .loop-test .taken) room other)
 
 add-j : tie.Need-add-j Inv-loop μ-loop
 add-j c = search needs
@@ -50,7 +54,9 @@ loop-again c =
     let turn = c .before .before .before in
     let start = turn .before .before in
     let room : 16 ≤ length (start .args .t1 .packets) = omega (arith, queue-array (start .args .t1) _ (start .good .0)) in
-    turn .before .loop .inv ∙ each-holds 16 (start .args .t1 .packets) (turn .before .loop .j) no-packet noPacket (turn .loop-test .taken) room (granted (c .before .no-packet .ensures) (c .if1 .left))
+    let zero = granted (c .before .no-packet .ensures) (c .if1 .left) in
+    turn .before .loop .inv
+    ∙ each-holds 16 (start .args .t1 .packets) (turn .before .loop .j) no-packet noPacket (turn .loop-test .taken) room zero
 
 returns-2 : tie.Need-returns-2 Inv-loop μ-loop
 returns-2 c = sym (c .before .loop .inv ∙ each-end 16 (c .before .before .args .t1 .packets) _ no-packet (c .loop-test .left))
