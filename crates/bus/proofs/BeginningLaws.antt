@@ -282,8 +282,8 @@ module _ (s : State) (r : Lent s) where
   pub all-formed : (j : ℕ) → j < 64 → queueOf (s .queues) j ≡ queueForm (queueAt (s .queues) j)
   all-formed = queue-formed s (r .held) (r .zeros)
 
-  pub has-room : (j : ℕ) → j < 64 → getD (s .queues .lengths) j 0 ≤ 16
-  has-room j l =
+  pub few-packets : (j : ℕ) → j < 64 → getD (s .queues .lengths) j 0 ≤ 16
+  few-packets j l =
       let n = getD (s .queues .lengths) j 0 in
       leb-true n places (and-true (leb n places) (each-of no-packet (drop n (placesAt (s .queues) j))) (r .zeros .queues j l) .0)
 
@@ -309,7 +309,7 @@ module _ (s : State) (r : Lent s) where
     length-at j l = ap (λ (queue : Queue). queue .length) (left-at j l)
 
     pub room-left : (j : ℕ) → j < s .segment .settings .n → getD (rest .lengths) j 0 ≤ 16
-    room-left j l = omega (arith, length-at j l, kept-room (inTimeAt s) (s .queues) j (has-room j (omega arith)))
+    room-left j l = omega (arith, length-at j l, kept-room (inTimeAt s) (s .queues) j (few-packets j (omega arith)))
 
     -- ---- the padding is zero
 
@@ -320,7 +320,7 @@ module _ (s : State) (r : Lent s) where
         zeros queue = queue-padded (queue .length) (queue .packets)
 
         go : (t : Bool) → zeros (queueIf t (inTimeAt s) (s .queues) j) ≡ true
-        go true = form-padded (keep (inTimeAt s) (queueAt (s .queues) j)) (kept-room (inTimeAt s) (s .queues) j (has-room j l))
+        go true = form-padded (keep (inTimeAt s) (queueAt (s .queues) j)) (kept-room (inTimeAt s) (s .queues) j (few-packets j l))
         go false = r .zeros .queues j l
 
     module _ (drops : ℕ) where

@@ -8,29 +8,23 @@ use Rattle.rules.specs.Begin.{dropsOf}
 use Rattle.rules.proofs.Standing.{set-up-stands}
 use Rattle.bus.specs.State.{meaning}
 use Rattle.bus.proofs.QueueLaws.{queues-arrays}
-use Rattle.bus.proofs.BeginningLaws.{lent, all-formed, has-room, room-left, waiting-dropped, lost-counted, begun-is}
+use Rattle.bus.proofs.BeginningLaws.{lent, all-formed, few-packets, room-left, waiting-dropped, lost-counted, begun-is}
 use Rattle.bus.proofs.beginning.begin.Statement.{statement}
 use Rattle.bus.proofs.beginning.begin.Tie as tie
-use Rattle.bus.proofs.beginning.begin.Reads as reads
-use Rattle.bus.proofs.beginning.begin.Lts as lts
-use Rattle.bus.proofs.beginning.drop_late.Reads as drop-late-reads
-use Rattle.bus.proofs.beginning.offers_of.Reads as offers-of-reads
-use Rattle.bus.proofs.standing.waiting_in.Reads as waiting-in-reads
-use Rattle.window.proofs.first_window.Reads as first-window-reads
 
 drop-late-requires : tie.Need-drop-late-requires
 drop-late-requires c κs =
     let start = c .before .before .before in
     let s = start .args .s in
     let r = lent s _ (start .good .0) (start .pre .0) in
-    (r .few, (all-formed s r, has-room s r))
+    (r .few, (all-formed s r, few-packets s r))
 
 waiting-in-requires : tie.Need-waiting-in-requires
 waiting-in-requires c κs =
     let start = c .before .before .before .before .before .before in
     let s = start .args .s in
     let r = lent s _ (start .good .0) (start .pre .0) in
-    (r .few, λ i l. has-room s r i (omega arith))
+    (r .few, λ i l. few-packets s r i (omega arith))
 
 waiting-in-requires-2 : tie.Need-waiting-in-requires-2
 waiting-in-requires-2 c κs =
