@@ -59,24 +59,28 @@ contender-on g clock round l (some p) = refl
 abbrev pub placeFor : Segment → Queues → ℕ → Contender
 placeFor g qs j = contenderFor (g .settings) (g .clock) (g .round) (getD (g .listed) j nobody) (queueAt qs j)
 
--- the row in which the stations before i have their places, and the others do not contend
+-- the places of the stations before i; the others do not contend
+abbrev pub placeTo : (ℕ → Contender) → ℕ → ℕ → Contender
+placeTo f i j = cond (ltb j i) (f j) noContender
+
 abbrev pub placesTo : (ℕ → Contender) → ℕ → List Contender
-placesTo f i = row 64 (λ j. cond (ltb j i) (f j) noContender)
+placesTo f i = row 64 (placeTo f i)
 
 module _ (f : ℕ → Contender) where
   -- before the first station
   pub places-none : replicate 64 noContender ≡ placesTo f 0
-  places-none =
-      row-replicate 64 noContender
-      ∙ row-same 64 (λ j. noContender) (λ j. cond (ltb j 0) (f j) noContender) (λ j l. ap (λ t. cond t (f j) noContender) (sym (le-ltb j 0 (omega arith))))
+  places-none = row-replicate 64 noContender ∙ row-same 64 (λ j. noContender) (placeTo f 0) none-yet
+    where
+      none-yet : (j : ℕ) → j < 64 → noContender ≡ placeTo f 0 j
+      none-yet j l = ap (λ t. cond t (f j) noContender) (sym (le-ltb j 0 (omega arith)))
 
   -- one station more
   pub places-more : (i : ℕ) → i < 64 → set (placesTo f i) i (f i) ≡ placesTo f (i + 1)
   places-more i h =
-      row-set 64 (λ j. cond (ltb j i) (f j) noContender) i (f i) h
-      ∙ row-same 64 (λ j. cond (eqb j i) (f i) (cond (ltb j i) (f j) noContender)) (λ j. cond (ltb j (i + 1)) (f j) noContender) (λ j l. place j (eqb j i) refl)
+      row-set 64 (placeTo f i) i (f i) h
+      ∙ row-same 64 (λ j. cond (eqb j i) (f i) (placeTo f i j)) (placeTo f (i + 1)) (λ j l. place j (eqb j i) refl)
     where
-      place : (j : ℕ) (t : Bool) → eqb j i ≡ t → cond t (f i) (cond (ltb j i) (f j) noContender) ≡ cond (ltb j (i + 1)) (f j) noContender
+      place : (j : ℕ) (t : Bool) → eqb j i ≡ t → cond t (f i) (placeTo f i j) ≡ placeTo f (i + 1) j
       place j true e =
           let same = eqb-true j i e in ap f (sym same) ∙ ap (λ t. cond t (f j) noContender) (sym (lt-ltb j (i + 1) (omega arith)))
       place j false e = ap (λ t. cond t (f j) noContender) (before-more j i (eqb-false j i e))
@@ -122,8 +126,8 @@ none-leaves f qs i h all e j l = go (eqb j i) refl
 
 -- some packets of station i leave: the others are put back
 pub some-leave :
-    (f : Packet → Bool) (qs : Queues) (i : ℕ) → i < 64 → length (qs .lengths) ≡ 64 → length (qs .packets) ≡ 1024 → getD (qs .lengths) i 0 ≤ 16
-    → (j : ℕ) → j < 64
+    (f : Packet → Bool) (qs : Queues) (i : ℕ) → i < 64 → length (qs .lengths) ≡ 64 → length (qs .packets) ≡ 1024
+    → getD (qs .lengths) i 0 ≤ 16 → (j : ℕ) → j < 64
     → queueOf (withQueue qs i (queueForm (keep f (queueAt qs i)))) j ≡ queueIf (eqb j i) f qs j
 some-leave f qs i h ls ps room j l =
     let stay = keep f (queueAt qs i) in
@@ -198,7 +202,8 @@ module _ (f : Packet → Bool) (qs : Queues) where
 
 -- ---- a place among the contenders is zero or contends, and its offer is the offer of the rules
 
-place-padded : (g : Settings) (clock : Slot) (round : Round) (l : Listed) (o : Option Packet) → contender-padded (contenderOn g clock round l o) ≡ true
+place-padded :
+    (g : Settings) (clock : Slot) (round : Round) (l : Listed) (o : Option Packet) → contender-padded (contenderOn g clock round l o) ≡ true
 place-padded g clock round l none = refl
 place-padded g clock round l (some p) = go (sits-out (disciplineOf (g .discipline)) (lastOf round) (l .capability .0))
   where
@@ -223,7 +228,8 @@ module _ (s : State) (i : ℕ) where
       → offerOf (contenderOn (s .segment .settings) (s .segment .clock) (s .segment .round) (getD (s .segment .listed) i nobody) o)
       ≡ offers (meaning s) (stationAt s i) o
   offer-same none = refl
-  offer-same (some p) = go (sits-out (meaning s .discipline) (meaning s .last) (stationAt s i .capability)) (parameter-same (meaning s .discipline) p)
+  offer-same (some p) =
+      go (sits-out (meaning s .discipline) (meaning s .last) (stationAt s i .capability)) (parameter-same (meaning s .discipline) p)
     where
       go :
           (t : Bool) {m n : ℕ} → m ≡ n
@@ -253,7 +259,10 @@ begunState s rest drops =
       queues = rest;
     }
 
--- the packets that are not late
+-- the packets that are late, and those that are not
+abbrev pub lateAt : State → Packet → Bool
+lateAt s p = late (meaning s .discipline) (meaning s .clock) (p .value)
+
 abbrev pub inTimeAt : State → Packet → Bool
 inTimeAt s = stays (Late (s .segment .settings .discipline) (s .segment .clock))
 
@@ -290,11 +299,7 @@ module _ (s : State) (r : Lent s) where
   -- no more are dropped than wait
   pub lost-counted : s .segment .lost + dropsOf (meaning s) ≤ most-admitted
   lost-counted =
-      let dropped =
-          total-mono
-          (meaning s .stations)
-          (λ x i. count-le (λ (p : Packet). late (meaning s .discipline) (meaning s .clock) (p .value)) (x .queue))
-      in
+      let dropped = total-mono (meaning s .stations) (λ x i. count-le (lateAt s) (x .queue)) in
       omega (arith, r .stands .counts, r .stands .admitted-in)
 
   module _ (rest : Queues) (left : LeftTo (inTimeAt s) (s .queues) (s .segment .settings .n) rest) where
@@ -327,8 +332,8 @@ module _ (s : State) (r : Lent s) where
       place-of :
           (j : ℕ) → j < 64
           → getD (begunState s rest drops .segment .contenders) j noContender
-          ≡ cond (ltb j (s .segment .settings .n)) (placeFor (s .segment) rest j) noContender
-      place-of j l = row-at 64 (λ k. cond (ltb k (s .segment .settings .n)) (placeFor (s .segment) rest k) noContender) j noContender l
+          ≡ placeTo (placeFor (s .segment) rest) (s .segment .settings .n) j
+      place-of j l = row-at 64 (placeTo (placeFor (s .segment) rest) (s .segment .settings .n)) j noContender l
 
       contender-zeros : (j : ℕ) → j < 64 → contender-padded (getD (begunState s rest drops .segment .contenders) j noContender) ≡ true
       contender-zeros j l = ap contender-padded (place-of j l) ∙ go (ltb j (s .segment .settings .n))
@@ -347,13 +352,14 @@ module _ (s : State) (r : Lent s) where
       past-zeros j m l =
           let who = getD (s .segment .listed) j nobody in
           let n = getD (s .queues .lengths) j 0 in
+          let c = getD (s .segment .contenders) j noContender in
           let nobody-there = eqb (who .address .0) 0 && eqb (who .capability .0) 0 in
-          let abc = and-true (nobody-there && eqb n 0) (not (getD (s .segment .contenders) j noContender .contends)) (r .zeros .past-N j m l) in
+          let abc = and-true (nobody-there && eqb n 0) (not (c .contends)) (r .zeros .past-N j m l) in
           let ab = and-true nobody-there (eqb n 0) (abc .0) in
           let same = left-past (inTimeAt s) (s .queues) (s .segment .settings .n) rest left j l m in
           true-and
           (true-and (ab .0) (ap (λ (queue : Queue). eqb (queue .length) 0) same ∙ ab .1))
-          (ap (λ c. not (c .contends)) (place-of j l)
+          (ap (λ place. not (place .contends)) (place-of j l)
           ∙ ap (λ t. not (cond t (placeFor (s .segment) rest j) noContender .contends)) (le-ltb j (s .segment .settings .n) m))
 
       begun-padded : Padded (begunState s rest drops)
@@ -391,7 +397,12 @@ module _ (s : State) (r : Lent s) where
       stations-begun : stationsOf (begunState s rest drops) ≡ begin (meaning s) .stations
       stations-begun =
           let n = s .segment .settings .n in
-          values-same (stationAt (begunState s rest drops)) (λ j. entered (meaning s) (stationAt s j)) 0 n (λ j l m. station-begun j (omega arith))
+          values-same
+          (stationAt (begunState s rest drops))
+          (λ j. entered (meaning s) (stationAt s j))
+          0
+          n
+          (λ j l m. station-begun j (omega arith))
           ∙ sym (values-map (entered (meaning s)) (stationAt s) 0 n)
 
       meaning-begun : drops ≡ dropsOf (meaning s) → meaning (begunState s rest drops) ≡ begin (meaning s)
@@ -432,15 +443,16 @@ module _ (s : State) (r : Lent s) where
         ∙ ap (λ ns. total (λ k. k) ns + dropsOf (meaning s)) (sym (values-take (rest .lengths) 0 n (omega arith)))
       where
         lateIn : Station → ℕ
-        lateIn x = count (λ q. late (meaning s .discipline) (meaning s .clock) (q .value)) (x .queue)
+        lateIn x = count (lateAt s) (x .queue)
 
         here : (j : ℕ) → j < s .segment .settings .n → getD (s .queues .lengths) j 0 ≡ getD (rest .lengths) j 0 + lateIn (stationAt s j)
         here j l =
-            omega
-            (arith,
-            queue-length s (r .held) (r .zeros) j (omega arith),
-            length-at j l,
-            kept-failed (λ (q : Packet). late (meaning s .discipline) (meaning s .clock) (q .value)) (queueAt (s .queues) j))
+            omega (
+              arith,
+              queue-length s (r .held) (r .zeros) j (omega arith),
+              length-at j l,
+              kept-failed (lateAt s) (queueAt (s .queues) j),
+            )
 
     -- ---- it is the state of the rules
 
@@ -456,10 +468,16 @@ module _ (s : State) (r : Lent s) where
         held =
             record {
               listed = r .held .listed;
-              contenders = row-length 64 (λ j. cond (ltb j (s .segment .settings .n)) (placeFor (s .segment) rest j) noContender);
+              contenders = row-length 64 (placeTo (placeFor (s .segment) rest) (s .segment .settings .n));
               lengths = ls;
               packets = ps;
             }
 
         state : begunState s rest drops ≡ form (begin (meaning s))
-        state = to-form (begunState s rest drops) (begin (meaning s)) held (parts-padded (begunState s rest drops) (begun-padded drops)) (meaning-begun drops e)
+        state =
+            to-form
+            (begunState s rest drops)
+            (begin (meaning s))
+            held
+            (parts-padded (begunState s rest drops) (begun-padded drops))
+            (meaning-begun drops e)

@@ -64,7 +64,9 @@ add-next c =
     let rest = c .before .before .before .before .before .before .before .drop-late in
     let n = queues-arrays (rest .result) _ (rest .ok) in
     let parts = waiting-dropped s r (rest .result) (rest .ensures) (n .0) in
-    rw (c .before .before .before .waiting-in2 .ensures, c .before .before .before .before .waiting-in .ensures) (omega (arith, lost-counted s r))
+    let before = c .before .before .before .before .waiting-in in
+    let after = c .before .before .before .waiting-in2 in
+    rw (before .ensures, after .ensures) (omega (arith, lost-counted s r))
 
 returns : tie.Need-returns
 returns c =

@@ -29,7 +29,8 @@ returns-3 : tie.Need-returns-3
 returns-3 c =
     let chosen = c .before .before .before .before .before .before .chosen in
     let found = not-false (chosen .result .found) (c .before .before .before .before .if1 .left) in
-    rw (contender-on, ← chosen .ensures, found, ← c .before .before .before .sits-out .ensures, c .before .before .if2 .left, ← c .parameter .ensures)
+    let sits-out = c .before .before .before .sits-out in
+    rw (contender-on, ← chosen .ensures, found, ← sits-out .ensures, c .before .before .if2 .left, ← c .parameter .ensures)
 
 pub contender-for-spec : {M : Type 1} → statement M
 contender-for-spec =

@@ -35,11 +35,11 @@ without-late-requires c κs =
     let turn = c .before .loop in
     let f = stays (Late (start .args .discipline) (start .args .clock)) in
     let here : turn .i < 64 = omega arith in
-    let same = ap (λ (queue : Queue). queue .length) (left-past f (start .args .queues) (turn .i) (turn .next) (turn .inv .1) (turn .i) here (omega arith)) in (
+    let same = left-past f (start .args .queues) (turn .i) (turn .next) (turn .inv .1) (turn .i) here (omega arith) in (
       here,
       (
         left-formed f (start .args .queues) (turn .i) (turn .next) (start .pre .1 .0) (turn .inv .1),
-        omega (arith, start .pre .1 .1 (turn .i) here),
+        omega (arith, ap (λ (queue : Queue). queue .length) same, start .pre .1 .1 (turn .i) here),
       ),
     )
 
@@ -53,17 +53,19 @@ loop-again : tie.Need-loop-again Inv-loop μ-loop
 loop-again c =
     let start = c .before .before .before .before in
     let turn = c .before .before .loop in
+    let next = c .without-late in
     let f = stays (Late (start .args .discipline) (start .args .clock)) in (
       omega arith,
-      left-more f (start .args .queues) (turn .i) (turn .next) (c .without-late .result) (omega arith) (turn .inv .1) (c .without-late .ensures),
+      left-more f (start .args .queues) (turn .i) (turn .next) (next .result) (omega arith) (turn .inv .1) (next .ensures),
     )
 
 returns-2 : tie.Need-returns-2 Inv-loop μ-loop
 returns-2 c =
     let start = c .before .before .before in
     let turn = c .before .loop in
+    let f = stays (Late (start .args .discipline) (start .args .clock)) in
     let all : turn .i ≡ start .args .n = omega arith in
-    subst (λ i. LeftTo (stays (Late (start .args .discipline) (start .args .clock))) (start .args .queues) i (turn .next)) all (turn .inv .1)
+    subst (λ i. LeftTo f (start .args .queues) i (turn .next)) all (turn .inv .1)
 
 pub drop-late-spec : {M : Type 1} → statement M
 drop-late-spec =

@@ -49,7 +49,8 @@ loop-again : tie.Need-loop-again Inv-loop μ-loop
 loop-again c =
     let start = c .before .before .before .before .before .before .before .before in
     let turn = c .before .before .before .before .before .loop in
-    (omega arith, rw (turn .inv .1, c .contender-for .ensures, c .before .before .queue-at .ensures) (places-more (placeFor (start .args .t1) (start .args .queues)) (turn .i) (omega arith)))
+    let more = places-more (placeFor (start .args .t1) (start .args .queues)) (turn .i) (omega arith) in
+    (omega arith, rw (turn .inv .1, c .contender-for .ensures, c .before .before .queue-at .ensures) more)
 
 returns : tie.Need-returns Inv-loop μ-loop
 returns c =
