@@ -278,8 +278,8 @@ fn won(g: Segment, drops: u64, i: usize) -> Probed
 fn probe(g: Segment, drops: u64) -> Probed
     requires { ⌜ g .settings .n ≤ 64 ⌝ }
     requires { ⌜ g .clock .0 ≤ 1073741824 ⌝ }
-    requires { ⌜ g .sent < 4294967295 ⌝ }
-    requires { ⌜ ((i : ℕ) → transmitsAt g i ≡ true → contenderAt g i .packet .length ≤ 4096) ⌝ }
+    requires { ⌜ ((i : ℕ) → i < g .settings .n → transmitsAt g i ≡ true → contenderAt g i .packet .length ≤ 4096) ⌝ }
+    requires { ⌜ ((i : ℕ) → i < g .settings .n → transmitsAt g i ≡ true → g .sent < 4294967295) ⌝ }
     ensures { λ r. ⌜ r ≡ probed g drops ⌝ }
 {
     let settings = g.settings;
