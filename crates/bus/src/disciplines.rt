@@ -17,7 +17,9 @@ ghost use Rattle.bus.specs.State.{lastOf};
 ghost use Rattle.bus.specs.Parts.{parameterFor, parameterFits};
 
 pub const PRI: u32 = 0;
+
 pub const RTDG: u32 = 1;
+
 pub const RTVC: u32 = 2;
 
 // 'clock: slots 0 to 1,073,741,824'

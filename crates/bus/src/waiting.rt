@@ -95,17 +95,17 @@ pub fn joined(queue: Queue, p: Packet) -> Queue
     next
 }
 
-// The one of two packets that is offered; the best so far, unless the other goes before it.
-fn better(discipline: u32, best: Packet, p: Packet) -> Packet
-    ensures { λ r. ⌜ r ≡ cond (goes-before (disciplineOf discipline) p best) p best ⌝ }
+// Of a packet and the one chosen among those after it, the one that is offered.
+fn better(discipline: u32, p: Packet, later: Packet) -> Packet
+    ensures { λ r. ⌜ r ≡ cond (goes-before (disciplineOf discipline) later p) later p ⌝ }
 {
-    if disciplines::goes_before(discipline, p, best) {
-        return p;
+    if disciplines::goes_before(discipline, later, p) {
+        return later;
     }
-    best
+    p
 }
 
-// 'Each station then offers one packet': the search walks the queue and carries the best packet so far.
+// 'Each station then offers one packet': the search walks the queue from its end and carries the packet chosen so far.
 pub fn chosen(queue: Queue, discipline: u32) -> Chosen
     requires { ⌜ queue .length ≤ 16 ⌝ }
     ensures { λ r. ⌜ r ≡ chosenForm (choice (disciplineOf discipline) (packetsOf queue)) ⌝ }
@@ -117,10 +117,12 @@ pub fn chosen(queue: Queue, discipline: u32) -> Chosen
             packet: NO_PACKET,
         };
     }
-    let mut best = queue.packets[0];
-    for j in 1..length {
+    let mut j = length - 1;
+    let mut best = queue.packets[j];
+    while 0 < j {
+        j -= 1;
         let p = queue.packets[j];
-        best = better(discipline, best, p);
+        best = better(discipline, p, best);
     }
     Chosen {
         found: true,

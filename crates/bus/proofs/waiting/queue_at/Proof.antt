@@ -1,0 +1,87 @@
+-- `waiting::queue_at` meets its contract. The loop's invariant: the first j of station i's places are copied. Assumes nothing.
+use Prim.Native.Nat.{_≤_, _-_}
+use mathlib.Core.Path.{_≡_, sym}
+use mathlib.Core.List.{append-nil}
+use native.Mathlib.Omega.{arith}
+use borrow.Author.Needs.{needs}
+use lib.Seq.{paste}
+use Rattle.bus.specs.State.{placesAt}
+use Rattle.bus.proofs.QueueLaws.{queues-arrays, places-count, place-at, copied-one, copied-all}
+use Rattle.bus.proofs.waiting.queue_at.Statement.{statement}
+use Rattle.bus.proofs.waiting.queue_at.Tie as tie
+
+abbrev Inv-loop : tie.InvT-loop
+Inv-loop i qs packets₀ first j₀ packets j = (j ≤ 16) × (packets ≡ paste packets₀ 0 (placesAt qs i) j)
+
+abbrev μ-loop : tie.MeasureT-loop
+μ-loop i qs packets₀ first j₀ packets j = 16 - j
+
+mul-first : tie.Need-mul-first Inv-loop μ-loop
+mul-first c = search needs
+
+loop-holds : tie.Need-loop-holds Inv-loop μ-loop
+loop-holds c = search needs
+
+add-at : tie.Need-add-at Inv-loop μ-loop
+add-at c = search needs
+
+mul-packets : tie.Need-mul-packets Inv-loop μ-loop
+mul-packets c = search needs
+
+element-copy-out-packets : tie.Need-element-copy-out-packets Inv-loop μ-loop
+element-copy-out-packets c = search needs
+
+mul-packets-2 : tie.Need-mul-packets-2 Inv-loop μ-loop
+mul-packets-2 c = search needs
+
+array-set-from-packets : tie.Need-array-set-from-packets Inv-loop μ-loop
+array-set-from-packets c = search needs
+
+add-j : tie.Need-add-j Inv-loop μ-loop
+add-j c = search needs
+
+loop-less : tie.Need-loop-less Inv-loop μ-loop
+loop-less c = search needs
+
+loop-again : tie.Need-loop-again Inv-loop μ-loop
+loop-again c =
+    let start = c .before .before .before in
+    let turn = c .before .before .loop in
+    let qs = start .args .t1 in
+    let n = places-count qs (start .args .i) (start .pre) (queues-arrays qs _ (start .good .0) .1) in
+    let p = place-at qs (start .args .i) (turn .j) (omega arith) in
+    (search needs, copied-one _ 0 _ (turn .j) (turn .inv .1) (sym p) (omega arith) (omega arith) (omega arith))
+
+mul-length : tie.Need-mul-length Inv-loop μ-loop
+mul-length c = search needs
+
+element-copy-out-length : tie.Need-element-copy-out-length Inv-loop μ-loop
+element-copy-out-length c = search needs
+
+returns : tie.Need-returns Inv-loop μ-loop
+returns c =
+    let start = c .before .before .before in
+    let turn = c .before .before .loop in
+    let qs = start .args .t1 in
+    let n = places-count qs (start .args .i) (start .pre) (queues-arrays qs _ (start .good .0) .1) in
+    rw (copied-all _ 0 (placesAt qs (start .args .i)) (turn .j) 16 (turn .inv .1) (omega arith) n) (rw append-nil)
+
+pub queue-at-spec : {M : Type 1} → statement M
+queue-at-spec =
+    tie.close
+    (tie.spec
+    Inv-loop
+    μ-loop
+    mul-first
+    loop-holds
+    add-at
+    mul-packets
+    element-copy-out-packets
+    mul-packets-2
+    array-set-from-packets
+    add-j
+    loop-less
+    loop-again
+    mul-length
+    element-copy-out-length
+    returns)
