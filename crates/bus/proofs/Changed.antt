@@ -21,8 +21,8 @@ use Rattle.bus.specs.Coded.{standing}
 use Rattle.bus.specs.Parts.{Queue, queueOf, withQueue, packetsOf, queueForm}
 use Rattle.bus.proofs.State as state
 use Rattle.bus.proofs.Rows.{values-length, values-map, values-same, among-values}
-use Rattle.bus.proofs.Form.{Held, Padded}
-use Rattle.bus.proofs.QueueLaws.{queues-arrays, packets-of-form, form-places, form-padded, with-queue-lengths, queue-of-with}
+use Rattle.bus.proofs.Form.{Held, Padded, places-length}
+use Rattle.bus.proofs.QueueLaws.{queues-arrays, packets-of-form, form-places, form-padded, with-queue-lengths, queue-of-with, padded-form-of}
 
 -- ---- the arrays of a state that a function is handed have their lengths
 
@@ -50,6 +50,12 @@ stood s e = let both = and-true (padded s) (stands (meaning s)) e in (both .0, t
 
 pub few-stations : (s : State) → Standing (meaning s) → s .segment .settings .n ≤ most-stations
 few-stations s h = omega (arith, set-up-stands (meaning s) h .N-most, values-length (stationAt s) 0 (s .segment .settings .n))
+
+-- a queue with zero padding is the form of its packets
+pub queue-formed : (s : State) → Held s → Padded s → (i : ℕ) → i < most-stations → queueOf (s .queues) i ≡ queueForm (queueAt (s .queues) i)
+queue-formed s h p i l = padded-form-of (queueOf (s .queues) i) (places-length s h i l) (p .queues i l)
+
+-- ---- no two stations have one address
 
 -- values of which none stands twice
 apart : (f : ℕ → ℕ) (i k : ℕ) → Distinct (valuesFrom f i k) → (j m : ℕ) → i ≤ j → j < m → m < i + k → f j ≡ f m → ⊥

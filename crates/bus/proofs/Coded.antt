@@ -1,7 +1,7 @@
 -- The coded engine meets demand 2, and so has all that demand 2 promises: after any set-up and any calls its state is the form of the
 -- machine's. A refused call hands back the state as lent, and refusal 1 is given exactly where the standing conditions fail.
 -- Assumes nothing.
-use Prim.Native.Nat.{ℕ}
+use Prim.Native.Nat.{ℕ, zero, suc, _≤_}
 use mathlib.Core.Path.{_≡_, refl, sym, ap, ap₂, _∙_, subst}
 use mathlib.Core.Logic.{_⊎_, inl, inr, _↔_}
 use mathlib.Core.Bool.{Bool, true, false, not, _&&_, cond}
@@ -10,25 +10,26 @@ use native.Mathlib.Omega.{arith}
 use lib.Dec.{eqb}
 use lib.ListN.{drop}
 use borrow.Author.Tests.{eqb-true, eqb-false, not-true}
-use Rattle.rules.specs.Lists.{each-of, verdict, firstOf}
+use Rattle.rules.specs.Lists.{bit, each-of, verdict, firstOf}
 use Rattle.rules.specs.Bus.{Bus, nothing}
 use Rattle.rules.specs.SetUp.{Request, setUp}
 use Rattle.rules.specs.Standing.{Standing, stands}
 use Rattle.rules.specs.declared.Admitted.{Admitted}
 use Rattle.rules.specs.Admission.{Arrival, admissionTests, admissionRefusal, admit}
-use Rattle.rules.specs.Probe.{Answer, refusedAnswer, probe}
+use Rattle.rules.specs.Probe.{Contender, Answer, refusedAnswer, Open, transmitters, unheard, heard, probe}
+use Rattle.window.specs.declared.Side.{Side}
+use Rattle.window.specs.declared.Side.the-variants.{Left, Right}
 use Rattle.rules.specs.Step.{opened, stepTests, stepRefusal, step}
 use Rattle.rules.specs.Engine.{machine, Call, admission, one-step, admitted, stepped, reply, next, after, replies, reach}
 use Rattle.rules.specs.Demands.{Demand2, Promised}
-use Rattle.rules.proofs.Laws.{clash, and-true}
-use Rattle.rules.proofs.Tests.{stable, equal}
-use Rattle.rules.proofs.Standing.{step-accepted, step-is}
-use Rattle.rules.proofs.Refusals.{handsBack}
-use Rattle.rules.proofs.Probes.{probesLeft, probes-fall}
+use Rattle.rules.proofs.Laws.{clash, and-true, true-and}
+use Rattle.rules.proofs.Tests.{Whether, decides, told, tells}
+use Rattle.rules.proofs.Standing as Rules
+use Rattle.rules.proofs.Refusals.{probe-number, handsBack}
 use Rattle.rules.proofs.Reach.{standing-reached}
 use Rattle.rules.proofs.Promises.{promised}
 use Rattle.bus.specs.State.{State, meaning, form, padded}
-use Rattle.bus.specs.Coded.{standing, codedSetUp, codedAdmit, codedStep, coded}
+use Rattle.bus.specs.Coded.{standing, codedSetUp, codedAdmit, codedStep, coded, answerForm, answerOf}
 use Rattle.bus.proofs.Form.{Held, form-meaning, Fits, standing-fits, nothing-fits, meaning-form, padded-form}
 
 -- ---- demand 2
@@ -163,19 +164,8 @@ bears number n own refused h k = go (eqb n 0) refl
 admit-bears : (b : Bus) (a : Arrival) → admit b a .0 .refusal ≡ admissionRefusal b a
 admit-bears b a = bears (λ (x : Admitted × Bus). x .0 .refusal) (admissionRefusal b a) _ _ (λ z. refl) refl
 
--- a step that is not refused answers 0: else it would hand back the bus, on which as many probes are left
 step-bears : (b : Bus) → step b .0 .refusal ≡ stepRefusal b
-step-bears b = bears (λ (x : Answer × Bus). x .0 .refusal) (stepRefusal b) _ _ probed refl
-  where
-    accepted : stepRefusal b ≡ 0 → ¬ ¬ (step b .0 .refusal ≡ 0)
-    accepted z n =
-        let lent = handsBack .step b n in
-        let fewer = probes-fall b (step-accepted b z .standing) z (ap (λ (x : Answer × Bus). x .0 .ended) lent) in
-        let same = ap (λ (x : Answer × Bus). probesLeft (x .1)) lent in
-        omega arith
-
-    probed : stepRefusal b ≡ 0 → probe (opened b) .0 .refusal ≡ 0
-    probed z = ap (λ (x : Answer × Bus). x .0 .refusal) (sym (step-is b z)) ∙ stable (equal (step b .0 .refusal) 0) (accepted z)
+step-bears b = bears (λ (x : Answer × Bus). x .0 .refusal) (stepRefusal b) _ _ (λ z. probe-number (opened b)) refl
 
 -- on a state whose padding is zero it is the first test of the rules; any other does not stand
 pub standing-exactly-admission : (s : State) (a : Arrival) → (codedAdmit s a .0 .refusal ≡ 1) ↔ (standing s ≡ false)
@@ -191,3 +181,67 @@ standing-exactly-step s = go (padded s)
     go : (t : Bool) → (stepped-by s t .0 .refusal ≡ 1) ↔ ((t && stands (meaning s)) ≡ false)
     go true = one-first (stands (meaning s)) (drop 1 (stepTests (meaning s))) refl (step-bears (meaning s))
     go false = ((λ z. refl), (λ z. refl))
+
+-- ---- a state stands exactly when it is the form of a bus that stands
+
+pub stands-exactly : (s : State) → Held s → Whether (Standing (meaning s) × (form (meaning s) ≡ s)) (standing s)
+stands-exactly s held = decides (standing s) there back
+  where
+    there : standing s ≡ true → Standing (meaning s) × (form (meaning s) ≡ s)
+    there e =
+        let parts = and-true (padded s) (stands (meaning s)) e in
+        (tells (Rules.stands-exactly (meaning s)) (parts .1), form-meaning s held (parts .0))
+
+    back : standing s ≡ false → ¬ (Standing (meaning s) × (form (meaning s) ≡ s))
+    back e h =
+        let zeros = ap padded (sym (h .1)) ∙ padded-form (meaning s) (standing-fits (meaning s) (h .0)) in
+        clash (true-and zeros (told (Rules.stands-exactly (meaning s)) (h .0))) e
+
+-- ---- an answer in the code's sorts says all of the engine's answer: a contention ended or it did not
+
+abbrev ending : Answer → ℕ → Answer
+ending a n =
+    record {
+      refusal = a .refusal;
+      drops = a .drops;
+      slot = a .slot;
+      phase = a .phase;
+      start = a .start;
+      size = a .size;
+      event = a .event;
+      address = a .address;
+      number = a .number;
+      length = a .length;
+      ended = n;
+    }
+
+ended-bit : (n : ℕ) → n ≤ 1 → bit (not (eqb n 0)) ≡ n
+ended-bit zero h = refl
+ended-bit (suc zero) h = refl
+ended-bit (suc (suc n)) h = absurd (omega arith)
+
+unheard-ended : (o : Open) (side : Side) → unheard o side .0 .ended ≤ 1
+unheard-ended o Left = omega arith
+unheard-ended o Right = omega arith
+
+heard-ended : (o : Open) (xs : List Contender) → heard o xs .0 .ended ≤ 1
+heard-ended o [] = unheard-ended o (o .contention .window .side)
+heard-ended o (x ∷ []) = omega arith
+heard-ended o (x ∷ y ∷ more) = omega arith
+
+step-ended : (b : Bus) → step b .0 .ended ≤ 1
+step-ended b = go (eqb (stepRefusal b) 0)
+  where
+    go : (t : Bool) → cond t (probe (opened b)) (refusedAnswer (stepRefusal b), b) .0 .ended ≤ 1
+    go true = heard-ended (opened b) (transmitters (opened b .bus) (opened b .contention))
+    go false = omega arith
+
+read : (a : Answer) → a .ended ≤ 1 → answerOf (answerForm a) ≡ a
+read a h = ap (ending a) (ended-bit (a .ended) h)
+
+pub answer-read : (s : State) → answerOf (answerForm (codedStep s .0)) ≡ codedStep s .0
+answer-read s = go (padded s)
+  where
+    go : (t : Bool) → answerOf (answerForm (stepped-by s t .0)) ≡ stepped-by s t .0
+    go true = read (step (meaning s) .0) (step-ended (meaning s))
+    go false = refl

@@ -6,6 +6,7 @@ use mathlib.Core.Bool.{Bool, not, _&&_, cond}
 use mathlib.Core.List.{List, map}
 use lib.Dec.{eqb}
 use lib.ListN.{take}
+use Rattle.rules.specs.Lists.{bit}
 use Rattle.rules.specs.Bus.{waiting}
 use Rattle.rules.specs.declared.Verdict.{Verdict}
 use Rattle.rules.specs.declared.Admitted.{Admitted}
@@ -78,6 +79,23 @@ answerForm a =
       number = a .number;
       length = a .length;
       ended = not (eqb (a .ended) 0);
+    }
+
+-- what such an answer says, as the rules have it
+abbrev pub answerOf : Answer → Probe.Answer
+answerOf a =
+    record {
+      refusal = a .refusal;
+      drops = a .drops;
+      slot = a .slot .0;
+      phase = a .phase;
+      start = a .start;
+      size = a .size;
+      event = a .event;
+      address = a .address .0;
+      number = a .number;
+      length = a .length;
+      ended = bit (a .ended);
     }
 
 abbrev pub setUpResult : Verdict × State → SetUp

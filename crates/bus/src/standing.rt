@@ -333,7 +333,7 @@ fn contention_stands(settings: Settings, c: Contention) -> bool
     window::is_placed(w, settings.d)
 }
 
-// 'clock and admitted count within range', the stations, the counts, 'none twice over all queues'
+// The stations, the places past N, 'admitted = sent + lost + waiting', and 'none twice over all queues'.
 fn queues_stand(g: Segment, queues: Queues) -> bool
     requires { ⌜ g .settings .n ≤ 64 ⌝ }
     ensures { λ r. ⌜ r ≡ queuesSound g queues ⌝ }
@@ -354,7 +354,7 @@ fn queues_stand(g: Segment, queues: Queues) -> bool
     merging::none_twice(queues, n)
 }
 
-// The test that refusal 1 goes by.
+// The test that refusal 1 goes by: the set-up, 'clock and admitted count within range', the round, the contention, the queues.
 pub fn stands(s: State) -> bool
     ensures { λ r. ⌜ r ≡ standing s ⌝ }
 {

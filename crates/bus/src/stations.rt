@@ -16,14 +16,14 @@ use crate::waiting;
 use rules::Verdict;
 use window::Side;
 use window::Window;
-ghost use Prim.Native.Nat.{_<_, _≤_};
+ghost use Prim.Native.Nat.{_<_, _≤_, min};
 ghost use mathlib.Core.Path.{_≡_};
-ghost use mathlib.Core.Bool.{cond};
+ghost use mathlib.Core.Bool.{_||_, cond};
 ghost use mathlib.Core.List.{List, [], map};
 ghost use lib.Dec.{ltb, eqb};
 ghost use lib.ListN.{length, getD, take};
 ghost use Rattle.rules.specs.Lists.{has, outside, firstOf};
-ghost use Rattle.rules.specs.Bus.{least-space, most-space};
+ghost use Rattle.rules.specs.Bus.{most-stations, least-space, most-space};
 ghost use Rattle.rules.specs.SetUp.{Asked, fine, step-outside, capability-outside, settingsTests, stationTests, rowTests, setUpVerdict};
 ghost use Rattle.bus.specs.State.{nobody, row};
 ghost use Rattle.bus.specs.Coded.{askedOf, requestWith};
@@ -34,6 +34,7 @@ const MOST_STATIONS: usize = 64;
 
 // 'parameter space D', 'address space A: 2 to 65,536'
 const LEAST_SPACE: u32 = 2;
+
 const MOST_SPACE: u32 = 65_536;
 
 // 'laxity step q: RTDG: 1 to 65,535'
@@ -67,15 +68,28 @@ fn step_outside(discipline: u32, q: u32) -> bool
     q != 1
 }
 
+// 'stations N: 1 to 64', of a row with this many of its 64 places filled. 'A station row shorter than N gives 6.'
+fn count_outside(n: usize, count: usize) -> bool
+    ensures { λ r. ⌜ r ≡ (outside 1 most-stations n || ltb (min count most-stations) n) ⌝ }
+{
+    if n < 1 {
+        return true;
+    }
+    if MOST_STATIONS < n {
+        return true;
+    }
+    count < n
+}
+
 fn fault(refusal: u32, station: usize) -> Verdict
     ensures { λ r. ⌜ r ≡ record { refusal = refusal; station = station } ⌝ }
 {
     Verdict { refusal, station }
 }
 
-// 2 to 6, of a row this long. 'A station row shorter than N gives 6.'
+// 2 to 6, of such a row.
 fn settings_verdict(settings: Settings, count: usize) -> Verdict
-    ensures { λ r. ⌜ ((row : List Asked) → length row ≡ count → r ≡ firstOf fine (settingsTests (requestWith settings row))) ⌝ }
+    ensures { λ r. ⌜ ((row : List Asked) → length row ≡ min count most-stations → r ≡ firstOf fine (settingsTests (requestWith settings row))) ⌝ }
 {
     if 2 < settings.discipline {
         return fault(2, 0);
@@ -89,13 +103,7 @@ fn settings_verdict(settings: Settings, count: usize) -> Verdict
     if step_outside(settings.discipline, settings.q) {
         return fault(5, 0);
     }
-    if settings.n < 1 {
-        return fault(6, 0);
-    }
-    if MOST_STATIONS < settings.n {
-        return fault(6, 0);
-    }
-    if count < settings.n {
+    if count_outside(settings.n, count) {
         return fault(6, 0);
     }
     fault(0, 0)

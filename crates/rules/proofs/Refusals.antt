@@ -37,7 +37,8 @@ heard-number o [] = unheard-number o (o .contention .window .side)
 heard-number o (x ∷ []) = refl
 heard-number o (x ∷ y ∷ more) = refl
 
-probe-number : (o : Open) → probe o .0 .refusal ≡ 0
+-- a probe's own answer bears 0
+pub probe-number : (o : Open) → probe o .0 .refusal ≡ 0
 probe-number o = heard-number o (transmitters (o .bus) (o .contention))
 
 -- Of a call whose own answer bears 0 and whose refusals bear their numbers: an answer that does not bear 0 is the refusal of its number.

@@ -11,7 +11,7 @@ use lib.Dec.{leb, ltb, eqb}
 use borrow.Author.Tests.{ltb-true, ltb-false, leb-true, leb-false, eqb-true, eqb-false}
 use Rattle.rules.specs.Lists.{some-of, each-of, Among, at-head, in-tail, All, Some, distinct, Distinct, outside, firstOf, Given}
 use Rattle.rules.specs.Conditions.{Outside}
-use Rattle.rules.proofs.Laws.{and-true, among-cases, among-none, all-cons, all-nil}
+use Rattle.rules.proofs.Laws.{clash, and-true, among-cases, among-none, all-cons, all-nil}
 
 pub data Whether (C : Type 0) : Bool → Type 0 where
   holds : C → Whether C true
@@ -21,6 +21,15 @@ pub data Whether (C : Type 0) : Bool → Type 0 where
 pub stable : {C : Type 0} {t : Bool} → Whether C t → ¬ ¬ C → C
 stable (holds c) h = c
 stable (fails n) h = absurd (h n)
+
+-- the test tells of the condition, and the condition of the test
+pub tells : {C : Type 0} {t : Bool} → Whether C t → t ≡ true → C
+tells (holds c) e = c
+tells (fails n) e = clash e refl
+
+pub told : {C : Type 0} {t : Bool} → Whether C t → C → t ≡ true
+told (holds c) h = refl
+told (fails n) h = absurd (n h)
 
 -- from what the test tells when it holds and when it does not
 pub decides : {C : Type 0} (t : Bool) → (t ≡ true → C) → (t ≡ false → ¬ C) → Whether C t

@@ -1,0 +1,58 @@
+-- What is proved of the code, in one place. The contracts of src/lib.rt cite `codedSetUp`, `codedAdmit`, `codedStep` and `totalsOf`
+-- (specs/Coded.antt); each function is proved to meet its contract, and here stands what those functions are worth. What the words mean is
+-- in specs/ here and in the crate rules; docs/PROMISES.md says which sentence each theorem answers. Assumes nothing.
+use mathlib.Core.Path.{_≡_}
+use mathlib.Core.Logic.{_↔_}
+use mathlib.Core.Bool.{false}
+use Rattle.rules.specs.Bus.{nothing}
+use Rattle.rules.specs.Standing.{Standing}
+use Rattle.rules.specs.SetUp.{Request}
+use Rattle.rules.specs.Admission.{Arrival}
+use Rattle.rules.specs.Probe.{refusedAnswer}
+use Rattle.rules.specs.Demands.{Demand2, Promised}
+use Rattle.rules.proofs.Tests.{Whether}
+use Rattle.bus.specs.State.{State, meaning, form}
+use Rattle.bus.specs.Coded.{standing, codedSetUp, codedAdmit, codedStep, coded, answerForm, answerOf}
+use Rattle.bus.proofs.Form.{Held}
+use Rattle.bus.proofs.Coded as Coded
+
+-- ---- demand 2, and what follows from it: the winner is least, events and counts are true, probes are bounded, and demand 3
+
+pub demand2-coded : Demand2 coded
+demand2-coded = Coded.demand2-coded
+
+pub promised-coded : Promised coded
+promised-coded = Coded.promised-coded
+
+-- ---- for any state lent, whatever it holds
+
+-- a state stands exactly when it is the form of a bus that keeps the standing conditions of paper 01
+pub stands-exactly : (s : State) → Held s → Whether (Standing (meaning s) × (form (meaning s) ≡ s)) (standing s)
+stands-exactly = Coded.stands-exactly
+
+-- refusal 1 is given exactly when it does not
+pub refused-exactly-admission : (s : State) (a : Arrival) → (codedAdmit s a .0 .refusal ≡ 1) ↔ (standing s ≡ false)
+refused-exactly-admission = Coded.standing-exactly-admission
+
+pub refused-exactly-step : (s : State) → (codedStep s .0 .refusal ≡ 1) ↔ (standing s ≡ false)
+refused-exactly-step = Coded.standing-exactly-step
+
+-- refused calls hand back the state as lent, and zeros; a refused set-up the all-zero state, which refusal 1 catches
+pub hands-back-admission :
+    (s : State) → Held s → (a : Arrival) → ¬ (codedAdmit s a .0 .refusal ≡ 0)
+    → codedAdmit s a ≡ (record { refusal = codedAdmit s a .0 .refusal; number = 0 }, s)
+hands-back-admission = Coded.hands-back-admission
+
+pub hands-back-step :
+    (s : State) → Held s → ¬ (codedStep s .0 .refusal ≡ 0) → codedStep s ≡ (refusedAnswer (codedStep s .0 .refusal), s)
+hands-back-step = Coded.hands-back-step
+
+pub hands-back-set-up : (r : Request) → ¬ (codedSetUp r .0 .refusal ≡ 0) → codedSetUp r .1 ≡ form nothing
+hands-back-set-up = Coded.hands-back-set-up
+
+pub caught : standing (form nothing) ≡ false
+caught = Coded.caught
+
+-- an answer in the code's sorts says all that the engine's answer says
+pub answer-read : (s : State) → answerOf (answerForm (codedStep s .0)) ≡ codedStep s .0
+answer-read = Coded.answer-read

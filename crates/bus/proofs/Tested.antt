@@ -1,0 +1,59 @@
+-- Tests as the code makes them: a callee's answer negated, and a test a turn in a loop over the places of a list from j to n. What
+-- such a loop has left at j is `slice j n xs`: `-turn`, `-holds` and `-fails` are one turn of it, `-end` its end. Assumes nothing.
+use Prim.Native.Nat.{ℕ, _+_, _≤_, _<_}
+use mathlib.Core.Path.{_≡_, sym, ap, _∙_}
+use mathlib.Core.Bool.{Bool, true, false, not, _&&_, _||_}
+use mathlib.Core.List.{List, [], _∷_}
+use native.Mathlib.Numerals.{add-one}
+use native.Mathlib.Omega.{arith}
+use mir.Val.{Val}
+use denote.Laws.{Is}
+use borrow.Author.Tests.{not-true, not-false}
+use lib.ListN.{length, getD, take, length-take, drop-of-length-le}
+use lib.Seq.{slice, slice-cons}
+use Rattle.rules.specs.Lists.{each-of, some-of}
+use Rattle.bus.specs.Parts.{Queue}
+use Rattle.bus.proofs.Queue as queue
+use Rattle.bus.proofs.QueueLaws.{queue-array}
+
+-- ---- what a callee answered, negated in the code
+
+pub denied : {answer test : Bool} → answer ≡ test → not answer ≡ true → test ≡ false
+denied {answer} e h = sym e ∙ not-true answer h
+
+pub granted : {answer test : Bool} → answer ≡ test → not answer ≡ false → test ≡ true
+granted {answer} e h = sym e ∙ not-false answer h
+
+-- ---- loops
+
+-- the packets of a queue that a function is handed stand in its places
+pub queue-room : (q : Queue) (vs : List Val) → Is queue.the-row q vs → q .length ≤ 16 → q .length ≤ length (q .packets)
+queue-room q vs owned h = omega (arith, queue-array q vs owned)
+
+module _ {X : Type 0} (n : ℕ) (xs : List X) (j : ℕ) where
+  pub left-turn : (d : X) → j < n → n ≤ length xs → slice j n xs ≡ getD xs j d ∷ slice (j + 1) n xs
+  left-turn d h k = slice-cons j n xs d h k ∙ ap (λ i. getD xs j d ∷ slice i n xs) (sym (add-one j))
+
+  pub left-end : n ≤ j → slice j n xs ≡ []
+  left-end h = let k : length (take n xs) ≤ j = omega (arith, length-take n xs) in drop-of-length-le (take n xs) k
+
+  module _ (test : X → Bool) where
+    pub each-holds :
+        (d : X) → j < n → n ≤ length xs → test (getD xs j d) ≡ true → each-of test (slice j n xs) ≡ each-of test (slice (j + 1) n xs)
+    each-holds d h k e = ap (each-of test) (left-turn d h k) ∙ ap (λ t. t && each-of test (slice (j + 1) n xs)) e
+
+    pub each-fails : (d : X) → j < n → n ≤ length xs → test (getD xs j d) ≡ false → each-of test (slice j n xs) ≡ false
+    each-fails d h k e = ap (each-of test) (left-turn d h k) ∙ ap (λ t. t && each-of test (slice (j + 1) n xs)) e
+
+    pub each-end : n ≤ j → each-of test (slice j n xs) ≡ true
+    each-end h = ap (each-of test) (left-end h)
+
+    pub some-holds : (d : X) → j < n → n ≤ length xs → test (getD xs j d) ≡ true → some-of test (slice j n xs) ≡ true
+    some-holds d h k e = ap (some-of test) (left-turn d h k) ∙ ap (λ t. t || some-of test (slice (j + 1) n xs)) e
+
+    pub some-fails :
+        (d : X) → j < n → n ≤ length xs → test (getD xs j d) ≡ false → some-of test (slice j n xs) ≡ some-of test (slice (j + 1) n xs)
+    some-fails d h k e = ap (some-of test) (left-turn d h k) ∙ ap (λ t. t || some-of test (slice (j + 1) n xs)) e
+
+    pub some-end : n ≤ j → some-of test (slice j n xs) ≡ false
+    some-end h = ap (some-of test) (left-end h)

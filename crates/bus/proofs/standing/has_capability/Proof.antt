@@ -1,0 +1,79 @@
+-- `standing::has_capability` meets its contract. The loop's invariant: some station has it if one of those from i on has.
+-- Assumes nothing.
+use Prim.Native.Nat.{_-_, _≤_}
+use mathlib.Core.Path.{_≡_, refl, sym, _∙_}
+use mathlib.Core.Bool.{Bool}
+use native.Mathlib.Omega.{arith}
+use borrow.Author.Needs.{needs}
+use lib.Dec.{eqb}
+use lib.ListN.{length, take}
+use lib.Seq.{slice}
+use Rattle.rules.specs.Lists.{some-of}
+use Rattle.bus.specs.State.{Capability, Listed, nobody}
+use Rattle.bus.proofs.Tested.{some-holds, some-fails, some-end}
+use Rattle.bus.proofs.standing.has_capability.Statement.{statement}
+use Rattle.bus.proofs.standing.has_capability.Tie as tie
+
+abbrev has-it : Capability → Listed → Bool
+has-it capability l = eqb (capability .0) (l .capability .0)
+
+abbrev Inv-loop : tie.InvT-loop
+Inv-loop n capability listed i₀ i = some-of (has-it capability) (take n listed) ≡ some-of (has-it capability) (slice i n listed)
+
+abbrev μ-loop : tie.MeasureT-loop
+μ-loop n capability listed i₀ i = n - i
+
+loop-holds : tie.Need-loop-holds Inv-loop μ-loop
+loop-holds c = refl
+
+mul-l : tie.Need-mul-l Inv-loop μ-loop
+mul-l c = search needs
+
+array-copy-out-l : tie.Need-array-copy-out-l Inv-loop μ-loop
+array-copy-out-l c = search needs
+
+same-capability-requires : tie.Need-same-capability-requires Inv-loop μ-loop
+same-capability-requires c κs = search needs
+
+returns : tie.Need-returns Inv-loop μ-loop
+returns c =
+    let turn = c .before .before .before in
+    let start = turn .before .before in
+    let places : length (start .args .t1) ≡ 64 = start .good .0 .1 .0 .1 in
+    let room : start .args .n ≤ length (start .args .t1) = omega arith in
+    let same = sym (c .before .same-capability .ensures) ∙ c .if1 .taken in
+    sym (turn .before .loop .inv ∙ some-holds _ _ (turn .before .loop .i) _ nobody (turn .loop-test .taken) room same)
+
+add-i : tie.Need-add-i Inv-loop μ-loop
+add-i c = search needs
+
+loop-less : tie.Need-loop-less Inv-loop μ-loop
+loop-less c = search needs
+
+loop-again : tie.Need-loop-again Inv-loop μ-loop
+loop-again c =
+    let turn = c .before .before .before in
+    let start = turn .before .before in
+    let places : length (start .args .t1) ≡ 64 = start .good .0 .1 .0 .1 in
+    let room : start .args .n ≤ length (start .args .t1) = omega arith in
+    let other = sym (c .before .same-capability .ensures) ∙ c .if1 .left in
+    turn .before .loop .inv ∙ some-fails _ _ (turn .before .loop .i) _ nobody (turn .loop-test .taken) room other
+
+returns-2 : tie.Need-returns-2 Inv-loop μ-loop
+returns-2 c = sym (c .before .loop .inv ∙ some-end _ _ _ _ (c .loop-test .left))
+
+pub has-capability-spec : {M : Type 1} → statement M
+has-capability-spec =
+    tie.close
+    (tie.spec
+    Inv-loop
+    μ-loop
+    loop-holds
+    mul-l
+    array-copy-out-l
+    same-capability-requires
+    returns
+    add-i
+    loop-less
+    loop-again
+    returns-2)

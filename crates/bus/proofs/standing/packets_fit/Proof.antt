@@ -1,0 +1,77 @@
+-- `standing::packets_fit` meets its contract. The loop's invariant: all packets fit if those from j on do. Assumes nothing.
+use Prim.Native.Nat.{ℕ, _-_}
+use mathlib.Core.Path.{_≡_, refl, sym, _∙_}
+use mathlib.Core.Bool.{Bool, _&&_}
+use borrow.Author.Needs.{needs}
+use lib.Seq.{slice}
+use Rattle.rules.specs.Lists.{each-of}
+use Rattle.rules.specs.SetUp.{disciplineOf}
+use Rattle.rules.specs.Standing.{value-fits, length-fits}
+use Rattle.bus.specs.State.{Packet, noPacket}
+use Rattle.bus.specs.Parts.{packetsOf}
+use Rattle.bus.proofs.Tested.{queue-room, denied, granted, each-holds, each-fails, each-end}
+use Rattle.bus.proofs.standing.packets_fit.Statement.{statement}
+use Rattle.bus.proofs.standing.packets_fit.Tie as tie
+
+abbrev fits : ℕ → ℕ → Packet → Bool
+fits discipline d p = value-fits (disciplineOf discipline) d (p .value) && length-fits (p .length)
+
+abbrev Inv-loop : tie.InvT-loop
+Inv-loop discipline d queue length j₀ j =
+    each-of (fits discipline d) (packetsOf queue) ≡ each-of (fits discipline d) (slice j length (queue .packets))
+
+abbrev μ-loop : tie.MeasureT-loop
+μ-loop discipline d queue length j₀ j = length - j
+
+loop-holds : tie.Need-loop-holds Inv-loop μ-loop
+loop-holds c = refl
+
+mul-p : tie.Need-mul-p Inv-loop μ-loop
+mul-p c = search needs
+
+element-copy-out-p : tie.Need-element-copy-out-p Inv-loop μ-loop
+element-copy-out-p c = search needs
+
+packet-fits-requires : tie.Need-packet-fits-requires Inv-loop μ-loop
+packet-fits-requires c κs = search needs
+
+returns : tie.Need-returns Inv-loop μ-loop
+returns c =
+    let turn = c .before .before .before in
+    let start = turn .before .before in
+    let room = queue-room (start .args .t1) _ (start .good .0) (start .pre) in
+    let unfit = denied (c .before .packet-fits .ensures) (c .if1 .taken) in
+    sym (turn .before .loop .inv ∙ each-fails _ _ (turn .before .loop .j) _ noPacket (turn .loop-test .taken) room unfit)
+
+add-j : tie.Need-add-j Inv-loop μ-loop
+add-j c = search needs
+
+loop-less : tie.Need-loop-less Inv-loop μ-loop
+loop-less c = search needs
+
+loop-again : tie.Need-loop-again Inv-loop μ-loop
+loop-again c =
+    let turn = c .before .before .before in
+    let start = turn .before .before in
+    let room = queue-room (start .args .t1) _ (start .good .0) (start .pre) in
+    let fit = granted (c .before .packet-fits .ensures) (c .if1 .left) in
+    turn .before .loop .inv ∙ each-holds _ _ (turn .before .loop .j) _ noPacket (turn .loop-test .taken) room fit
+
+returns-2 : tie.Need-returns-2 Inv-loop μ-loop
+returns-2 c = sym (c .before .loop .inv ∙ each-end _ _ _ _ (c .loop-test .left))
+
+pub packets-fit-spec : {M : Type 1} → statement M
+packets-fit-spec =
+    tie.close
+    (tie.spec
+    Inv-loop
+    μ-loop
+    loop-holds
+    mul-p
+    element-copy-out-p
+    packet-fits-requires
+    returns
+    add-j
+    loop-less
+    loop-again
+    returns-2)

@@ -1,0 +1,69 @@
+-- `standing::rises` meets its contract. The loop's invariant: the numbers rise if those from j on do, from the number before them.
+-- Assumes nothing.
+use Prim.Native.Nat.{_-_}
+use mathlib.Core.Path.{_≡_, refl, sym, ap, _∙_}
+use borrow.Author.Needs.{needs}
+use borrow.Author.Tests.{lt-ltb, le-ltb}
+use lib.Seq.{slice}
+use Rattle.rules.specs.Standing.{rising}
+use Rattle.bus.specs.State.{noPacket}
+use Rattle.bus.specs.Parts.{packetsOf}
+use Rattle.bus.proofs.Tested.{queue-room, left-turn, left-end}
+use Rattle.bus.proofs.standing.rises.Statement.{statement}
+use Rattle.bus.proofs.standing.rises.Tie as tie
+
+abbrev Inv-loop : tie.InvT-loop
+Inv-loop admitted queue length before₀ j₀ before j =
+    rising 0 admitted (packetsOf queue) ≡ rising before admitted (slice j length (queue .packets))
+
+abbrev μ-loop : tie.MeasureT-loop
+μ-loop admitted queue length before₀ j₀ before j = length - j
+
+loop-holds : tie.Need-loop-holds Inv-loop μ-loop
+loop-holds c = refl
+
+mul-p : tie.Need-mul-p Inv-loop μ-loop
+mul-p c = search needs
+
+element-copy-out-p : tie.Need-element-copy-out-p Inv-loop μ-loop
+element-copy-out-p c = search needs
+
+returns : tie.Need-returns Inv-loop μ-loop
+returns c =
+    let turn = c .before .before .before in
+    let start = turn .before .before in
+    let room = queue-room (start .args .t1) _ (start .good .0) (start .pre) in
+    let next = left-turn _ (start .args .t1 .packets) _ noPacket (turn .loop-test .taken) room in
+    sym (turn .before .loop .inv ∙ rw (next, le-ltb _ _ (c .if1 .taken)))
+
+add-j : tie.Need-add-j Inv-loop μ-loop
+add-j c = search needs
+
+loop-less : tie.Need-loop-less Inv-loop μ-loop
+loop-less c = search needs
+
+loop-again : tie.Need-loop-again Inv-loop μ-loop
+loop-again c =
+    let turn = c .before .before .before in
+    let start = turn .before .before in
+    let room = queue-room (start .args .t1) _ (start .good .0) (start .pre) in
+    let next = left-turn _ (start .args .t1 .packets) _ noPacket (turn .loop-test .taken) room in
+    turn .before .loop .inv ∙ rw (next, lt-ltb _ _ (c .if1 .left))
+
+returns-2 : tie.Need-returns-2 Inv-loop μ-loop
+returns-2 c = sym (c .before .loop .inv ∙ ap (rising (c .before .loop .before) _) (left-end _ _ _ (c .loop-test .left)))
+
+pub rises-spec : {M : Type 1} → statement M
+rises-spec =
+    tie.close
+    (tie.spec
+    Inv-loop
+    μ-loop
+    loop-holds
+    mul-p
+    element-copy-out-p
+    returns
+    add-j
+    loop-less
+    loop-again
+    returns-2)

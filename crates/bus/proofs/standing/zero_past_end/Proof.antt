@@ -1,0 +1,78 @@
+-- `standing::zero_past_end` meets its contract. The loop's invariant: the places past the end are zero if those from j on are.
+-- Assumes nothing.
+use Prim.Native.Nat.{_-_, _≤_}
+use mathlib.Core.Path.{_≡_, sym, ap, _∙_}
+use native.Mathlib.Omega.{arith}
+use borrow.Author.Needs.{needs}
+use lib.ListN.{length, drop}
+use lib.Seq.{slice, take-all}
+use Rattle.rules.specs.Lists.{each-of}
+use Rattle.bus.specs.State.{no-packet, noPacket}
+use Rattle.bus.proofs.QueueLaws.{queue-array}
+use Rattle.bus.proofs.Tested.{denied, granted, each-holds, each-fails, each-end}
+use Rattle.bus.proofs.standing.zero_past_end.Statement.{statement}
+use Rattle.bus.proofs.standing.zero_past_end.Tie as tie
+
+abbrev Inv-loop : tie.InvT-loop
+Inv-loop queue length j₀ j = each-of no-packet (drop (queue .length) (queue .packets)) ≡ each-of no-packet (slice j 16 (queue .packets))
+
+abbrev μ-loop : tie.MeasureT-loop
+μ-loop queue length j₀ j = 16 - j
+
+loop-holds : tie.Need-loop-holds Inv-loop μ-loop
+loop-holds c =
+    let places = queue-array (c .args .t1) _ (c .good .0) in
+    ap (λ ps. each-of no-packet (drop (c .args .t1 .length) ps)) (sym (take-all 16 (c .args .t1 .packets) (omega arith)))
+
+mul-p : tie.Need-mul-p Inv-loop μ-loop
+mul-p c = search needs
+
+element-copy-out-p : tie.Need-element-copy-out-p Inv-loop μ-loop
+element-copy-out-p c = search needs
+
+no-packet-requires : tie.Need-no-packet-requires Inv-loop μ-loop
+no-packet-requires c κs = search needs
+
+returns : tie.Need-returns Inv-loop μ-loop
+returns c =
+    let turn = c .before .before .before in
+    let start = turn .before .before in
+    let room : 16 ≤ length (start .args .t1 .packets) = omega (arith, queue-array (start .args .t1) _ (start .good .0)) in
+    let other = denied (c .before .no-packet .ensures) (c .if1 .taken) in
+    sym
+    (turn .before .loop .inv
+    ∙ each-fails 16 (start .args .t1 .packets) (turn .before .loop .j) no-packet noPacket (turn .loop-test .taken) room other)
+
+add-j : tie.Need-add-j Inv-loop μ-loop
+add-j c = search needs
+
+loop-less : tie.Need-loop-less Inv-loop μ-loop
+loop-less c = search needs
+
+loop-again : tie.Need-loop-again Inv-loop μ-loop
+loop-again c =
+    let turn = c .before .before .before in
+    let start = turn .before .before in
+    let room : 16 ≤ length (start .args .t1 .packets) = omega (arith, queue-array (start .args .t1) _ (start .good .0)) in
+    let zero = granted (c .before .no-packet .ensures) (c .if1 .left) in
+    turn .before .loop .inv
+    ∙ each-holds 16 (start .args .t1 .packets) (turn .before .loop .j) no-packet noPacket (turn .loop-test .taken) room zero
+
+returns-2 : tie.Need-returns-2 Inv-loop μ-loop
+returns-2 c = sym (c .before .loop .inv ∙ each-end 16 (c .before .before .args .t1 .packets) _ no-packet (c .loop-test .left))
+
+pub zero-past-end-spec : {M : Type 1} → statement M
+zero-past-end-spec =
+    tie.close
+    (tie.spec
+    Inv-loop
+    μ-loop
+    loop-holds
+    mul-p
+    element-copy-out-p
+    no-packet-requires
+    returns
+    add-j
+    loop-less
+    loop-again
+    returns-2)

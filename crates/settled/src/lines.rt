@@ -1,0 +1,88 @@
+// Lines of what the calls answer: a label, a colon, and numbers.
+use bus::Address;
+use bus::Row;
+use bus::Settings;
+use bus::State;
+
+fn word(n: u64) {
+    io::write_all(1, b" ");
+    io::print_decimal(1, n);
+}
+
+fn number(n: u32) {
+    word(n as u64);
+}
+
+fn place(n: usize) {
+    word(n as u64);
+}
+
+fn label(text: &[u8]) {
+    io::write_all(1, text);
+    io::write_all(1, b":");
+}
+
+fn newline() {
+    io::write_all(1, b"\n");
+}
+
+// A set-up: the refusal, the faulty station's place, and what a step of the state that came back answers.
+pub fn set_up(text: &[u8], settings: Settings, row: Row) {
+    let r = bus::set_up(settings, row);
+    let v = r.verdict;
+    let state = r.state;
+    let next = bus::step(state);
+    let a = next.answer;
+    label(text);
+    number(v.refusal);
+    place(v.station);
+    number(a.refusal);
+    newline();
+}
+
+// An admission: the refusal and the packet's number.
+pub fn admitted(text: &[u8], s: State, address: u32, value: u32, length: u32) {
+    let r = bus::admit(s, Address(address), value, length);
+    let a = r.answer;
+    label(text);
+    number(a.refusal);
+    word(a.number);
+    newline();
+}
+
+// A step: all of its answer.
+pub fn stepped(text: &[u8], s: State) {
+    let r = bus::step(s);
+    let a = r.answer;
+    label(text);
+    number(a.refusal);
+    word(a.drops);
+    number(a.slot.0);
+    number(a.phase);
+    word(a.start);
+    word(a.size);
+    number(a.event);
+    number(a.address.0);
+    word(a.number);
+    number(a.length);
+    if a.ended {
+        word(1);
+    } else {
+        word(0);
+    }
+    newline();
+}
+
+// A state lent to each call: the refusals of an admission, a step and the closing numbers.
+pub fn lent(text: &[u8], s: State) {
+    let a = bus::admit(s, Address(1), 0, 1);
+    let b = bus::step(s);
+    let c = bus::closing(s);
+    label(text);
+    let x = a.answer;
+    number(x.refusal);
+    let y = b.answer;
+    number(y.refusal);
+    number(c.refusal);
+    newline();
+}
