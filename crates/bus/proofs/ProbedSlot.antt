@@ -12,19 +12,18 @@ use lib.ListN.{length, getD, drop}
 use borrow.Author.Tests.{leb-true, eqb-true, eqb-false, eq-eqb, ne-eqb}
 use Rattle.window.specs.declared.Side.{Side}
 use Rattle.window.specs.declared.Side.the-variants.{Left, Right}
-use Rattle.window.specs.declared.Window.{Window}
 use Rattle.window.specs.Splitting.{firstWindow, leftHalf, moveRight, movedRight, placed}
 use Rattle.window.proofs.Facts.{moved-right}
 use Rattle.rules.specs.Lists.{kept, keep, each-of, Among}
-use Rattle.rules.proofs.Laws.{and-true, true-and, count-some, count-le, total-among}
 use Rattle.rules.specs.Bus as Machine
 use Rattle.rules.specs.Bus.{Discipline, PRI, RTDG, RTVC, Station, Bus, places, most-stations}
-use Rattle.rules.specs.Standing.{OfferStands, WindowStands, ContentionStands, Standing}
+use Rattle.rules.specs.Standing.{OfferStands, StationStands, WindowStands, ContentionStands, Standing}
 use Rattle.rules.specs.Probe as Probe
 use Rattle.rules.specs.Probe.{contending, contenders, transmits, transmitters, phaseOf, tie-phase, parameter-phase, idle, collision, success, answered, unsent, sentBy, goesOn, withdrawn, unwon, left, lastWinner, tiedAt, split, heard, probe}
-use Rattle.bus.specs.State.{Packet, Address, Capability, Contention, Round, Segment, State, noContender, noRound, noContention, nobody, placesAt, queueAt, offerOf, stationWith, stationAt, valuesFrom, stationsOf, lastOf, tieOf, contentionOf, meaning, form, no-packet, contender-padded, no-station, round-padded, no-window, contention-padded}
+use Rattle.rules.proofs.Laws.{and-true, true-and, count-some, count-le, total-among}
+use Rattle.bus.specs.State.{Packet, Address, Capability, Contention, Round, State, noContender, noRound, noContention, nobody, placesAt, queueAt, offerOf, stationWith, stationAt, valuesFrom, stationsOf, lastOf, tieOf, contentionOf, meaning, form, no-packet, contender-padded, no-station, round-padded, no-window, contention-padded}
 use Rattle.bus.specs.Coded.{Stepped, answerForm, stepResult}
-use Rattle.bus.specs.Parts.{Probed, Sent, stays, queueForm, withQueue, firstPlace, noContenders, contenderAt, transmitsAt, nextTransmitter, openOf, answerTo, segmentWith, onward, splitAt, collidedAt, unheardAt, roundAfter, wonAt, probedBy, probed}
+use Rattle.bus.specs.Parts.{Probed, Sent, stays, queueForm, withQueue, firstPlace, noContenders, contenderAt, transmitsAt, nextTransmitter, openOf, answerTo, segmentWith, onward, splitAt, collidedAt, unheardAt, roundAfter, wonAt, probed}
 use Rattle.bus.proofs.Rows.{values-map, values-same, row-length, row-at, among-values, first-place-le}
 use Rattle.bus.proofs.Form.{Held, Padded, parts-padded, to-form}
 use Rattle.bus.proofs.QueueLaws.{kept-length}
@@ -36,6 +35,13 @@ module _ (s : State) where
   abbrev n : ℕ
   n = s .segment .settings .n
 
+  -- the first and the second station that transmit; N where there is none
+  abbrev first : ℕ
+  first = nextTransmitter (s .segment) 0
+
+  abbrev second : ℕ
+  second = nextTransmitter (s .segment) (suc first)
+
   -- the contention under way
   abbrev under-way : Machine.Contention
   under-way = record { window = s .segment .contention .window; tie = tieOf (s .segment .contention) }
@@ -44,7 +50,7 @@ module _ (s : State) where
   abbrev heardFrom : ℕ → ℕ → List Probe.Contender
   heardFrom i k = keep (transmits (meaning s) under-way) (contenders (valuesFrom (stationAt s) i k))
 
-  -- the same, of the stations from place i on of which the first that transmits is at place f, or N where none does
+  -- those who transmit where f is the first place of one
   abbrev heardAt : ℕ → List Probe.Contender
   heardAt f = cond (eqb f n) [] (contenderAt (s .segment) f ∷ heardFrom (suc f) (n - suc f))
 
@@ -52,13 +58,18 @@ module _ (s : State) where
   heard-place : (i k : ℕ) → heardFrom i (suc k) ≡ kept (transmitsAt (s .segment) i) (contenderAt (s .segment) i) (heardFrom (suc i) k)
   heard-place i k = go (getD (s .segment .contenders) i noContender .contends)
     where
-      offered : Machine.Offer
-      offered = record { parameter = contenderAt (s .segment) i .parameter; packet = contenderAt (s .segment) i .packet }
+      x : Probe.Contender
+      x = contenderAt (s .segment) i
 
       go :
           (t : Bool)
-          → keep (transmits (meaning s) under-way) (contending (stationAt s i) (cond t (some offered) none) (contenders (valuesFrom (stationAt s) (suc i) k)))
-          ≡ kept (t && transmits (meaning s) under-way (contenderAt (s .segment) i)) (contenderAt (s .segment) i) (heardFrom (suc i) k)
+          → keep
+          (transmits (meaning s) under-way)
+          (contending
+          (stationAt s i)
+          (cond t (some (record { parameter = x .parameter; packet = x .packet })) none)
+          (contenders (valuesFrom (stationAt s) (suc i) k)))
+          ≡ kept (t && transmits (meaning s) under-way x) x (heardFrom (suc i) k)
       go true = refl
       go false = refl
 
@@ -78,265 +89,263 @@ module _ (s : State) where
           ∙ sym (ap (λ t. cond t [] (contenderAt (s .segment) i ∷ heardFrom (suc i) (n - suc i))) there)
       go false more = more
 
-  -- those who transmit, by the first of them; and those after a station
-  all-heard : transmitters (meaning s) under-way ≡ heardAt (nextTransmitter (s .segment) 0)
+  -- all who transmit, and those after the first
+  all-heard : transmitters (meaning s) under-way ≡ heardAt first
   all-heard = let all : n ≡ n - 0 = omega arith in ap (heardFrom 0) all ∙ heard-first 0 (n - 0) (omega arith)
 
-  heard-after : (i : ℕ) → i < n → heardFrom (suc i) (n - suc i) ≡ heardAt (nextTransmitter (s .segment) (suc i))
-  heard-after i l = heard-first (suc i) (n - suc i) (omega arith)
+  others-heard : first < n → heardFrom (suc first) (n - suc first) ≡ heardAt second
+  others-heard l = heard-first (suc first) (n - suc first) (omega arith)
+
+  first-there : eqb first n ≡ false → first < n
+  first-there e = let other = eqb-false first n e in omega (arith, first-place-le (transmitsAt (s .segment)) 0 n (omega arith))
+
+-- ---- what a probe makes of a bus: other stations, clock, sent count, last winner and contention
+
+abbrev moved : Bus → List Station → ℕ → ℕ → Option ℕ → Option Machine.Contention → Bus
+moved b stations clock sent last contention =
+    record {
+      discipline = b .discipline;
+      D = b .D;
+      A = b .A;
+      q = b .q;
+      stations = stations;
+      clock = clock;
+      admitted = b .admitted;
+      sent = sent;
+      lost = b .lost;
+      last = last;
+      contention = contention;
+    }
 
 -- ---- the contention goes on
 
-module _ (s : State) (h : Held s) (p : Padded s) where
-  goes-on :
-      (c : Contention) (m : Machine.Contention) → contention-padded c ≡ true → contentionOf c ≡ some m
-      → record { segment = onward (s .segment) c; queues = s .queues } ≡ form (goesOn (meaning s) m)
-  goes-on c m z e =
-      to-form
-      next
-      (goesOn (meaning s) m)
-      (record { listed = h .listed; contenders = h .contenders; lengths = h .lengths; packets = h .packets })
-      (parts-padded
-      next
-      (record { discipline = p .discipline; queues = p .queues; contenders = p .contenders; past-N = p .past-N; round = p .round; contention = z }))
-      (λ i.
-      record {
-        discipline = meaning s .discipline;
-        D = meaning s .D;
-        A = meaning s .A;
-        q = meaning s .q;
-        stations = meaning s .stations;
-        clock = add-one (s .segment .clock .0) i;
-        admitted = meaning s .admitted;
-        sent = meaning s .sent;
-        lost = meaning s .lost;
-        last = meaning s .last;
-        contention = e i;
-      })
-    where
-      next : State
-      next = record { segment = onward (s .segment) c; queues = s .queues }
+goes-on :
+    (s : State) → Held s → Padded s → (c : Contention) (m : Machine.Contention) → contention-padded c ≡ true → contentionOf c ≡ some m
+    → record { segment = onward (s .segment) c; queues = s .queues } ≡ form (goesOn (meaning s) m)
+goes-on s h p c m z e =
+    to-form
+    next
+    (goesOn (meaning s) m)
+    (record { listed = h .listed; contenders = h .contenders; lengths = h .lengths; packets = h .packets })
+    (parts-padded
+    next
+    (record {
+      discipline = p .discipline;
+      queues = p .queues;
+      contenders = p .contenders;
+      past-N = p .past-N;
+      round = p .round;
+      contention = z;
+    }))
+    (λ i. moved (meaning s) (stationsOf s) (add-one (s .segment .clock .0) i) (s .segment .sent) (meaning s .last) (e i))
+  where
+    next : State
+    next = record { segment = onward (s .segment) c; queues = s .queues }
 
-  -- what a collision makes of the contention
-  split-is : contentionOf (splitAt (s .segment)) ≡ some (split (meaning s) (under-way s))
-  split-is = go (leb 2 (c .window .size)) (c .tied)
-    where
-      c : Contention
-      c = s .segment .contention
+-- what a collision makes of the contention
+split-is : (s : State) → contentionOf (splitAt (s .segment)) ≡ some (split (meaning s) (under-way s))
+split-is s = go (leb 2 (c .window .size)) (c .tied)
+  where
+    c : Contention
+    c = s .segment .contention
 
-      tie-value : Bool → Option ℕ
-      tie-value tied = cond tied (some (c .tie)) none
+    tie-value : Bool → Option ℕ
+    tie-value tied = cond tied (some (c .tie)) none
 
-      go :
-          (large tied : Bool)
-          → contentionOf
-          (cond
-          large
-          (record { begun = true; window = leftHalf (c .window); tied = tied; tie = c .tie })
-          (record { begun = true; window = firstWindow (s .segment .settings .a); tied = true; tie = cond tied (c .tie) (c .window .start) }))
-          ≡ some
-          (cond
-          large
-          (record { window = leftHalf (c .window); tie = tie-value tied })
-          (record { window = firstWindow (s .segment .settings .a); tie = some (tiedAt (c .window) (tie-value tied)) }))
-      go true tied = refl
-      go false true = refl
-      go false false = refl
+    go :
+        (large tied : Bool)
+        → contentionOf
+        (cond
+        large
+        (record { begun = true; window = leftHalf (c .window); tied = tied; tie = c .tie })
+        (record { begun = true; window = firstWindow (s .segment .settings .a); tied = true; tie = cond tied (c .tie) (c .window .start) }))
+        ≡ some
+        (cond
+        large
+        (record { window = leftHalf (c .window); tie = tie-value tied })
+        (record { window = firstWindow (s .segment .settings .a); tie = some (tiedAt (c .window) (tie-value tied)) }))
+    go true tied = refl
+    go false true = refl
+    go false false = refl
 
-  tie-padded : (s .segment .contention .tied || eqb (s .segment .contention .tie) 0) ≡ true
-  tie-padded =
-      let c = s .segment .contention in
-      and-true (c .begun || (no-window (c .window) && not (c .tied))) (c .tied || eqb (c .tie) 0) (p .contention) .1
+-- outside the tie phase the tie value is zero, and it stays so
+tie-padded : (s : State) → Padded s → (s .segment .contention .tied || eqb (s .segment .contention .tie) 0) ≡ true
+tie-padded s p =
+    let c = s .segment .contention in
+    and-true (c .begun || (no-window (c .window) && not (c .tied))) (c .tied || eqb (c .tie) 0) (p .contention) .1
 
-  split-padded : contention-padded (splitAt (s .segment)) ≡ true
-  split-padded = go (leb 2 (s .segment .contention .window .size))
-    where
-      go :
-          (large : Bool)
-          → contention-padded
-          (cond
-          large
-          (record {
-            begun = true;
-            window = leftHalf (s .segment .contention .window);
-            tied = s .segment .contention .tied;
-            tie = s .segment .contention .tie;
-          })
-          (record {
-            begun = true;
-            window = firstWindow (s .segment .settings .a);
-            tied = true;
-            tie = cond (s .segment .contention .tied) (s .segment .contention .tie) (s .segment .contention .window .start);
-          }))
-          ≡ true
-      go true = tie-padded
-      go false = refl
+split-padded : (s : State) → Padded s → contention-padded (splitAt (s .segment)) ≡ true
+split-padded s p = go (leb 2 (c .window .size))
+  where
+    c : Contention
+    c = s .segment .contention
+
+    go :
+        (large : Bool)
+        → contention-padded
+        (cond
+        large
+        (record { begun = true; window = leftHalf (c .window); tied = c .tied; tie = c .tie })
+        (record {
+          begun = true;
+          window = firstWindow (s .segment .settings .a);
+          tied = true;
+          tie = cond (c .tied) (c .tie) (c .window .start);
+        }))
+        ≡ true
+    go true = tie-padded s p
+    go false = refl
 
 -- ---- the contention ends
 
+no-contender : (j : ℕ) → j < most-stations → getD noContenders j noContender ≡ noContender
+no-contender j l = row-at most-stations (λ i. noContender) j noContender l
+
+-- the round after a success
+last-is : (d : Discipline) (c : Capability) (x : Probe.Contender) → c .0 ≡ x .capability → lastOf (roundAfter d c) ≡ lastWinner d x
+last-is PRI c x e = refl
+last-is RTDG c x e = refl
+last-is RTVC c x e = ap some e
+
+round-zeros : (d : Discipline) (c : Capability) → round-padded (roundAfter d c) ≡ true
+round-zeros PRI c = refl
+round-zeros RTDG c = refl
+round-zeros RTVC c = refl
+
+-- a queue's length is within its sixteen places
+pub queue-room : (s : State) → Padded s → (i : ℕ) → i < most-stations → getD (s .queues .lengths) i 0 ≤ places
+queue-room s p i l =
+    let k = getD (s .queues .lengths) i 0 in
+    leb-true k places (and-true (leb k places) (each-of no-packet (drop k (placesAt (s .queues) i))) (p .queues i l) .0)
+
+-- station i stands
+station-stands : (s : State) → Standing (meaning s) → (i : ℕ) → i < s .segment .settings .n → StationStands (meaning s) (stationAt s i)
+station-stands s stands i l =
+    stands .each-station (stationAt s i) (among-values (stationAt s) 0 (s .segment .settings .n) i (omega arith) (omega arith))
+
+-- the state with no contention, and another clock, sent count and round
+abbrev ended : State → ℕ → ℕ → Round → State
+ended s clock sent round =
+    record { segment = segmentWith (s .segment) clock sent round noContention noContenders; queues = s .queues }
+
+ended-held : (s : State) → Held s → (clock sent : ℕ) (round : Round) → Held (ended s clock sent round)
+ended-held s h clock sent round =
+    record {
+      listed = h .listed;
+      contenders = row-length most-stations (λ i. noContender);
+      lengths = h .lengths;
+      packets = h .packets;
+    }
+
+ended-padded : (s : State) → Padded s → (clock sent : ℕ) (round : Round) → round-padded round ≡ true → Padded (ended s clock sent round)
+ended-padded s p clock sent round z =
+    record {
+      discipline = p .discipline;
+      queues = p .queues;
+      contenders = λ j l. ap contender-padded (no-contender j l);
+      past-N = nobody-past;
+      round = z;
+      contention = refl;
+    }
+  where
+    nobody-past : (i : ℕ) → s .segment .settings .n ≤ i → i < most-stations → no-station (ended s clock sent round) i ≡ true
+    nobody-past i m l =
+        let who = getD (s .segment .listed) i nobody in
+        let none-there = eqb (who .address .0) 0 && eqb (who .capability .0) 0 && eqb (getD (s .queues .lengths) i 0) 0 in
+        true-and
+        (and-true none-there (not (getD (s .segment .contenders) i noContender .contends)) (p .past-N i m l) .0)
+        (ap (λ c. not (c .contends)) (no-contender i l))
+
 module _ (s : State) (h : Held s) (p : Padded s) (few : s .segment .settings .n ≤ most-stations) where
-  abbrev ended : ℕ → ℕ → Round → State
-  ended clock sent round =
-      record { segment = segmentWith (s .segment) clock sent round noContention noContenders; queues = s .queues }
-
-  no-contender : (j : ℕ) → j < most-stations → getD noContenders j noContender ≡ noContender
-  no-contender j l = row-at most-stations (λ i. noContender) j noContender l
-
-  ended-held : (clock sent : ℕ) (round : Round) → Held (ended clock sent round)
-  ended-held clock sent round =
-      record {
-        listed = h .listed;
-        contenders = row-length most-stations (λ i. noContender);
-        lengths = h .lengths;
-        packets = h .packets;
-      }
-
-  ended-padded : (clock sent : ℕ) (round : Round) → round-padded round ≡ true → Padded (ended clock sent round)
-  ended-padded clock sent round z =
-      record {
-        discipline = p .discipline;
-        queues = p .queues;
-        contenders = λ j l. ap contender-padded (no-contender j l);
-        past-N = nobody-past;
-        round = z;
-        contention = refl;
-      }
-    where
-      nobody-past : (i : ℕ) → s .segment .settings .n ≤ i → i < most-stations → no-station (ended clock sent round) i ≡ true
-      nobody-past i m l =
-          let who = getD (s .segment .listed) i nobody in
-          let none-there = eqb (who .address .0) 0 && eqb (who .capability .0) 0 && eqb (getD (s .queues .lengths) i 0) 0 in
-          true-and
-          (and-true none-there (not (getD (s .segment .contenders) i noContender .contends)) (p .past-N i m l) .0)
-          (ap (λ c. not (c .contends)) (no-contender i l))
-
-  ended-station : (clock sent : ℕ) (round : Round) (j : ℕ) → j < most-stations → stationAt (ended clock sent round) j ≡ withdrawn (stationAt s j)
-  ended-station clock sent round j l =
-      λ i.
-      record {
-        address = stationAt s j .address;
-        capability = stationAt s j .capability;
-        queue = stationAt s j .queue;
-        offer = offerOf (no-contender j l i);
-      }
-
-  -- without a winner
-  unwon-is : ended (s .segment .clock .0 + 1) (s .segment .sent) noRound ≡ form (unwon (meaning s))
+  -- without a winner: the stations withdraw
+  unwon-is : ended s (s .segment .clock .0 + 1) (s .segment .sent) noRound ≡ form (unwon (meaning s))
   unwon-is =
       to-form
       next
       (unwon (meaning s))
-      (ended-held (s .segment .clock .0 + 1) (s .segment .sent) noRound)
-      (parts-padded next (ended-padded (s .segment .clock .0 + 1) (s .segment .sent) noRound refl))
-      (λ i.
-      record {
-        discipline = meaning s .discipline;
-        D = meaning s .D;
-        A = meaning s .A;
-        q = meaning s .q;
-        stations = stations i;
-        clock = add-one (s .segment .clock .0) i;
-        admitted = meaning s .admitted;
-        sent = meaning s .sent;
-        lost = meaning s .lost;
-        last = none;
-        contention = none;
-      })
+      (ended-held s h (s .segment .clock .0 + 1) (s .segment .sent) noRound)
+      (parts-padded next (ended-padded s p (s .segment .clock .0 + 1) (s .segment .sent) noRound refl))
+      (λ i. moved (meaning s) (stations i) (add-one (s .segment .clock .0) i) (s .segment .sent) none none)
     where
       next : State
-      next = ended (s .segment .clock .0 + 1) (s .segment .sent) noRound
+      next = ended s (s .segment .clock .0 + 1) (s .segment .sent) noRound
+
+      withdraws : (j : ℕ) → j < most-stations → stationAt next j ≡ withdrawn (stationAt s j)
+      withdraws j l =
+          λ i.
+          record {
+            address = stationAt s j .address;
+            capability = stationAt s j .capability;
+            queue = stationAt s j .queue;
+            offer = offerOf (no-contender j l i);
+          }
 
       stations : stationsOf next ≡ map withdrawn (stationsOf s)
       stations =
-          let n = s .segment .settings .n in
-          values-same
-          (stationAt next)
-          (λ j. withdrawn (stationAt s j))
-          0
-          n
-          (λ j l m. ended-station (s .segment .clock .0 + 1) (s .segment .sent) noRound j (omega arith))
-          ∙ sym (values-map withdrawn (stationAt s) 0 n)
+          values-same (stationAt next) (λ j. withdrawn (stationAt s j)) 0 (n s) (λ j l m. withdraws j (omega arith))
+          ∙ sym (values-map withdrawn (stationAt s) 0 (n s))
 
-  -- the round after a success
-  last-is : (d : Discipline) (c : Capability) (x : Probe.Contender) → c .0 ≡ x .capability → lastOf (roundAfter d c) ≡ lastWinner d x
-  last-is PRI c x e = refl
-  last-is RTDG c x e = refl
-  last-is RTVC c x e = ap some e
-
-  round-zeros : (d : Discipline) (c : Capability) → round-padded (roundAfter d c) ≡ true
-  round-zeros PRI c = refl
-  round-zeros RTDG c = refl
-  round-zeros RTVC c = refl
-
-  -- station i has sent its packet
+  -- station i has sent its packet, which leaves its queue
   module _ (stands : Standing (meaning s)) (i : ℕ) (here : i < s .segment .settings .n) where
     abbrev winner : Probe.Contender
     winner = contenderAt (s .segment) i
 
-    abbrev after : Round
-    after = roundAfter (meaning s .discipline) (getD (s .segment .listed) i nobody .capability)
+    abbrev clock : ℕ
+    clock = s .segment .clock .0 + winner .packet .length
 
-    -- what stays of its queue
-    abbrev staying : List Packet
-    staying = keep (stays (Sent (winner .packet .number))) (queueAt (s .queues) i)
+    abbrev its-capability : Capability
+    its-capability = getD (s .segment .listed) i nobody .capability
 
-    abbrev past : State
-    past = ended (s .segment .clock .0 + winner .packet .length) (s .segment .sent + 1) after
+    abbrev round : Round
+    round = roundAfter (meaning s .discipline) its-capability
 
-    room : length staying ≤ places
+    abbrev next : State
+    next = ended s clock (s .segment .sent + 1) round
+
+    -- what stays of a queue
+    abbrev staying : ℕ → List Packet
+    staying j = keep (stays (Sent (winner .packet .number))) (queueAt (s .queues) j)
+
+    room : length (staying i) ≤ places
     room =
-        let own = stands .each-station (stationAt s i) (among-values (stationAt s) 0 (s .segment .settings .n) i (omega arith) (omega arith)) .room in
+        let own = station-stands s stands i here .room in
         omega (arith, kept-length (stays (Sent (winner .packet .number))) (queueAt (s .queues) i))
 
-    past-held : Held past
-    past-held = ended-held (s .segment .clock .0 + winner .packet .length) (s .segment .sent + 1) after
+    held : Held next
+    held = ended-held s h clock (s .segment .sent + 1) round
 
-    past-padded : Padded past
-    past-padded =
-        ended-padded
-        (s .segment .clock .0 + winner .packet .length)
-        (s .segment .sent + 1)
-        after
-        (round-zeros (meaning s .discipline) (getD (s .segment .listed) i nobody .capability))
+    zeros : Padded next
+    zeros = ended-padded s p clock (s .segment .sent + 1) round (round-zeros (meaning s .discipline) its-capability)
 
-    left-is : (j : ℕ) → j < s .segment .settings .n → stationWith (past .segment) j (cond (eqb j i) staying (queueAt (s .queues) j)) ≡ left winner (stationAt s j)
+    left-is : (j : ℕ) → j < s .segment .settings .n → stationWith (next .segment) j (cond (eqb j i) (staying i) (queueAt (s .queues) j)) ≡ left winner (stationAt s j)
     left-is j l =
         λ k.
         record {
           address = stationAt s j .address;
           capability = stationAt s j .capability;
-          queue = (go (eqb j i) refl ∙ sym (ap leaves (own-address s stands i j here l))) k;
+          queue = (go (eqb j i) refl ∙ sym (ap (λ t. cond t (staying j) (queueAt (s .queues) j)) (own-address s stands i j here l))) k;
           offer = offerOf (no-contender j (omega arith) k);
         }
       where
-        leaves : Bool → List Packet
-        leaves t = cond t (keep (stays (Sent (winner .packet .number))) (queueAt (s .queues) j)) (queueAt (s .queues) j)
-
-        go : (t : Bool) → eqb j i ≡ t → cond t staying (queueAt (s .queues) j) ≡ leaves t
-        go true e = ap (λ m. keep (stays (Sent (winner .packet .number))) (queueAt (s .queues) m)) (sym (eqb-true j i e))
+        go : (t : Bool) → eqb j i ≡ t → cond t (staying i) (queueAt (s .queues) j) ≡ cond t (staying j) (queueAt (s .queues) j)
+        go true e = ap staying (sym (eqb-true j i e))
         go false e = refl
 
-    won-is : requeued past i staying ≡ form (Probe.won (meaning s) winner)
+    won-is : requeued next i (staying i) ≡ form (Probe.won (meaning s) winner)
     won-is =
         to-form
-        (requeued past i staying)
+        (requeued next i (staying i))
         (Probe.won (meaning s) winner)
-        (requeued-held past past-held past-padded few i here staying room)
-        (parts-padded (requeued past i staying) (requeued-padded past past-held past-padded few i here staying room))
+        (requeued-held next held zeros few i here (staying i) room)
+        (parts-padded (requeued next i (staying i)) (requeued-padded next held zeros few i here (staying i) room))
         (λ k.
-        record {
-          discipline = meaning s .discipline;
-          D = meaning s .D;
-          A = meaning s .A;
-          q = meaning s .q;
-          stations = stations-now past past-held past-padded few i here staying room (left winner) (stationAt s) left-is k;
-          clock = s .segment .clock .0 + winner .packet .length;
-          admitted = meaning s .admitted;
-          sent = add-one (s .segment .sent) k;
-          lost = meaning s .lost;
-          last = last-is (meaning s .discipline) (getD (s .segment .listed) i nobody .capability) winner refl k;
-          contention = none;
-        })
+        moved
+        (meaning s)
+        (stations-now next held zeros few i here (staying i) room (left winner) (stationAt s) left-is k)
+        clock
+        (add-one (s .segment .sent) k)
+        (last-is (meaning s .discipline) its-capability winner refl k)
+        none)
 
 -- ---- one probe
 
@@ -387,13 +396,19 @@ answer-is s drops event address number length ended =
       ended = not (eqb ended 0);
     }
 
--- a queue's length is within its sixteen places
-pub queue-room : (s : State) → Padded s → (i : ℕ) → i < most-stations → getD (s .queues .lengths) i 0 ≤ places
-queue-room s p i l =
-    let k = getD (s .queues .lengths) i 0 in
-    leb-true k places (and-true (leb k places) (each-of no-packet (drop k (placesAt (s .queues) i))) (p .queues i l) .0)
+-- the winner is a station, and 0 stands for none
+pub winner-there : (s : State) → Standing (meaning s) → (drops : ℕ) → probed (s .segment) drops .winner < most-stations
+winner-there s stands drops = go (eqb (first s) (n s)) refl (eqb (second s) (n s)) (s .segment .contention .window .side)
+  where
+    go :
+        (t : Bool) → eqb (first s) (n s) ≡ t → (u : Bool) (side : Side)
+        → cond t (unheardAt (s .segment) drops side) (cond u (wonAt (s .segment) drops (first s)) (collidedAt (s .segment) drops)) .winner < most-stations
+    go true e u Left = omega arith
+    go true e u Right = omega arith
+    go false e true side = omega (arith, first-there s e, few-stations s stands)
+    go false e false side = omega arith
 
-module _ (s : State) (h : Held s) (p : Padded s) (stands : Standing (meaning s)) (begun : s .segment .contention .begun ≡ true) where
+module _ (s : State) (stands : Standing (meaning s)) (begun : s .segment .contention .begun ≡ true) where
   -- the window is placed in the space of the phase
   window-placed : (space : ℕ) × (placed space (s .segment .contention .window) ≡ true)
   window-placed =
@@ -405,68 +420,36 @@ module _ (s : State) (h : Held s) (p : Padded s) (stands : Standing (meaning s))
       go true w = (meaning s .A, w .1)
       go false w = (meaning s .D, w)
 
-  -- a station that transmits does so with a packet of its queue
-  queued : (i : ℕ) → i < s .segment .settings .n → transmitsAt (s .segment) i ≡ true → Among (contenderAt (s .segment) i .packet) (queueAt (s .queues) i)
-  queued i l t =
-      let c = getD (s .segment .contenders) i noContender in
-      let offered = stands .each-station (stationAt s i) (among-values (stationAt s) 0 (s .segment .settings .n) i (omega arith) (omega arith)) .offered in
-      let under = subst (λ t. OfferStands (meaning s) (stationAt s i) (cond t (some (under-way s)) none) (offerOf c)) begun offered in
-      subst
-      (λ t.
-      OfferStands
-      (meaning s)
-      (stationAt s i)
-      (some (under-way s))
-      (cond t (some (record { parameter = c .parameter; packet = c .packet })) none))
-      (and-true (c .contends) (transmits (meaning s) (under-way s) (contenderAt (s .segment) i)) t .0)
-      under
-      .0
+  module _ (i : ℕ) (here : i < s .segment .settings .n) (sends : transmitsAt (s .segment) i ≡ true) where
+    -- a station that transmits does so with a packet of its queue
+    queued : Among (contenderAt (s .segment) i .packet) (queueAt (s .queues) i)
+    queued =
+        let c = getD (s .segment .contenders) i noContender in
+        let offered =
+        subst
+        (λ t. OfferStands (meaning s) (stationAt s i) (cond t (some (under-way s)) none) (offerOf c))
+        begun
+        (station-stands s stands i here .offered) in
+        subst
+        (λ t. OfferStands (meaning s) (stationAt s i) (some (under-way s)) (cond t (some (record { parameter = c .parameter; packet = c .packet })) none))
+        (and-true (c .contends) (transmits (meaning s) (under-way s) (contenderAt (s .segment) i)) sends .0)
+        offered
+        .0
 
-  -- its length is at most 4,096, and there is room to count it
-  pub sent-short : (i : ℕ) → i < s .segment .settings .n → transmitsAt (s .segment) i ≡ true → contenderAt (s .segment) i .packet .length ≤ 4096
-  sent-short i l t =
-      stands .each-station (stationAt s i) (among-values (stationAt s) 0 (s .segment .settings .n) i (omega arith) (omega arith)) .packets
-      (contenderAt (s .segment) i .packet)
-      (queued i l t)
-      .most
+    -- which is not too long, and which is not counted as sent yet
+    pub sent-short : contenderAt (s .segment) i .packet .length ≤ 4096
+    sent-short = station-stands s stands i here .packets (contenderAt (s .segment) i .packet) queued .most
 
-  pub sent-counted : (i : ℕ) → i < s .segment .settings .n → transmitsAt (s .segment) i ≡ true → s .segment .sent < 4294967295
-  sent-counted i l t =
-      let one = count-some (λ (q : Packet). true) (queueAt (s .queues) i) (queued i l t) refl in
-      let some! = count-le (λ (q : Packet). true) (queueAt (s .queues) i) in
-      let all = total-among (λ (x : Station). length (x .queue)) (stationsOf s) (among-values (stationAt s) 0 (s .segment .settings .n) i (omega arith) (omega arith)) in
-      omega (arith, stands .counts, stands .admitted-in)
+    pub sent-counted : s .segment .sent < 4294967295
+    sent-counted =
+        let one = count-some (λ (q : Packet). true) (queueAt (s .queues) i) queued refl in
+        let its = count-le (λ (q : Packet). true) (queueAt (s .queues) i) in
+        let all = total-among (λ (x : Station). length (x .queue)) (stationsOf s) (among-values (stationAt s) 0 (n s) i (omega arith) (omega arith)) in
+        omega (arith, stands .counts, stands .admitted-in)
 
-  -- the winner is a station, if there is one, and its queue has its length
-  pub winner-there : (drops : ℕ) → probed (s .segment) drops .winner < most-stations
-  winner-there drops = go (eqb first n) refl (eqb second n) (s .segment .contention .window .side)
-    where
-      n : ℕ
-      n = s .segment .settings .n
-
-      first : ℕ
-      first = nextTransmitter (s .segment) 0
-
-      second : ℕ
-      second = nextTransmitter (s .segment) (suc first)
-
-      go :
-          (t : Bool) → eqb first n ≡ t → (u : Bool) (side : Side)
-          → cond t (unheardAt (s .segment) drops side) (cond u (wonAt (s .segment) drops first) (collidedAt (s .segment) drops)) .winner < most-stations
-      go true e u Left = omega arith
-      go true e u Right = omega arith
-      go false e true side =
-          let other = eqb-false first n e in
-          omega (arith, first-place-le (transmitsAt (s .segment)) 0 n (omega arith), few-stations s stands)
-      go false e false side = omega arith
-
-  module _ (drops : ℕ) where
-    abbrev opened : Probe.Open
-    opened = openOf s drops
-
-    unheard-is : (side : Side) → slotOf s (unheardAt (s .segment) drops side) ≡ stepped (Probe.unheard opened side)
+  module _ (h : Held s) (p : Padded s) (drops : ℕ) where
+    unheard-is : (side : Side) → slotOf s (unheardAt (s .segment) drops side) ≡ stepped (Probe.unheard (openOf s drops) side)
     unheard-is Left =
-        let w = window-placed in
         let c = s .segment .contention in
         λ i.
         record {
@@ -478,8 +461,8 @@ module _ (s : State) (h : Held s) (p : Padded s) (stands : Standing (meaning s))
               p
               (record { begun = true; window = movedRight (c .window); tied = c .tied; tie = c .tie })
               (record { window = moveRight (c .window); tie = tieOf c })
-              (tie-padded s h p)
-              (ap (λ w. some (record { window = w; tie = tieOf c })) (moved-right (w .0) (c .window) (w .1)))
+              (tie-padded s p)
+              (ap (λ w. some (record { window = w; tie = tieOf c })) (moved-right (window-placed .0) (c .window) (window-placed .1)))
               i;
         }
     unheard-is Right =
@@ -489,18 +472,20 @@ module _ (s : State) (h : Held s) (p : Padded s) (stands : Standing (meaning s))
           state = unwon-is s h p (few-stations s stands) i;
         }
 
-    collided-is : slotOf s (collidedAt (s .segment) drops) ≡ stepped (unsent opened collision 0, goesOn (meaning s) (split (meaning s) (under-way s)))
+    collided-is :
+        slotOf s (collidedAt (s .segment) drops)
+        ≡ stepped (unsent (openOf s drops) collision 0, goesOn (meaning s) (split (meaning s) (under-way s)))
     collided-is =
         λ i.
         record {
           answer = answer-is s drops collision (record { 0 = 0 }) 0 0 0 i;
-          state = goes-on s h p (splitAt (s .segment)) (split (meaning s) (under-way s)) (split-padded s h p) (split-is s h p) i;
+          state = goes-on s h p (splitAt (s .segment)) (split (meaning s) (under-way s)) (split-padded s p) (split-is s) i;
         }
 
     sent-is :
         (j : ℕ) → j < s .segment .settings .n
         → slotOf s (wonAt (s .segment) drops j)
-        ≡ stepped (sentBy opened (contenderAt (s .segment) j), Probe.won (meaning s) (contenderAt (s .segment) j))
+        ≡ stepped (sentBy (openOf s drops) (contenderAt (s .segment) j), Probe.won (meaning s) (contenderAt (s .segment) j))
     sent-is j l =
         let x = contenderAt (s .segment) j in
         λ i.
@@ -509,43 +494,39 @@ module _ (s : State) (h : Held s) (p : Padded s) (stands : Standing (meaning s))
           state = won-is s h p (few-stations s stands) stands j l i;
         }
 
-    pub probed-is : slotOf s (probed (s .segment) drops) ≡ stepped (probe opened)
-    probed-is = go (eqb first n) refl (eqb second n) refl ∙ sym (ap (λ xs. stepped (heard opened xs)) (all-heard s))
+    -- by the first and the second station that transmit
+    pub probed-is : slotOf s (probed (s .segment) drops) ≡ stepped (probe (openOf s drops))
+    probed-is =
+        none-or-more (eqb (first s) (n s)) refl (eqb (second s) (n s)) refl ∙ sym (ap (λ xs. stepped (heard (openOf s drops) xs)) (all-heard s))
       where
-        n : ℕ
-        n = s .segment .settings .n
+        x : Probe.Contender
+        x = contenderAt (s .segment) (first s)
 
-        first : ℕ
-        first = nextTransmitter (s .segment) 0
+        -- those who transmit after the second
+        more : List Probe.Contender
+        more = heardFrom s (suc (second s)) (n s - suc (second s))
 
-        second : ℕ
-        second = nextTransmitter (s .segment) (suc first)
+        one-or-more :
+            (u : Bool) → first s < n s
+            → slotOf s (cond u (wonAt (s .segment) drops (first s)) (collidedAt (s .segment) drops))
+            ≡ stepped (heard (openOf s drops) (x ∷ cond u [] (contenderAt (s .segment) (second s) ∷ more)))
+        one-or-more true l = sent-is (first s) l
+        one-or-more false l = collided-is
 
-        go :
-            (t : Bool) → eqb first n ≡ t → (u : Bool) → eqb second n ≡ u
+        none-or-more :
+            (t : Bool) → eqb (first s) (n s) ≡ t → (u : Bool) → eqb (second s) (n s) ≡ u
             → slotOf
             s
             (cond
             t
             (unheardAt (s .segment) drops (s .segment .contention .window .side))
-            (cond u (wonAt (s .segment) drops first) (collidedAt (s .segment) drops)))
-            ≡ stepped (heard opened (cond t [] (contenderAt (s .segment) first ∷ heardFrom s (suc first) (n - suc first))))
-        go true e u f = unheard-is (s .segment .contention .window .side)
-        go false e u f =
-            let other = eqb-false first n e in
-            let there : first < n = omega (arith, first-place-le (transmitsAt (s .segment)) 0 n (omega arith)) in
-            then u there
+            (cond u (wonAt (s .segment) drops (first s)) (collidedAt (s .segment) drops)))
+            ≡ stepped (heard (openOf s drops) (cond t [] (x ∷ heardFrom s (suc (first s)) (n s - suc (first s)))))
+        none-or-more true e u f = unheard-is (s .segment .contention .window .side)
+        none-or-more false e u f =
+            let l = first-there s e in
+            one-or-more u l
             ∙ sym
             (ap
-            (λ xs. stepped (heard opened (contenderAt (s .segment) first ∷ xs)))
-            (heard-after s first there ∙ ap (λ t. cond t [] (contenderAt (s .segment) second ∷ heardFrom s (suc second) (n - suc second))) f))
-          where
-            then :
-                (u : Bool) → first < n
-                → slotOf s (cond u (wonAt (s .segment) drops first) (collidedAt (s .segment) drops))
-                ≡ stepped
-                (heard
-                opened
-                (contenderAt (s .segment) first ∷ cond u [] (contenderAt (s .segment) second ∷ heardFrom s (suc second) (n - suc second))))
-            then true l = sent-is first l
-            then false l = collided-is
+            (λ xs. stepped (heard (openOf s drops) (x ∷ xs)))
+            (others-heard s l ∙ ap (λ t. cond t [] (contenderAt (s .segment) (second s) ∷ more)) f))

@@ -1,14 +1,13 @@
 -- `probe` meets its contract: by the first and the second station that transmit. Assumes nothing.
-use Prim.Native.Nat.{ℕ, suc, _+_, _<_, _≤_}
-use mathlib.Core.Path.{_≡_, sym, ap, _∙_, subst}
-use mathlib.Core.Bool.{Bool, true, false, cond}
+use Prim.Native.Nat.{ℕ, suc, _+_, _<_}
+use mathlib.Core.Path.{_≡_, ap, _∙_, subst}
+use mathlib.Core.Bool.{true}
 use native.Mathlib.Numerals.{add-one}
 use native.Mathlib.Omega.{arith}
-use lib.Dec.{eqb}
 use borrow.Author.Needs.{needs}
 use borrow.Author.Tests.{eq-eqb, ne-eqb}
 use Rattle.bus.specs.State.{Segment}
-use Rattle.bus.specs.Parts.{transmitsAt, nextTransmitter, contenderAt, probed, probedBy, unheardAt, wonAt, collidedAt}
+use Rattle.bus.specs.Parts.{transmitsAt, nextTransmitter, probed, probedBy, unheardAt, wonAt, collidedAt}
 use Rattle.bus.proofs.Rows.{first-place-le, first-place-holds}
 use Rattle.bus.proofs.probing.probe.Statement.{statement}
 use Rattle.bus.proofs.probing.probe.Tie as tie
@@ -31,7 +30,7 @@ module _ (g : Segment) (drops first second : ℕ) where
       ∙ ap (λ (k : ℕ). probedBy g drops k (nextTransmitter g (suc k))) e
 
   none-transmits : first ≡ n → unheardAt g drops (g .contention .window .side) ≡ probedBy g drops first second
-  none-transmits h = sym (ap (λ (t : Bool). cond t (unheardAt g drops (g .contention .window .side)) (cond (eqb second n) (wonAt g drops first) (collidedAt g drops))) (eq-eqb first n h))
+  none-transmits h = simp (eq-eqb first n h)
 
   one-transmits : (first ≡ n → ⊥) → second ≡ n → wonAt g drops first ≡ probedBy g drops first second
   one-transmits h k = simp (ne-eqb first n h, eq-eqb second n k)

@@ -16,10 +16,6 @@ use Rattle.bus.proofs.Changed.{state-held, stood, few-stations}
 use Rattle.bus.proofs.ProbedSlot.{queue-room, slotOf, sent-short, sent-counted, winner-there, probed-is}
 use Rattle.bus.proofs.probing.probe_slot.Statement.{statement}
 use Rattle.bus.proofs.probing.probe_slot.Tie as tie
-use Rattle.bus.proofs.probing.probe_slot.Reads as reads
-use Rattle.bus.proofs.probing.probe_slot.Lts as lts
-use Rattle.bus.proofs.probing.probe.Reads as probe-reads
-use Rattle.bus.proofs.probing.without_sent.Reads as without-sent-reads
 
 module _ (s : State) (r : Probed) where
   abbrev rest : Queues
@@ -40,12 +36,9 @@ probe-requires : tie.Need-probe-requires
 probe-requires c κs =
     let start = c .before .before in
     let s = start .args .s in
-    let held = state-held s _ (start .good .0) in
-    let both = stood s (start .pre .0) in
-    let p = padded-parts s (both .0) in (
-      few-stations s (both .1),
-      (omega arith, (sent-short s held p (both .1) (start .pre .1 .0), sent-counted s held p (both .1) (start .pre .1 .0))),
-    )
+    let stands = stood s (start .pre .0) .1 in
+    let begun = start .pre .1 .0 in
+    (few-stations s stands, (omega arith, (sent-short s stands begun, sent-counted s stands begun)))
 
 returns : tie.Need-returns
 returns c =
@@ -55,7 +48,7 @@ returns c =
     let both = stood s (start .pre .0) in
     unsent-slot s (called .probe .result) (c .if1 .taken)
     ∙ ap (slotOf s) (called .probe .ensures)
-    ∙ probed-is s (state-held s _ (start .good .0)) (padded-parts s (both .0)) (both .1) (start .pre .1 .0) (start .args .drops)
+    ∙ probed-is s (both .1) (start .pre .1 .0) (state-held s _ (start .good .0)) (padded-parts s (both .0)) (start .args .drops)
 
 without-sent-requires : tie.Need-without-sent-requires
 without-sent-requires c κs =
@@ -63,14 +56,10 @@ without-sent-requires c κs =
     let start = called .before .before .before in
     let s = start .args .s in
     let both = stood s (start .pre .0) in
-    let p = padded-parts s (both .0) in
     let i = called .probe .result .winner in
     let here : i < most-stations =
-    subst
-    (λ (r : Probed). r .winner < most-stations)
-    (sym (called .probe .ensures))
-    (winner-there s (state-held s _ (start .good .0)) p (both .1) (start .pre .1 .0) (start .args .drops)) in
-    (here, queue-room s p i here)
+    subst (λ (r : Probed). r .winner < most-stations) (sym (called .probe .ensures)) (winner-there s (both .1) (start .args .drops)) in
+    (here, queue-room s (padded-parts s (both .0)) i here)
 
 returns-2 : tie.Need-returns-2
 returns-2 c =
@@ -81,7 +70,7 @@ returns-2 c =
     let both = stood s (start .pre .0) in
     sent-slot s (called .probe .result) (c .without-sent .result) (c .without-sent .ensures) (won .if1 .left)
     ∙ ap (slotOf s) (called .probe .ensures)
-    ∙ probed-is s (state-held s _ (start .good .0)) (padded-parts s (both .0)) (both .1) (start .pre .1 .0) (start .args .drops)
+    ∙ probed-is s (both .1) (start .pre .1 .0) (state-held s _ (start .good .0)) (padded-parts s (both .0)) (start .args .drops)
 
 pub probe-slot-spec : {M : Type 1} → statement M
 probe-slot-spec = tie.close (tie.spec probe-requires returns without-sent-requires returns-2)

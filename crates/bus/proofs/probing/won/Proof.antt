@@ -1,11 +1,19 @@
 -- `won` meets its contract: the clock moves on by the packet's length, one packet more is sent, and the contention ends. Assumes nothing.
 use Prim.Native.Nat.{ℕ, _+_}
-use mathlib.Core.Path.{ap₂, _∙_}
+use mathlib.Core.Path.{_≡_, ap₂, _∙_}
 use borrow.Author.Needs.{needs}
-use Rattle.bus.specs.State.{Round, noContention}
+use Rattle.bus.specs.State.{Round, Segment, noContention}
 use Rattle.bus.specs.Parts.{segmentWith, noContenders}
 use Rattle.bus.proofs.probing.won.Statement.{statement}
 use Rattle.bus.proofs.probing.won.Tie as tie
+
+-- the segment after, by the clock and the round that were made
+ended-is :
+    (g next : Segment) (clock : ℕ) (round : Round) {clock′ : ℕ} {round′ : Round}
+    → next ≡ segmentWith g clock (g .sent + 1) round noContention noContenders → clock ≡ clock′ → round ≡ round′
+    → next ≡ segmentWith g clock′ (g .sent + 1) round′ noContention noContenders
+ended-is g next clock round e t r =
+    e ∙ ap₂ (λ (clock : ℕ) (round : Round). segmentWith g clock (g .sent + 1) round noContention noContenders) t r
 
 mul-l : tie.Need-mul-l
 mul-l c = search needs
@@ -38,16 +46,18 @@ returns : tie.Need-returns
 returns c =
     let round = c .before .before in
     let args = round .before .before .before .before .before .before .before .args in
-    let g = args .t1 in
     λ j.
     record {
       answer = c .sent-by .ensures j;
       segment =
-          (c .before .ended .ensures
-          ∙ ap₂
-          (λ (clock : ℕ) (r : Round). segmentWith g clock (g .sent + 1) r noContention noContenders)
+          ended-is
+          (args .t1)
+          (c .before .ended .result)
+          (round .before .later .result .0)
+          (round .round-after .result)
+          (c .before .ended .ensures)
           (round .before .later .ensures)
-          (round .round-after .ensures))
+          (round .round-after .ensures)
           j;
       winner = args .i;
     }
