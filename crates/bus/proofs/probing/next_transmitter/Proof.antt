@@ -49,8 +49,8 @@ loop-again c =
     let g = at .before .before .args .g in (
       omega arith,
       now .inv .1
-      ∙ turn g (now .i) false (sym (c .before .transmits .ensures) ∙ c .if1 .left) (c .before .before .loop-test .taken)
-      ∙ ap (nextTransmitter g) (sym (add-one (now .i))),
+          ∙ turn g (now .i) false (sym (c .before .transmits .ensures) ∙ c .if1 .left) (c .before .before .loop-test .taken)
+          ∙ ap (nextTransmitter g) (sym (add-one (now .i))),
     )
 
 returns-2 : tie.Need-returns-2 Inv-loop μ-loop
