@@ -317,7 +317,9 @@ module _ (s : State) (h : Held s) (p : Padded s) (few : s .segment .settings .n 
     zeros : Padded next
     zeros = ended-padded s p clock (s .segment .sent + 1) round (round-zeros (meaning s .discipline) its-capability)
 
-    left-is : (j : ℕ) → j < s .segment .settings .n → stationWith (next .segment) j (cond (eqb j i) (staying i) (queueAt (s .queues) j)) ≡ left winner (stationAt s j)
+    left-is :
+        (j : ℕ) → j < s .segment .settings .n
+        → stationWith (next .segment) j (cond (eqb j i) (staying i) (queueAt (s .queues) j)) ≡ left winner (stationAt s j)
     left-is j l =
         λ k.
         record {
@@ -402,7 +404,8 @@ winner-there s stands drops = go (eqb (first s) (n s)) refl (eqb (second s) (n s
   where
     go :
         (t : Bool) → eqb (first s) (n s) ≡ t → (u : Bool) (side : Side)
-        → cond t (unheardAt (s .segment) drops side) (cond u (wonAt (s .segment) drops (first s)) (collidedAt (s .segment) drops)) .winner < most-stations
+        → cond t (unheardAt (s .segment) drops side) (cond u (wonAt (s .segment) drops (first s)) (collidedAt (s .segment) drops)) .winner
+        < most-stations
     go true e u Left = omega arith
     go true e u Right = omega arith
     go false e true side = omega (arith, first-there s e, few-stations s stands)
@@ -431,7 +434,12 @@ module _ (s : State) (stands : Standing (meaning s)) (begun : s .segment .conten
         begun
         (station-stands s stands i here .offered) in
         subst
-        (λ t. OfferStands (meaning s) (stationAt s i) (some (under-way s)) (cond t (some (record { parameter = c .parameter; packet = c .packet })) none))
+        (λ t.
+        OfferStands
+        (meaning s)
+        (stationAt s i)
+        (some (under-way s))
+        (cond t (some (record { parameter = c .parameter; packet = c .packet })) none))
         (and-true (c .contends) (transmits (meaning s) (under-way s) (contenderAt (s .segment) i)) sends .0)
         offered
         .0
@@ -444,7 +452,8 @@ module _ (s : State) (stands : Standing (meaning s)) (begun : s .segment .conten
     sent-counted =
         let one = count-some (λ (q : Packet). true) (queueAt (s .queues) i) queued refl in
         let its = count-le (λ (q : Packet). true) (queueAt (s .queues) i) in
-        let all = total-among (λ (x : Station). length (x .queue)) (stationsOf s) (among-values (stationAt s) 0 (n s) i (omega arith) (omega arith)) in
+        let listed = among-values (stationAt s) 0 (n s) i (omega arith) (omega arith) in
+        let all = total-among (λ (x : Station). length (x .queue)) (stationsOf s) listed in
         omega (arith, stands .counts, stands .admitted-in)
 
   module _ (h : Held s) (p : Padded s) (drops : ℕ) where

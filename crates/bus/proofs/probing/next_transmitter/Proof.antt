@@ -34,7 +34,12 @@ returns c =
     let now = at .loop in
     sym
     (now .inv .1
-    ∙ turn (at .before .before .args .g) (now .i) true (sym (c .before .transmits .ensures) ∙ c .if1 .taken) (c .before .before .loop-test .taken))
+    ∙ turn
+    (at .before .before .args .g)
+    (now .i)
+    true
+    (sym (c .before .transmits .ensures) ∙ c .if1 .taken)
+    (c .before .before .loop-test .taken))
 
 add-i : tie.Need-add-i Inv-loop μ-loop
 add-i c = omega arith

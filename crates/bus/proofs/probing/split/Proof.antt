@@ -34,7 +34,9 @@ returns-3 : tie.Need-returns-3
 returns-3 c =
     let first = c .before in
     let now = first .before .before .before .before .before .before .args .g .contention in
-    simp (lt-leb 2 (now .window .size) (first .before .if1 .left), c .if2 .left) (ap (under-way true (now .window .start)) (first .first-window .ensures))
+    simp
+    (lt-leb 2 (now .window .size) (first .before .if1 .left), c .if2 .left)
+    (ap (under-way true (now .window .start)) (first .first-window .ensures))
 
 pub split-spec : {M : Type 1} → statement M
 split-spec =

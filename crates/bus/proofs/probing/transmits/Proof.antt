@@ -71,8 +71,16 @@ returns-3 c =
     let args = late .before .before .before .before .before .before .before .before .args in
     let g = args .t1 in
     let at = at g (args .i) in
-    ap (λ (t : Bool). t && inWindow (g .contention .window) (contenderAt g (args .i) .address)) (sym (ne-eqb (at .parameter) (g .contention .tie) (c .if4 .taken)))
-    ∙ in-time g (args .i) true (not-false (at .contends) (late .before .before .if1 .left)) (sym (late .late .ensures) ∙ tied .before .if2 .left) (tied .if3 .taken)
+    ap
+    (λ (t : Bool). t && inWindow (g .contention .window) (contenderAt g (args .i) .address))
+    (sym (ne-eqb (at .parameter) (g .contention .tie) (c .if4 .taken)))
+    ∙ in-time
+    g
+    (args .i)
+    true
+    (not-false (at .contends) (late .before .before .if1 .left))
+    (sym (late .late .ensures) ∙ tied .before .if2 .left)
+    (tied .if3 .taken)
 
 mul-l : tie.Need-mul-l
 mul-l c = search needs
@@ -97,8 +105,16 @@ returns-4 c =
     let at = at g (args .i) in
     c .in-window .ensures
     ∙ ap (inWindow (g .contention .window)) (number .address-number .ensures)
-    ∙ ap (λ (t : Bool). t && inWindow (g .contention .window) (contenderAt g (args .i) .address)) (sym (eq-eqb (at .parameter) (g .contention .tie) (same .if4 .left)))
-    ∙ in-time g (args .i) true (not-false (at .contends) (late .before .before .if1 .left)) (sym (late .late .ensures) ∙ tied .before .if2 .left) (tied .if3 .taken)
+    ∙ ap
+    (λ (t : Bool). t && inWindow (g .contention .window) (contenderAt g (args .i) .address))
+    (sym (eq-eqb (at .parameter) (g .contention .tie) (same .if4 .left)))
+    ∙ in-time
+    g
+    (args .i)
+    true
+    (not-false (at .contends) (late .before .before .if1 .left))
+    (sym (late .late .ensures) ∙ tied .before .if2 .left)
+    (tied .if3 .taken)
 
 in-window-requires-2 : tie.Need-in-window-requires-2
 in-window-requires-2 c κs = search needs
@@ -110,7 +126,13 @@ returns-5 c =
     let args = late .before .before .before .before .before .before .before .before .args in
     let g = args .t1 in
     c .in-window2 .ensures
-    ∙ in-time g (args .i) false (not-false (at g (args .i) .contends) (late .before .before .if1 .left)) (sym (late .late .ensures) ∙ untied .before .if2 .left) (untied .if3 .left)
+    ∙ in-time
+    g
+    (args .i)
+    false
+    (not-false (at g (args .i) .contends) (late .before .before .if1 .left))
+    (sym (late .late .ensures) ∙ untied .before .if2 .left)
+    (untied .if3 .left)
 
 pub transmits-spec : {M : Type 1} → statement M
 transmits-spec =
