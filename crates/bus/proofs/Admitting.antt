@@ -22,7 +22,7 @@ use Rattle.bus.specs.Coded.{standing, arrivalOf, codedAdmit, admissionRe
 use Rattle.bus.specs.Parts.{firstPlace, addressPlace, accepted}
 use Rattle.bus.proofs.Rows.{among-values, first-place-holds, first-place-before}
 use Rattle.bus.proofs.Form.{Held, Padded, padded-parts, parts-padded, queue-length, to-form}
-use Rattle.bus.proofs.Coded.{hands-back-admission, standing-exactly-admission}
+use Rattle.bus.proofs.Coded.{hands-back-admission, admit-bears, standing-exactly-admission}
 use Rattle.bus.proofs.Changed.{stood, few-stations, address-of, own-address, requeued, requeued-held, requeued-padded, stations-now}
 
 -- ---- a test of some value
@@ -278,17 +278,8 @@ module _ (s : State) (held : Held s) (a : Arrival) where
   refused-later stood! refusal e given =
       handed-back
       refusal
-      (ap (λ (o : Admitted × State). o .0 .refusal) (of-rules (stood s stood! .0))
-      ∙ ap (λ t. given-by t .0 .refusal) (ne-eqb (admissionRefusal (meaning s) a) 0 (λ z. given (e ∙ z)))
-      ∙ sym e)
+      (ap (λ (o : Admitted × State). o .0 .refusal) (of-rules (stood s stood! .0)) ∙ admit-bears (meaning s) a ∙ sym e)
       given
-    where
-      given-by : Bool → Admitted × Bus
-      given-by t =
-          cond
-          t
-          (record { refusal = 0; number = suc (s .segment .admitted) }, withPacket (meaning s) a)
-          (record { refusal = admissionRefusal (meaning s) a; number = 0 }, meaning s)
 
   pub taken-in : standing s ≡ true → admissionRefusal (meaning s) a ≡ 0 → accepted s a ≡ admissionResult (codedAdmit s a)
   taken-in stood! none! =

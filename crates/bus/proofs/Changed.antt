@@ -1,52 +1,32 @@
--- What a state that stands has: arrays of their lengths, zero padding, at most 64 stations, no two with one address; and a state in which
--- one station's queue holds other packets: its padding is zero, and the other stations are as they were. Assumes nothing.
+-- What a state that stands has: zero padding, at most 64 stations, no two with one address; and a state in which one station's queue holds
+-- other packets: its padding is zero, and the other stations are as they were. Assumes nothing.
 use Prim.Native.Nat.{ℕ, zero, suc, _+_, _≤_, _<_}
 use mathlib.Core.Path.{_≡_, refl, sym, ap, _∙_, subst}
 use mathlib.Core.Bool.{Bool, true, false, not, _&&_, cond}
 use mathlib.Core.List.{List, map}
 use native.Mathlib.Omega.{arith}
-use mir.Val.{Val}
-use denote.Laws.{Is}
 use borrow.Author.Tests.{eqb-true, eqb-false, eq-eqb, ne-eqb, ltb-true, ltb-false}
 use lib.Dec.{eqb, ltb}
-use lib.ListN.{length, getD, length-map}
+use lib.ListN.{length, getD}
 use Rattle.rules.specs.Lists.{Among, Distinct}
 use Rattle.rules.specs.Bus.{Station, places, most-stations}
 use Rattle.rules.specs.Standing.{stands, Standing}
-use Rattle.rules.proofs.Laws.{clash, and-true}
-use Rattle.rules.proofs.Tests.{Whether, holds, fails}
+use Rattle.rules.proofs.Laws.{and-true}
+use Rattle.rules.proofs.Tests.{tells}
 use Rattle.rules.proofs.Standing.{stands-exactly, set-up-stands}
 use Rattle.bus.specs.State.{Packet, State, noContender, nobody, placesAt, queueAt, stationWith, stationAt, valuesFrom, stationsOf, meaning, queue-padded, no-station, padded}
 use Rattle.bus.specs.Coded.{standing}
 use Rattle.bus.specs.Parts.{Queue, queueOf, withQueue, packetsOf, queueForm}
-use Rattle.bus.proofs.State as state
 use Rattle.bus.proofs.Rows.{values-length, values-map, values-same, among-values}
 use Rattle.bus.proofs.Form.{Held, Padded, places-length}
-use Rattle.bus.proofs.QueueLaws.{queues-arrays, packets-of-form, form-places, form-padded, with-queue-lengths, queue-of-with, padded-form-of}
-
--- ---- the arrays of a state that a function is handed have their lengths
-
-pub state-held : (s : State) (vs : List Val) → Is state.the-row s vs → Held s
-state-held s vs owned =
-    let g = owned .1 .1 .0 in
-    let qs = queues-arrays (s .queues) _ (owned .1 .1 .1 .0) in
-    record {
-      listed = sym (length-map (s .segment .listed) _) ∙ g .1 .1 .1 .0 .1 .0 .1;
-      contenders = sym (length-map (s .segment .contenders) _) ∙ g .1 .1 .1 .1 .1 .1 .1 .1 .1 .1 .0 .1 .0 .1;
-      lengths = qs .0;
-      packets = qs .1;
-    }
+use Rattle.bus.proofs.QueueLaws.{packets-of-form, form-places, form-padded, with-queue-lengths, queue-of-with, padded-form-of}
+pub use Rattle.bus.proofs.StandingParts.{state-held}
 
 -- ---- what a state that stands has
 
--- a condition whose test holds
-told : {C : Type 0} {t : Bool} → Whether C t → t ≡ true → C
-told (holds c) e = c
-told (fails n) e = clash e refl
-
 -- zero padding, and a meaning that stands
 pub stood : (s : State) → standing s ≡ true → (padded s ≡ true) × Standing (meaning s)
-stood s e = let both = and-true (padded s) (stands (meaning s)) e in (both .0, told (stands-exactly (meaning s)) (both .1))
+stood s e = let both = and-true (padded s) (stands (meaning s)) e in (both .0, tells (stands-exactly (meaning s)) (both .1))
 
 pub few-stations : (s : State) → Standing (meaning s) → s .segment .settings .n ≤ most-stations
 few-stations s h = omega (arith, set-up-stands (meaning s) h .N-most, values-length (stationAt s) 0 (s .segment .settings .n))
