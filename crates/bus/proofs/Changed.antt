@@ -5,16 +5,16 @@ use mathlib.Core.Path.{_≡_, refl, sym, ap, _∙_, subst}
 use mathlib.Core.Bool.{Bool, true, false, not, _&&_, cond}
 use mathlib.Core.List.{List, map}
 use native.Mathlib.Omega.{arith}
-use borrow.Author.Tests.{eqb-true, eqb-false, eq-eqb, ne-eqb, ltb-true, ltb-false}
-use lib.Dec.{eqb, ltb}
-use lib.ListN.{length, getD}
-use Rattle.rules.specs.Lists.{Among, Distinct}
+use borrow.Author.Tests.{eqb-true, eqb-false, eq-eqb, ne-eqb, leb-true, ltb-true, ltb-false}
+use lib.Dec.{eqb, leb, ltb}
+use lib.ListN.{length, getD, drop}
+use Rattle.rules.specs.Lists.{each-of, Among, Distinct}
 use Rattle.rules.specs.Bus.{Station, places, most-stations}
 use Rattle.rules.specs.Standing.{stands, Standing}
 use Rattle.rules.proofs.Laws.{and-true}
 use Rattle.rules.proofs.Tests.{tells}
 use Rattle.rules.proofs.Standing.{stands-exactly, set-up-stands}
-use Rattle.bus.specs.State.{Packet, State, noContender, nobody, placesAt, queueAt, stationWith, stationAt, valuesFrom, stationsOf, meaning, queue-padded, no-station, padded}
+use Rattle.bus.specs.State.{Packet, State, noContender, nobody, placesAt, queueAt, stationWith, stationAt, valuesFrom, stationsOf, meaning, no-packet, queue-padded, no-station, padded}
 use Rattle.bus.specs.Coded.{standing}
 use Rattle.bus.specs.Parts.{Queue, queueOf, withQueue, packetsOf, queueForm}
 use Rattle.bus.proofs.Rows.{values-length, values-map, values-same, among-values}
@@ -30,6 +30,12 @@ stood s e = let both = and-true (padded s) (stands (meaning s)) e in (both .0, t
 
 pub few-stations : (s : State) → Standing (meaning s) → s .segment .settings .n ≤ most-stations
 few-stations s h = omega (arith, set-up-stands (meaning s) h .N-most, values-length (stationAt s) 0 (s .segment .settings .n))
+
+-- at most sixteen packets in each queue
+pub few-packets : (s : State) → Padded s → (i : ℕ) → i < most-stations → getD (s .queues .lengths) i 0 ≤ places
+few-packets s p i l =
+    let n = getD (s .queues .lengths) i 0 in
+    leb-true n places (and-true (leb n places) (each-of no-packet (drop n (placesAt (s .queues) i))) (p .queues i l) .0)
 
 -- a queue with zero padding is the form of its packets
 pub queue-formed : (s : State) → Held s → Padded s → (i : ℕ) → i < most-stations → queueOf (s .queues) i ≡ queueForm (queueAt (s .queues) i)
