@@ -33,7 +33,13 @@ pub const NO_CONTENDER: Contender = Contender {
 };
 
 // A station's place among the contenders, of the packets that it has in time.
-fn contender_for(settings: Settings, clock: Slot, round: Round, l: Listed, queue: Queue) -> Contender
+fn contender_for(
+    settings: Settings,
+    clock: Slot,
+    round: Round,
+    l: Listed,
+    queue: Queue,
+) -> Contender
     requires { ⌜ queue .length ≤ 16 ⌝ }
     requires { ⌜ 1 ≤ settings .q ⌝ }
     requires { ⌜ 1 ≤ settings .d ⌝ }
@@ -61,9 +67,7 @@ fn offers_of(g: Segment, queues: Queues) -> [Contender; 64]
     requires { ⌜ ((i : ℕ) → i < g .settings .n → getD (queues .lengths) i 0 ≤ 16) ⌝ }
     requires { ⌜ 1 ≤ g .settings .q ⌝ }
     requires { ⌜ 1 ≤ g .settings .d ⌝ }
-    ensures {
-        λ r. ⌜ r ≡ row 64 (λ i. cond (ltb i (g .settings .n)) (contenderFor (g .settings) (g .clock) (g .round) (getD (g .listed) i nobody) (queueAt queues i)) noContender) ⌝
-    }
+    ensures { λ r. ⌜ r ≡ row 64 (λ i. cond (ltb i (g .settings .n)) (contenderFor (g .settings) (g .clock) (g .round) (getD (g .listed) i nobody) (queueAt queues i)) noContender) ⌝ }
 {
     let settings = g.settings;
     let round = g.round;
@@ -82,9 +86,7 @@ fn without_late(queues: Queues, i: usize, discipline: u32, clock: Slot) -> Queue
     requires { ⌜ i < 64 ⌝ }
     requires { ⌜ ((j : ℕ) → j < 64 → queueOf queues j ≡ queueForm (queueAt queues j)) ⌝ }
     requires { ⌜ getD (queues .lengths) i 0 ≤ 16 ⌝ }
-    ensures {
-        λ r. ⌜ ((j : ℕ) → j < 64 → queueOf r j ≡ cond (eqb j i) (queueForm (keep (stays (Late discipline clock)) (queueAt queues j))) (queueOf queues j)) ⌝
-    }
+    ensures { λ r. ⌜ ((j : ℕ) → j < 64 → queueOf r j ≡ cond (eqb j i) (queueForm (keep (stays (Late discipline clock)) (queueAt queues j))) (queueOf queues j)) ⌝ }
 {
     let queue = waiting::queue_at(queues, i);
     let leaving = Leaving::Late(discipline, clock);
@@ -100,9 +102,7 @@ fn drop_late(queues: Queues, n: usize, discipline: u32, clock: Slot) -> Queues
     requires { ⌜ n ≤ 64 ⌝ }
     requires { ⌜ ((j : ℕ) → j < 64 → queueOf queues j ≡ queueForm (queueAt queues j)) ⌝ }
     requires { ⌜ ((j : ℕ) → j < 64 → getD (queues .lengths) j 0 ≤ 16) ⌝ }
-    ensures {
-        λ r. ⌜ ((j : ℕ) → j < 64 → queueOf r j ≡ cond (ltb j n) (queueForm (keep (stays (Late discipline clock)) (queueAt queues j))) (queueOf queues j)) ⌝
-    }
+    ensures { λ r. ⌜ ((j : ℕ) → j < 64 → queueOf r j ≡ cond (ltb j n) (queueForm (keep (stays (Late discipline clock)) (queueAt queues j))) (queueOf queues j)) ⌝ }
 {
     if discipline != disciplines::RTDG {
         return queues;

@@ -1,0 +1,483 @@
+-- A contention begins: late packets leave the queues, each station takes its place among the contenders, and what becomes of the state.
+-- Assumes nothing.
+use Prim.Native.Nat.{ℕ, zero, suc, _+_, _≤_, _<_}
+use mathlib.Core.Path.{_≡_, refl, sym, ap, _∙_, subst}
+use mathlib.Core.Bool.{Bool, true, false, not, _&&_, cond}
+use mathlib.Core.Option.{Option, none, some}
+use mathlib.Core.List.{List, [], _∷_}
+use native.Mathlib.Omega.{arith}
+use mir.Val.{Val}
+use denote.Laws.{Is}
+use lib.Dec.{eqb, leb, ltb}
+use lib.ListN.{length, getD, take, drop, set, replicate, length-take}
+use borrow.Author.Tests.{eqb-true, eqb-false, ltb-true, ltb-false, leb-true, lt-ltb, le-ltb}
+use Rattle.window.specs.Splitting.{firstWindow}
+use Rattle.rules.specs.Lists.{kept, keep, count, each-of, total}
+use Rattle.rules.specs.Bus.{Discipline, PRI, RTDG, RTVC, Station, places, most-admitted, late}
+use Rattle.rules.specs.SetUp.{disciplineOf}
+use Rattle.rules.specs.Standing.{Standing}
+use Rattle.rules.specs.Begin.{sits-out, parameterOf, offers, choice, entered, dropsOf, begin}
+use Rattle.rules.proofs.Laws.{and-true, true-and, keep-all, kept-failed, count-le, total-mono}
+use Rattle.bus.specs.State.{Slot, Settings, Listed, Contender, Round, Segment, Queues, State, Packet, noContender, nobody, placesAt, queueAt, offerOf, stationAt, valuesFrom, stationsOf, lastOf, meaning, form, row, no-packet, queue-padded, contender-padded, no-station}
+use Rattle.bus.specs.Coded.{standing}
+use Rattle.bus.specs.Parts.{Queue, Begun, Late, queueOf, packetsOf, queueForm, withQueue, stays, chosenForm, parameterFor, contenderOn, contenderFor}
+use Rattle.bus.proofs.State as state
+use Rattle.bus.proofs.Rows.{values-take, values-map, values-same, row-length, row-at, row-replicate, row-same, row-set}
+use Rattle.bus.proofs.Form.{Held, Padded, padded-parts, parts-padded, queue-length, to-form}
+use Rattle.bus.proofs.QueueLaws.{kept-length, packets-of-form, form-padded, form-places, queue-of-with}
+use Rattle.bus.proofs.Changed.{state-held, stood, few-stations, queue-formed}
+
+-- another station is before i + 1 if it is before i
+before-more : (j i : ℕ) → ¬ (j ≡ i) → ltb j i ≡ ltb j (i + 1)
+before-more j i n = go (ltb j i) refl
+  where
+    go : (t : Bool) → ltb j i ≡ t → t ≡ ltb j (i + 1)
+    go true e = sym (lt-ltb j (i + 1) (omega (arith, ltb-true j i e)))
+    go false e = sym (le-ltb j (i + 1) (omega (arith, ltb-false j i e)))
+
+-- ---- a station's place among the contenders
+
+-- it contends if a packet is found and it does not sit out
+pub contender-on :
+    (g : Settings) (clock : Slot) (round : Round) (l : Listed) (o : Option Packet)
+    → contenderOn g clock round l o
+    ≡ cond
+    (chosenForm o .found)
+    (cond
+    (sits-out (disciplineOf (g .discipline)) (lastOf round) (l .capability .0))
+    noContender
+    (record {
+      contends = true;
+      parameter = parameterFor (disciplineOf (g .discipline)) g clock (l .capability) (chosenForm o .packet);
+      packet = chosenForm o .packet;
+    }))
+    noContender
+contender-on g clock round l none = refl
+contender-on g clock round l (some p) = refl
+
+-- the place of station j
+abbrev pub placeFor : Segment → Queues → ℕ → Contender
+placeFor g qs j = contenderFor (g .settings) (g .clock) (g .round) (getD (g .listed) j nobody) (queueAt qs j)
+
+-- the places of the stations before i; the others do not contend
+abbrev pub placeTo : (ℕ → Contender) → ℕ → ℕ → Contender
+placeTo f i j = cond (ltb j i) (f j) noContender
+
+abbrev pub placesTo : (ℕ → Contender) → ℕ → List Contender
+placesTo f i = row 64 (placeTo f i)
+
+module _ (f : ℕ → Contender) where
+  -- before the first station
+  pub places-none : replicate 64 noContender ≡ placesTo f 0
+  places-none = row-replicate 64 noContender ∙ row-same 64 (λ j. noContender) (placeTo f 0) none-yet
+    where
+      none-yet : (j : ℕ) → j < 64 → noContender ≡ placeTo f 0 j
+      none-yet j l = ap (λ t. cond t (f j) noContender) (sym (le-ltb j 0 (omega arith)))
+
+  -- one station more
+  pub places-more : (i : ℕ) → i < 64 → set (placesTo f i) i (f i) ≡ placesTo f (i + 1)
+  places-more i h =
+      row-set 64 (placeTo f i) i (f i) h
+      ∙ row-same 64 (λ j. cond (eqb j i) (f i) (placeTo f i j)) (placeTo f (i + 1)) (λ j l. place j (eqb j i) refl)
+    where
+      place : (j : ℕ) (t : Bool) → eqb j i ≡ t → cond t (f i) (placeTo f i j) ≡ placeTo f (i + 1) j
+      place j true e =
+          let same = eqb-true j i e in ap f (sym same) ∙ ap (λ t. cond t (f j) noContender) (sym (lt-ltb j (i + 1) (omega arith)))
+      place j false e = ap (λ t. cond t (f j) noContender) (before-more j i (eqb-false j i e))
+
+-- ---- late packets leave one queue
+
+-- the queue of station j, without the packets that leave, if so
+abbrev pub queueIf : Bool → (Packet → Bool) → Queues → ℕ → Queue
+queueIf t f qs j = cond t (queueForm (keep f (queueAt qs j))) (queueOf qs j)
+
+-- where as many are kept as there were, all are kept
+all-kept : (f : Packet → Bool) (ps : List Packet) → length (keep f ps) ≡ length ps → keep f ps ≡ ps
+all-kept f [] e = refl
+all-kept f (p ∷ ps) e = go (f p) e (all-kept f ps)
+  where
+    go :
+        (t : Bool) → length (kept t p (keep f ps)) ≡ suc (length ps) → (length (keep f ps) ≡ length ps → keep f ps ≡ ps)
+        → kept t p (keep f ps) ≡ p ∷ ps
+    go true h more = ap (λ qs. p ∷ qs) (more (omega arith))
+    go false h more = absurd (omega (arith, kept-length f ps))
+
+-- a queue that is the form of some packets is the form of its own
+formed : (queue : Queue) (ps : List Packet) → queue ≡ queueForm ps → queue ≡ queueForm (packetsOf queue)
+formed queue ps e = e ∙ ap queueForm (sym (ap packetsOf e ∙ packets-of-form ps))
+
+-- those kept of a queue that has room have room
+kept-room : (f : Packet → Bool) (qs : Queues) (i : ℕ) → getD (qs .lengths) i 0 ≤ 16 → length (keep f (queueAt qs i)) ≤ 16
+kept-room f qs i room = omega (arith, kept-length f (queueAt qs i), length-take (getD (qs .lengths) i 0) (placesAt qs i))
+
+-- where no packet of station i leaves, its queue is as it was
+pub none-leaves :
+    (f : Packet → Bool) (qs : Queues) (i : ℕ) → i < 64 → ((j : ℕ) → j < 64 → queueOf qs j ≡ queueForm (queueAt qs j))
+    → length (keep f (queueAt qs i)) ≡ getD (qs .lengths) i 0
+    → (j : ℕ) → j < 64 → queueOf qs j ≡ queueIf (eqb j i) f qs j
+none-leaves f qs i h all e j l = go (eqb j i) refl
+  where
+    go : (t : Bool) → eqb j i ≡ t → queueOf qs j ≡ queueIf t f qs j
+    go true k =
+        let full = ap (λ (queue : Queue). queue .length) (all i h) in
+        let same = all-kept f (queueAt qs i) (e ∙ full) in
+        all j l ∙ ap queueForm (sym (subst (λ m. keep f (queueAt qs m) ≡ queueAt qs m) (sym (eqb-true j i k)) same))
+    go false k = refl
+
+-- some packets of station i leave: the others are put back
+pub some-leave :
+    (f : Packet → Bool) (qs : Queues) (i : ℕ) → i < 64 → length (qs .lengths) ≡ 64 → length (qs .packets) ≡ 1024
+    → getD (qs .lengths) i 0 ≤ 16 → (j : ℕ) → j < 64
+    → queueOf (withQueue qs i (queueForm (keep f (queueAt qs i)))) j ≡ queueIf (eqb j i) f qs j
+some-leave f qs i h ls ps room j l =
+    let stay = keep f (queueAt qs i) in
+    queue-of-with qs i j (queueForm stay) h l ls ps (form-places stay (kept-room f qs i room)) ∙ go (eqb j i) refl
+  where
+    go : (t : Bool) → eqb j i ≡ t → cond t (queueForm (keep f (queueAt qs i))) (queueOf qs j) ≡ queueIf t f qs j
+    go true k = ap (λ m. queueForm (keep f (queueAt qs m))) (sym (eqb-true j i k))
+    go false k = refl
+
+-- ---- late packets leave the queues of the stations before n
+
+-- where no packet is late, the queues are as they were
+pub none-late :
+    (f : Packet → Bool) (qs : Queues) (n : ℕ) → ((p : Packet) → f p ≡ true) → ((j : ℕ) → j < 64 → queueOf qs j ≡ queueForm (queueAt qs j))
+    → (j : ℕ) → j < 64 → queueOf qs j ≡ queueIf (ltb j n) f qs j
+none-late f qs n stay all j l = go (ltb j n)
+  where
+    go : (t : Bool) → queueOf qs j ≡ queueIf t f qs j
+    go true = all j l ∙ ap queueForm (sym (keep-all f (queueAt qs j) (λ p i. stay p)))
+    go false = refl
+
+-- outside RTDG no packet is late
+pub in-time : (d : ℕ) (clock : Slot) → ¬ (d ≡ 1) → (p : Packet) → stays (Late d clock) p ≡ true
+in-time zero clock n p = refl
+in-time (suc zero) clock n p = absurd (n refl)
+in-time (suc (suc d)) clock n p = refl
+
+-- `next` has the queues of `qs`, of the stations before i without the packets that leave
+abbrev pub LeftTo : (Packet → Bool) → Queues → ℕ → Queues → Type 0
+LeftTo f qs i next = (j : ℕ) → j < 64 → queueOf next j ≡ queueIf (ltb j i) f qs j
+
+module _ (f : Packet → Bool) (qs : Queues) where
+  -- before the first station
+  pub left-none : LeftTo f qs 0 qs
+  left-none j l = ap (λ t. queueIf t f qs j) (sym (le-ltb j 0 (omega arith)))
+
+  -- the queues before i, and those from i on
+  left-before : (i : ℕ) (next : Queues) → LeftTo f qs i next → (j : ℕ) → j < 64 → j < i → queueOf next j ≡ queueForm (keep f (queueAt qs j))
+  left-before i next left j l m = left j l ∙ ap (λ t. queueIf t f qs j) (lt-ltb j i m)
+
+  pub left-past : (i : ℕ) (next : Queues) → LeftTo f qs i next → (j : ℕ) → j < 64 → i ≤ j → queueOf next j ≡ queueOf qs j
+  left-past i next left j l m = left j l ∙ ap (λ t. queueIf t f qs j) (le-ltb j i m)
+
+  -- every queue is still the form of its packets
+  pub left-formed :
+      (i : ℕ) (next : Queues) → ((j : ℕ) → j < 64 → queueOf qs j ≡ queueForm (queueAt qs j)) → LeftTo f qs i next
+      → (j : ℕ) → j < 64 → queueOf next j ≡ queueForm (queueAt next j)
+  left-formed i next all left j l = go (ltb j i) (left j l)
+    where
+      go : (t : Bool) → queueOf next j ≡ queueIf t f qs j → queueOf next j ≡ queueForm (queueAt next j)
+      go true e = formed (queueOf next j) (keep f (queueAt qs j)) e
+      go false e = formed (queueOf next j) (queueAt qs j) (e ∙ all j l)
+
+  -- one station more
+  pub left-more :
+      (i : ℕ) (next after : Queues) → i < 64 → LeftTo f qs i next
+      → ((j : ℕ) → j < 64 → queueOf after j ≡ queueIf (eqb j i) f next j)
+      → LeftTo f qs (i + 1) after
+  left-more i next after h left one j l = one j l ∙ go (eqb j i) refl
+    where
+      here : j ≡ i → queueAt next j ≡ queueAt qs j
+      here e = ap packetsOf (subst (λ k. queueOf next k ≡ queueOf qs k) (sym e) (left-past i next left i h (omega arith)))
+
+      go :
+          (t : Bool) → eqb j i ≡ t
+          → queueIf t f next j ≡ queueIf (ltb j (i + 1)) f qs j
+      go true e =
+          let same = eqb-true j i e in
+          ap (λ ps. queueForm (keep f ps)) (here same)
+          ∙ ap (λ t. queueIf t f qs j) (sym (lt-ltb j (i + 1) (omega arith)))
+      go false e = left j l ∙ ap (λ t. queueIf t f qs j) (before-more j i (eqb-false j i e))
+
+-- ---- a place among the contenders is zero or contends, and its offer is the offer of the rules
+
+place-padded :
+    (g : Settings) (clock : Slot) (round : Round) (l : Listed) (o : Option Packet) → contender-padded (contenderOn g clock round l o) ≡ true
+place-padded g clock round l none = refl
+place-padded g clock round l (some p) = go (sits-out (disciplineOf (g .discipline)) (lastOf round) (l .capability .0))
+  where
+    contending : Contender
+    contending = record { contends = true; parameter = parameterFor (disciplineOf (g .discipline)) g clock (l .capability) p; packet = p }
+
+    go : (t : Bool) → contender-padded (cond t noContender contending) ≡ true
+    go true = refl
+    go false = refl
+
+module _ (s : State) (i : ℕ) where
+  parameter-same :
+      (d : Discipline) (p : Packet)
+      → parameterFor d (s .segment .settings) (s .segment .clock) (getD (s .segment .listed) i nobody .capability) p
+      ≡ parameterOf d (meaning s) (stationAt s i) p
+  parameter-same PRI p = refl
+  parameter-same RTDG p = refl
+  parameter-same RTVC p = refl
+
+  offer-same :
+      (o : Option Packet)
+      → offerOf (contenderOn (s .segment .settings) (s .segment .clock) (s .segment .round) (getD (s .segment .listed) i nobody) o)
+      ≡ offers (meaning s) (stationAt s i) o
+  offer-same none = refl
+  offer-same (some p) =
+      go (sits-out (meaning s .discipline) (meaning s .last) (stationAt s i .capability)) (parameter-same (meaning s .discipline) p)
+    where
+      go :
+          (t : Bool) {m n : ℕ} → m ≡ n
+          → offerOf (cond t noContender (record { contends = true; parameter = m; packet = p }))
+          ≡ cond t none (some (record { parameter = n; packet = p }))
+      go true e = refl
+      go false e = ap (λ (n : ℕ). some (record { parameter = n; packet = p })) e
+
+-- ---- the state in which a contention has begun
+
+-- the state with the packets that are left, and with so many packets more lost
+abbrev pub begunState : State → Queues → ℕ → State
+begunState s rest drops =
+    record {
+      segment =
+          record {
+            settings = s .segment .settings;
+            listed = s .segment .listed;
+            clock = s .segment .clock;
+            admitted = s .segment .admitted;
+            sent = s .segment .sent;
+            lost = s .segment .lost + drops;
+            round = s .segment .round;
+            contention = record { begun = true; window = firstWindow (s .segment .settings .d); tied = false; tie = 0 };
+            contenders = placesTo (placeFor (s .segment) rest) (s .segment .settings .n);
+          };
+      queues = rest;
+    }
+
+-- the packets that are late, and those that are not
+abbrev pub lateAt : State → Packet → Bool
+lateAt s p = late (meaning s .discipline) (meaning s .clock) (p .value)
+
+abbrev pub inTimeAt : State → Packet → Bool
+inTimeAt s = stays (Late (s .segment .settings .discipline) (s .segment .clock))
+
+-- a sum over places whose terms are those of another sum, and more of something
+total-more :
+    {X : Type 0} (f g : ℕ → ℕ) (more : X → ℕ) (x : ℕ → X) (i k : ℕ) → ((j : ℕ) → i ≤ j → j < i + k → f j ≡ g j + more (x j))
+    → total (λ n. n) (valuesFrom f i k) ≡ total (λ n. n) (valuesFrom g i k) + total more (valuesFrom x i k)
+total-more f g more x i zero h = refl
+total-more f g more x i (suc k) h =
+    omega (arith, h i (omega arith) (omega arith), total-more f g more x (suc i) k (λ j l m. h j (omega arith) (omega arith)))
+
+-- what a state that is handed to a function and stands has
+pub record Lent (s : State) : Type 0 where
+  pub held : Held s
+  pub zeros : Padded s
+  pub stands : Standing (meaning s)
+  pub few : s .segment .settings .n ≤ 64
+
+pub lent : (s : State) (vs : List Val) → Is state.the-row s vs → standing s ≡ true → Lent s
+lent s vs owned e =
+    let both = stood s e in
+    record { held = state-held s vs owned; zeros = padded-parts s (both .0); stands = both .1; few = few-stations s (both .1) }
+
+module _ (s : State) (r : Lent s) where
+  -- its queues are the forms of their packets, at most sixteen each
+  pub all-formed : (j : ℕ) → j < 64 → queueOf (s .queues) j ≡ queueForm (queueAt (s .queues) j)
+  all-formed = queue-formed s (r .held) (r .zeros)
+
+  pub few-packets : (j : ℕ) → j < 64 → getD (s .queues .lengths) j 0 ≤ 16
+  few-packets j l =
+      let n = getD (s .queues .lengths) j 0 in
+      leb-true n places (and-true (leb n places) (each-of no-packet (drop n (placesAt (s .queues) j))) (r .zeros .queues j l) .0)
+
+  -- no more are dropped than wait
+  pub lost-counted : s .segment .lost + dropsOf (meaning s) ≤ most-admitted
+  lost-counted =
+      let dropped = total-mono (meaning s .stations) (λ x i. count-le (lateAt s) (x .queue)) in
+      omega (arith, r .stands .counts, r .stands .admitted-in)
+
+  module _ (rest : Queues) (left : LeftTo (inTimeAt s) (s .queues) (s .segment .settings .n) rest) where
+    -- a station's packets are those in time
+    left-at : (j : ℕ) → j < s .segment .settings .n → queueOf rest j ≡ queueForm (keep (inTimeAt s) (queueAt (s .queues) j))
+    left-at j l = left-before (inTimeAt s) (s .queues) (s .segment .settings .n) rest left j (omega arith) l
+
+    packets-at : (j : ℕ) → j < s .segment .settings .n → queueAt rest j ≡ keep (inTimeAt s) (queueAt (s .queues) j)
+    packets-at j l = ap packetsOf (left-at j l) ∙ packets-of-form (keep (inTimeAt s) (queueAt (s .queues) j))
+
+    length-at : (j : ℕ) → j < s .segment .settings .n → getD (rest .lengths) j 0 ≡ length (keep (inTimeAt s) (queueAt (s .queues) j))
+    length-at j l = ap (λ (queue : Queue). queue .length) (left-at j l)
+
+    pub room-left : (j : ℕ) → j < s .segment .settings .n → getD (rest .lengths) j 0 ≤ 16
+    room-left j l = omega (arith, length-at j l, kept-room (inTimeAt s) (s .queues) j (few-packets j (omega arith)))
+
+    -- ---- the padding is zero
+
+    queue-zeros : (j : ℕ) → j < 64 → queue-padded (getD (rest .lengths) j 0) (placesAt rest j) ≡ true
+    queue-zeros j l = ap zeros (left j l) ∙ go (ltb j (s .segment .settings .n))
+      where
+        zeros : Queue → Bool
+        zeros queue = queue-padded (queue .length) (queue .packets)
+
+        go : (t : Bool) → zeros (queueIf t (inTimeAt s) (s .queues) j) ≡ true
+        go true = form-padded (keep (inTimeAt s) (queueAt (s .queues) j)) (kept-room (inTimeAt s) (s .queues) j (few-packets j l))
+        go false = r .zeros .queues j l
+
+    module _ (drops : ℕ) where
+      place-of :
+          (j : ℕ) → j < 64
+          → getD (begunState s rest drops .segment .contenders) j noContender
+          ≡ placeTo (placeFor (s .segment) rest) (s .segment .settings .n) j
+      place-of j l = row-at 64 (placeTo (placeFor (s .segment) rest) (s .segment .settings .n)) j noContender l
+
+      contender-zeros : (j : ℕ) → j < 64 → contender-padded (getD (begunState s rest drops .segment .contenders) j noContender) ≡ true
+      contender-zeros j l = ap contender-padded (place-of j l) ∙ go (ltb j (s .segment .settings .n))
+        where
+          go : (t : Bool) → contender-padded (cond t (placeFor (s .segment) rest j) noContender) ≡ true
+          go true =
+              place-padded
+              (s .segment .settings)
+              (s .segment .clock)
+              (s .segment .round)
+              (getD (s .segment .listed) j nobody)
+              (choice (meaning s .discipline) (queueAt rest j))
+          go false = refl
+
+      past-zeros : (j : ℕ) → s .segment .settings .n ≤ j → j < 64 → no-station (begunState s rest drops) j ≡ true
+      past-zeros j m l =
+          let who = getD (s .segment .listed) j nobody in
+          let n = getD (s .queues .lengths) j 0 in
+          let c = getD (s .segment .contenders) j noContender in
+          let nobody-there = eqb (who .address .0) 0 && eqb (who .capability .0) 0 in
+          let abc = and-true (nobody-there && eqb n 0) (not (c .contends)) (r .zeros .past-N j m l) in
+          let ab = and-true nobody-there (eqb n 0) (abc .0) in
+          let same = left-past (inTimeAt s) (s .queues) (s .segment .settings .n) rest left j l m in
+          true-and
+          (true-and (ab .0) (ap (λ (queue : Queue). eqb (queue .length) 0) same ∙ ab .1))
+          (ap (λ place. not (place .contends)) (place-of j l)
+          ∙ ap (λ t. not (cond t (placeFor (s .segment) rest j) noContender .contends)) (le-ltb j (s .segment .settings .n) m))
+
+      begun-padded : Padded (begunState s rest drops)
+      begun-padded =
+          record {
+            discipline = r .zeros .discipline;
+            queues = queue-zeros;
+            contenders = contender-zeros;
+            past-N = past-zeros;
+            round = r .zeros .round;
+            contention = refl;
+          }
+
+      -- ---- the stations are those of the rules
+
+      station-begun : (j : ℕ) → j < s .segment .settings .n → stationAt (begunState s rest drops) j ≡ entered (meaning s) (stationAt s j)
+      station-begun j l =
+          λ i.
+          record {
+            address = stationAt s j .address;
+            capability = stationAt s j .capability;
+            queue = packets-at j l i;
+            offer = offer i;
+          }
+        where
+          offer :
+              offerOf (getD (begunState s rest drops .segment .contenders) j noContender)
+              ≡ offers (meaning s) (stationAt s j) (choice (meaning s .discipline) (keep (inTimeAt s) (queueAt (s .queues) j)))
+          offer =
+              ap offerOf (place-of j (omega arith))
+              ∙ ap (λ t. offerOf (cond t (placeFor (s .segment) rest j) noContender)) (lt-ltb j (s .segment .settings .n) l)
+              ∙ offer-same s j (choice (meaning s .discipline) (queueAt rest j))
+              ∙ ap (λ ps. offers (meaning s) (stationAt s j) (choice (meaning s .discipline) ps)) (packets-at j l)
+
+      stations-begun : stationsOf (begunState s rest drops) ≡ begin (meaning s) .stations
+      stations-begun =
+          let n = s .segment .settings .n in
+          values-same
+          (stationAt (begunState s rest drops))
+          (λ j. entered (meaning s) (stationAt s j))
+          0
+          n
+          (λ j l m. station-begun j (omega arith))
+          ∙ sym (values-map (entered (meaning s)) (stationAt s) 0 n)
+
+      meaning-begun : drops ≡ dropsOf (meaning s) → meaning (begunState s rest drops) ≡ begin (meaning s)
+      meaning-begun e =
+          λ i.
+          record {
+            discipline = meaning s .discipline;
+            D = meaning s .D;
+            A = meaning s .A;
+            q = meaning s .q;
+            stations = stations-begun i;
+            clock = meaning s .clock;
+            admitted = meaning s .admitted;
+            sent = meaning s .sent;
+            lost = meaning s .lost + e i;
+            last = meaning s .last;
+            contention = begin (meaning s) .contention;
+          }
+
+    -- ---- what is dropped
+
+    -- those waiting before are those waiting after and those dropped
+    pub waiting-dropped :
+        length (rest .lengths) ≡ 64
+        → total (λ n. n) (take (s .segment .settings .n) (s .queues .lengths))
+        ≡ total (λ n. n) (take (s .segment .settings .n) (rest .lengths)) + dropsOf (meaning s)
+    waiting-dropped ls =
+        let n = s .segment .settings .n in
+        ap (total (λ k. k)) (values-take (s .queues .lengths) 0 n (omega (arith, r .held .lengths)))
+        ∙ total-more
+        (λ j. getD (s .queues .lengths) j 0)
+        (λ j. getD (rest .lengths) j 0)
+        lateIn
+        (stationAt s)
+        0
+        n
+        (λ j l m. here j (omega arith))
+        ∙ ap (λ ns. total (λ k. k) ns + dropsOf (meaning s)) (sym (values-take (rest .lengths) 0 n (omega arith)))
+      where
+        lateIn : Station → ℕ
+        lateIn x = count (lateAt s) (x .queue)
+
+        here : (j : ℕ) → j < s .segment .settings .n → getD (s .queues .lengths) j 0 ≡ getD (rest .lengths) j 0 + lateIn (stationAt s j)
+        here j l =
+            omega (
+              arith,
+              queue-length s (r .held) (r .zeros) j (omega arith),
+              length-at j l,
+              kept-failed (lateAt s) (queueAt (s .queues) j),
+            )
+
+    -- ---- it is the state of the rules
+
+    pub begun-is :
+        (drops : ℕ) → drops ≡ dropsOf (meaning s) → length (rest .lengths) ≡ 64 → length (rest .packets) ≡ 1024
+        → _≡_
+        {A = Begun}
+        (record { state = begunState s rest drops; drops = drops })
+        (record { state = form (begin (meaning s)); drops = dropsOf (meaning s) })
+    begun-is drops e ls ps = λ i. record { state = state i; drops = e i }
+      where
+        held : Held (begunState s rest drops)
+        held =
+            record {
+              listed = r .held .listed;
+              contenders = row-length 64 (placeTo (placeFor (s .segment) rest) (s .segment .settings .n));
+              lengths = ls;
+              packets = ps;
+            }
+
+        state : begunState s rest drops ≡ form (begin (meaning s))
+        state =
+            to-form
+            (begunState s rest drops)
+            (begin (meaning s))
+            held
+            (parts-padded (begunState s rest drops) (begun-padded drops))
+            (meaning-begun drops e)
