@@ -30,7 +30,9 @@ ghost use Rattle.bus.specs.Parts.{Sent, transmitsAt, nextTransmitter, an
 
 // 'event 1 (0 idle, 1 collision, 2 success)'
 pub const IDLE: u32 = 0;
+
 pub const COLLISION: u32 = 1;
+
 pub const SUCCESS: u32 = 2;
 
 // Whether station i transmits: 'its parameter (in the tie phase: its address) lies in the window and, in RTDG, its latest start is
@@ -83,7 +85,15 @@ fn unsent(g: Segment, drops: u64, event: u32, ended: bool) -> Answer
 }
 
 // The answer to a probe.
-fn sent_by(g: Segment, drops: u64, event: u32, address: Address, number: u64, length: u32, ended: bool) -> Answer
+fn sent_by(
+    g: Segment,
+    drops: u64,
+    event: u32,
+    address: Address,
+    number: u64,
+    length: u32,
+    ended: bool,
+) -> Answer
     ensures { λ r. ⌜ r ≡ answerTo g drops event address number length ended ⌝ }
 {
     let contention = g.contention;
@@ -266,7 +276,15 @@ fn won(g: Segment, drops: u64, i: usize) -> Probed
     let clock = sorts::later(g.clock, packet.length);
     let round = round_after(settings.discipline, l.capability);
     let segment = ended(g, clock, g.sent + 1, round);
-    let answer = sent_by(g, drops, SUCCESS, l.address, packet.number, packet.length, true);
+    let answer = sent_by(
+        g,
+        drops,
+        SUCCESS,
+        l.address,
+        packet.number,
+        packet.length,
+        true,
+    );
     Probed {
         answer,
         segment,
@@ -278,8 +296,8 @@ fn won(g: Segment, drops: u64, i: usize) -> Probed
 fn probe(g: Segment, drops: u64) -> Probed
     requires { ⌜ g .settings .n ≤ 64 ⌝ }
     requires { ⌜ g .clock .0 ≤ 1073741824 ⌝ }
-    requires { ⌜ g .sent < 4294967295 ⌝ }
-    requires { ⌜ ((i : ℕ) → transmitsAt g i ≡ true → contenderAt g i .packet .length ≤ 4096) ⌝ }
+    requires { ⌜ ((i : ℕ) → i < g .settings .n → transmitsAt g i ≡ true → contenderAt g i .packet .length ≤ 4096) ⌝ }
+    requires { ⌜ ((i : ℕ) → i < g .settings .n → transmitsAt g i ≡ true → g .sent < 4294967295) ⌝ }
     ensures { λ r. ⌜ r ≡ probed g drops ⌝ }
 {
     let settings = g.settings;
