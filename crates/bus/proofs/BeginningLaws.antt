@@ -6,26 +6,21 @@ use mathlib.Core.Bool.{Bool, true, false, not, _&&_, cond}
 use mathlib.Core.Option.{Option, none, some}
 use mathlib.Core.List.{List, [], _∷_}
 use native.Mathlib.Omega.{arith}
-use mir.Val.{Val}
-use denote.Laws.{Is}
-use lib.Dec.{eqb, leb, ltb}
-use lib.ListN.{length, getD, take, drop, set, replicate, length-take}
-use borrow.Author.Tests.{eqb-true, eqb-false, ltb-true, ltb-false, leb-true, lt-ltb, le-ltb}
+use lib.Dec.{eqb, ltb}
+use lib.ListN.{length, getD, take, set, replicate, length-take}
+use borrow.Author.Tests.{eqb-true, eqb-false, ltb-true, ltb-false, lt-ltb, le-ltb}
 use Rattle.window.specs.Splitting.{firstWindow}
-use Rattle.rules.specs.Lists.{kept, keep, count, each-of, total}
-use Rattle.rules.specs.Bus.{Discipline, PRI, RTDG, RTVC, Station, places, most-admitted, late}
+use Rattle.rules.specs.Lists.{kept, keep, count, total}
+use Rattle.rules.specs.Bus.{Discipline, PRI, RTDG, RTVC, Station, most-admitted, late}
 use Rattle.rules.specs.SetUp.{disciplineOf}
-use Rattle.rules.specs.Standing.{Standing}
 use Rattle.rules.specs.Begin.{sits-out, parameterOf, offers, choice, entered, dropsOf, begin}
 use Rattle.rules.proofs.Laws.{and-true, true-and, keep-all, kept-failed, count-le, total-mono}
-use Rattle.bus.specs.State.{Slot, Settings, Listed, Contender, Round, Segment, Queues, State, Packet, noContender, nobody, placesAt, queueAt, offerOf, stationAt, valuesFrom, stationsOf, lastOf, meaning, form, row, no-packet, queue-padded, contender-padded, no-station}
-use Rattle.bus.specs.Coded.{standing}
+use Rattle.bus.specs.State.{Slot, Settings, Listed, Contender, Round, Segment, Queues, State, Packet, noContender, nobody, placesAt, queueAt, offerOf, stationAt, valuesFrom, stationsOf, lastOf, meaning, form, row, queue-padded, contender-padded, no-station}
 use Rattle.bus.specs.Parts.{Queue, Begun, Late, queueOf, packetsOf, queueForm, withQueue, stays, chosenForm, parameterFor, contenderOn, contenderFor}
-use Rattle.bus.proofs.State as state
 use Rattle.bus.proofs.Rows.{values-take, values-map, values-same, row-length, row-at, row-replicate, row-same, row-set}
-use Rattle.bus.proofs.Form.{Held, Padded, padded-parts, parts-padded, queue-length, to-form}
+use Rattle.bus.proofs.Form.{Held, Padded, parts-padded, queue-length, to-form}
 use Rattle.bus.proofs.QueueLaws.{kept-length, packets-of-form, form-padded, form-places, queue-of-with}
-use Rattle.bus.proofs.Changed.{state-held, stood, few-stations, queue-formed}
+use Rattle.bus.proofs.Changed.{Lent, few-packets, queue-formed}
 
 -- another station is before i + 1 if it is before i
 before-more : (j i : ℕ) → ¬ (j ≡ i) → ltb j i ≡ ltb j (i + 1)
@@ -274,27 +269,10 @@ total-more f g more x i zero h = refl
 total-more f g more x i (suc k) h =
     omega (arith, h i (omega arith) (omega arith), total-more f g more x (suc i) k (λ j l m. h j (omega arith) (omega arith)))
 
--- what a state that is handed to a function and stands has
-pub record Lent (s : State) : Type 0 where
-  pub held : Held s
-  pub zeros : Padded s
-  pub stands : Standing (meaning s)
-  pub few : s .segment .settings .n ≤ 64
-
-pub lent : (s : State) (vs : List Val) → Is state.the-row s vs → standing s ≡ true → Lent s
-lent s vs owned e =
-    let both = stood s e in
-    record { held = state-held s vs owned; zeros = padded-parts s (both .0); stands = both .1; few = few-stations s (both .1) }
-
 module _ (s : State) (r : Lent s) where
-  -- its queues are the forms of their packets, at most sixteen each
+  -- its queues are the forms of their packets
   pub all-formed : (j : ℕ) → j < 64 → queueOf (s .queues) j ≡ queueForm (queueAt (s .queues) j)
   all-formed = queue-formed s (r .held) (r .zeros)
-
-  pub few-packets : (j : ℕ) → j < 64 → getD (s .queues .lengths) j 0 ≤ 16
-  few-packets j l =
-      let n = getD (s .queues .lengths) j 0 in
-      leb-true n places (and-true (leb n places) (each-of no-packet (drop n (placesAt (s .queues) j))) (r .zeros .queues j l) .0)
 
   -- no more are dropped than wait
   pub lost-counted : s .segment .lost + dropsOf (meaning s) ≤ most-admitted
@@ -314,7 +292,7 @@ module _ (s : State) (r : Lent s) where
     length-at j l = ap (λ (queue : Queue). queue .length) (left-at j l)
 
     pub room-left : (j : ℕ) → j < s .segment .settings .n → getD (rest .lengths) j 0 ≤ 16
-    room-left j l = omega (arith, length-at j l, kept-room (inTimeAt s) (s .queues) j (few-packets j (omega arith)))
+    room-left j l = omega (arith, length-at j l, kept-room (inTimeAt s) (s .queues) j (few-packets s r j (omega arith)))
 
     -- ---- the padding is zero
 
@@ -325,7 +303,7 @@ module _ (s : State) (r : Lent s) where
         zeros queue = queue-padded (queue .length) (queue .packets)
 
         go : (t : Bool) → zeros (queueIf t (inTimeAt s) (s .queues) j) ≡ true
-        go true = form-padded (keep (inTimeAt s) (queueAt (s .queues) j)) (kept-room (inTimeAt s) (s .queues) j (few-packets j l))
+        go true = form-padded (keep (inTimeAt s) (queueAt (s .queues) j)) (kept-room (inTimeAt s) (s .queues) j (few-packets s r j l))
         go false = r .zeros .queues j l
 
     module _ (drops : ℕ) where

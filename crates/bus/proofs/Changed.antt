@@ -1,5 +1,5 @@
--- What a state that stands has: arrays of their lengths, zero padding, at most 64 stations, no two with one address; and a state in which
--- one station's queue holds other packets: its padding is zero, and the other stations are as they were. Assumes nothing.
+-- What a state that stands has: zero padding, at most 64 stations, no two with one address; and a state in which one station's queue holds
+-- other packets: its padding is zero, and the other stations are as they were. Assumes nothing.
 use Prim.Native.Nat.{ℕ, zero, suc, _+_, _≤_, _<_}
 use mathlib.Core.Path.{_≡_, refl, sym, ap, _∙_, subst}
 use mathlib.Core.Bool.{Bool, true, false, not, _&&_, cond}
@@ -7,46 +7,29 @@ use mathlib.Core.List.{List, map}
 use native.Mathlib.Omega.{arith}
 use mir.Val.{Val}
 use denote.Laws.{Is}
-use borrow.Author.Tests.{eqb-true, eqb-false, eq-eqb, ne-eqb, ltb-true, ltb-false}
-use lib.Dec.{eqb, ltb}
-use lib.ListN.{length, getD, length-map}
-use Rattle.rules.specs.Lists.{Among, Distinct}
+use borrow.Author.Tests.{eqb-true, eqb-false, eq-eqb, ne-eqb, leb-true, ltb-true, ltb-false}
+use lib.Dec.{eqb, leb, ltb}
+use lib.ListN.{length, getD, drop}
+use Rattle.rules.specs.Lists.{each-of, Among, Distinct}
 use Rattle.rules.specs.Bus.{Station, places, most-stations}
 use Rattle.rules.specs.Standing.{stands, Standing}
-use Rattle.rules.proofs.Laws.{clash, and-true}
-use Rattle.rules.proofs.Tests.{Whether, holds, fails}
+use Rattle.rules.proofs.Laws.{and-true}
+use Rattle.rules.proofs.Tests.{tells}
 use Rattle.rules.proofs.Standing.{stands-exactly, set-up-stands}
-use Rattle.bus.specs.State.{Packet, State, noContender, nobody, placesAt, queueAt, stationWith, stationAt, valuesFrom, stationsOf, meaning, queue-padded, no-station, padded}
+use Rattle.bus.specs.State.{Packet, State, noContender, nobody, placesAt, queueAt, stationWith, stationAt, valuesFrom, stationsOf, meaning, no-packet, queue-padded, no-station, padded}
 use Rattle.bus.specs.Coded.{standing}
 use Rattle.bus.specs.Parts.{Queue, queueOf, withQueue, packetsOf, queueForm}
 use Rattle.bus.proofs.State as state
 use Rattle.bus.proofs.Rows.{values-length, values-map, values-same, among-values}
-use Rattle.bus.proofs.Form.{Held, Padded, places-length}
-use Rattle.bus.proofs.QueueLaws.{queues-arrays, packets-of-form, form-places, form-padded, with-queue-lengths, queue-of-with, padded-form-of}
-
--- ---- the arrays of a state that a function is handed have their lengths
-
-pub state-held : (s : State) (vs : List Val) → Is state.the-row s vs → Held s
-state-held s vs owned =
-    let g = owned .1 .1 .0 in
-    let qs = queues-arrays (s .queues) _ (owned .1 .1 .1 .0) in
-    record {
-      listed = sym (length-map (s .segment .listed) _) ∙ g .1 .1 .1 .0 .1 .0 .1;
-      contenders = sym (length-map (s .segment .contenders) _) ∙ g .1 .1 .1 .1 .1 .1 .1 .1 .1 .1 .0 .1 .0 .1;
-      lengths = qs .0;
-      packets = qs .1;
-    }
+use Rattle.bus.proofs.Form.{Held, Padded, padded-parts, places-length}
+use Rattle.bus.proofs.QueueLaws.{packets-of-form, form-places, form-padded, with-queue-lengths, queue-of-with, padded-form-of}
+pub use Rattle.bus.proofs.StandingParts.{state-held}
 
 -- ---- what a state that stands has
 
--- a condition whose test holds
-told : {C : Type 0} {t : Bool} → Whether C t → t ≡ true → C
-told (holds c) e = c
-told (fails n) e = clash e refl
-
 -- zero padding, and a meaning that stands
 pub stood : (s : State) → standing s ≡ true → (padded s ≡ true) × Standing (meaning s)
-stood s e = let both = and-true (padded s) (stands (meaning s)) e in (both .0, told (stands-exactly (meaning s)) (both .1))
+stood s e = let both = and-true (padded s) (stands (meaning s)) e in (both .0, tells (stands-exactly (meaning s)) (both .1))
 
 pub few-stations : (s : State) → Standing (meaning s) → s .segment .settings .n ≤ most-stations
 few-stations s h = omega (arith, set-up-stands (meaning s) h .N-most, values-length (stationAt s) 0 (s .segment .settings .n))
@@ -54,6 +37,24 @@ few-stations s h = omega (arith, set-up-stands (meaning s) h .N-most, values-len
 -- a queue with zero padding is the form of its packets
 pub queue-formed : (s : State) → Held s → Padded s → (i : ℕ) → i < most-stations → queueOf (s .queues) i ≡ queueForm (queueAt (s .queues) i)
 queue-formed s h p i l = padded-form-of (queueOf (s .queues) i) (places-length s h i l) (p .queues i l)
+
+-- what a state that a function is lent has, where it stands
+pub record Lent (s : State) : Type 0 where
+  pub held : Held s
+  pub zeros : Padded s
+  pub stands : Standing (meaning s)
+  pub few : s .segment .settings .n ≤ most-stations
+
+pub lent : (s : State) (vs : List Val) → Is state.the-row s vs → standing s ≡ true → Lent s
+lent s vs owned e =
+    let both = stood s e in
+    record { held = state-held s vs owned; zeros = padded-parts s (both .0); stands = both .1; few = few-stations s (both .1) }
+
+-- at most sixteen packets in each queue
+pub few-packets : (s : State) → Lent s → (i : ℕ) → i < most-stations → getD (s .queues .lengths) i 0 ≤ places
+few-packets s r i l =
+    let n = getD (s .queues .lengths) i 0 in
+    leb-true n places (and-true (leb n places) (each-of no-packet (drop n (placesAt (s .queues) i))) (r .zeros .queues i l) .0)
 
 -- ---- no two stations have one address
 
@@ -74,11 +75,11 @@ address-of s j = stationAt s j .address
 
 module _ (s : State) (h : Standing (meaning s)) where
   addresses-apart : Distinct (valuesFrom (address-of s) 0 (s .segment .settings .n))
-  addresses-apart = subst Distinct (values-map (λ x. x .address) (stationAt s) 0 (s .segment .settings .n)) (set-up-stands (meaning s) h .addresses-apart)
+  addresses-apart =
+      subst Distinct (values-map (λ x. x .address) (stationAt s) 0 (s .segment .settings .n)) (set-up-stands (meaning s) h .addresses-apart)
 
   pub own-address :
-      (i j : ℕ) → i < s .segment .settings .n → j < s .segment .settings .n
-      → eqb (address-of s i) (address-of s j) ≡ eqb j i
+      (i j : ℕ) → i < s .segment .settings .n → j < s .segment .settings .n → eqb (address-of s i) (address-of s j) ≡ eqb j i
   own-address i j here there = go (eqb j i) refl (ltb i j) refl
     where
       n : ℕ
@@ -123,7 +124,9 @@ module _
         let qs = with-queue-lengths (s .queues) i (queueForm ps) (omega arith) (h .lengths) (h .packets) (form-places ps room) in
         record { listed = h .listed; contenders = h .contenders; lengths = qs .0; packets = qs .1 }
 
-    queue-zeros : (j : ℕ) → j < most-stations → queue-padded (getD (requeued s i ps .queues .lengths) j 0) (placesAt (requeued s i ps .queues) j) ≡ true
+    queue-zeros :
+        (j : ℕ) → j < most-stations
+        → queue-padded (getD (requeued s i ps .queues .lengths) j 0) (placesAt (requeued s i ps .queues) j) ≡ true
     queue-zeros j l = ap zeros (queue-now j l) ∙ go (eqb j i)
       where
         zeros : Queue → Bool

@@ -161,10 +161,10 @@ bears number n own refused h k = go (eqb n 0) refl
     go true e = let z = eqb-true n 0 e in h z ∙ sym z
     go false e = k
 
-admit-bears : (b : Bus) (a : Arrival) → admit b a .0 .refusal ≡ admissionRefusal b a
+pub admit-bears : (b : Bus) (a : Arrival) → admit b a .0 .refusal ≡ admissionRefusal b a
 admit-bears b a = bears (λ (x : Admitted × Bus). x .0 .refusal) (admissionRefusal b a) _ _ (λ z. refl) refl
 
-step-bears : (b : Bus) → step b .0 .refusal ≡ stepRefusal b
+pub step-bears : (b : Bus) → step b .0 .refusal ≡ stepRefusal b
 step-bears b = bears (λ (x : Answer × Bus). x .0 .refusal) (stepRefusal b) _ _ (λ z. probe-number (opened b)) refl
 
 -- on a state whose padding is zero it is the first test of the rules; any other does not stand

@@ -314,7 +314,7 @@ waiting-from s h i zero l room = refl
 waiting-from s h i (suc k) l room =
     ap₂ _+_ (length-is s h i (omega arith) (room i (omega arith))) (waiting-from s h (suc i) k (omega arith) (λ j m. room j (omega arith)))
 
-waiting-same :
+pub waiting-same :
     (s : State) → Held s → s .segment .settings .n ≤ most-stations
     → ((i : ℕ) → i < s .segment .settings .n → getD (s .queues .lengths) i 0 ≤ places)
     → total (λ k. k) (take (s .segment .settings .n) (s .queues .lengths)) ≡ waiting (stationsOf s)

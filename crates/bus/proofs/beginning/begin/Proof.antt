@@ -8,7 +8,8 @@ use Rattle.rules.specs.Begin.{dropsOf}
 use Rattle.rules.proofs.Standing.{set-up-stands}
 use Rattle.bus.specs.State.{meaning}
 use Rattle.bus.proofs.QueueLaws.{queues-arrays}
-use Rattle.bus.proofs.BeginningLaws.{lent, all-formed, few-packets, room-left, waiting-dropped, lost-counted, begun-is}
+use Rattle.bus.proofs.Changed.{lent, few-packets}
+use Rattle.bus.proofs.BeginningLaws.{all-formed, room-left, waiting-dropped, lost-counted, begun-is}
 use Rattle.bus.proofs.beginning.begin.Statement.{statement}
 use Rattle.bus.proofs.beginning.begin.Tie as tie
 
