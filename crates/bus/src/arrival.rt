@@ -18,9 +18,7 @@ ghost use Rattle.bus.specs.Parts.{addressPlace, accepted};
 // The first of 11 to 16 that holds, or 0, for a station's place, or N where no station has the address.
 pub fn refusal(s: State, place: usize, value: u32, length: u32) -> u32
     requires { ⌜ standing s ≡ true ⌝ }
-    ensures {
-        λ r. ⌜ ((address : Address) → place ≡ addressPlace s address → r ≡ admissionRefusal (meaning s) (arrivalOf address value length)) ⌝
-    }
+    ensures { λ r. ⌜ ((address : Address) → place ≡ addressPlace s address → r ≡ admissionRefusal (meaning s) (arrivalOf address value length)) ⌝ }
 {
     let g = s.segment;
     let settings = g.settings;
@@ -52,9 +50,7 @@ pub fn join(s: State, place: usize, value: u32, length: u32) -> Admission
     requires { ⌜ place < s .segment .settings .n ⌝ }
     requires { ⌜ getD (s .queues .lengths) place 0 < 16 ⌝ }
     requires { ⌜ s .segment .admitted < 4294967295 ⌝ }
-    ensures {
-        λ r. ⌜ ((address : Address) → place ≡ addressPlace s address → r ≡ accepted s (arrivalOf address value length)) ⌝
-    }
+    ensures { λ r. ⌜ ((address : Address) → place ≡ addressPlace s address → r ≡ accepted s (arrivalOf address value length)) ⌝ }
 {
     let g = s.segment;
     let queues = s.queues;
@@ -69,10 +65,7 @@ pub fn join(s: State, place: usize, value: u32, length: u32) -> Admission
     let filled = waiting::with_queue(queues, place, longer);
     let mut next = g;
     next.admitted = number;
-    let answer = Admitted {
-        refusal: 0,
-        number,
-    };
+    let answer = Admitted { refusal: 0, number };
     let state = State {
         segment: next,
         queues: filled,

@@ -11,12 +11,12 @@ use window::Window;
 mod arrival;
 mod beginning;
 mod disciplines;
-mod waiting;
 mod merging;
 mod probing;
 mod sorts;
 mod standing;
 mod stations;
+mod waiting;
 
 // 'step with the clock above 1,073,737,728'
 const LAST_SLOT: u32 = 1_073_737_728;
@@ -213,10 +213,7 @@ pub fn admit(s: State, address: Address, value: u32, length: u32) -> Admission
     let place = stations::station_of(listed, settings.n, address);
     let refusal = arrival::refusal(s, place, value, length);
     if refusal != 0 {
-        let answer = Admitted {
-            refusal,
-            number: 0,
-        };
+        let answer = Admitted { refusal, number: 0 };
         return Admission { answer, state: s };
     }
     arrival::join(s, place, value, length)

@@ -153,7 +153,14 @@ fn contender_stands(settings: Settings, begun: bool, l: Listed, c: Contender, qu
 }
 
 // 'in each queue at most 16 packets, numbers .., values and lengths in range', and the station's place among the contenders
-fn station_stands(settings: Settings, begun: bool, admitted: u64, l: Listed, c: Contender, queue: Queue) -> bool
+fn station_stands(
+    settings: Settings,
+    begun: bool,
+    admitted: u64,
+    l: Listed,
+    c: Contender,
+    queue: Queue,
+) -> bool
     ensures { λ r. ⌜ r ≡ stationTest settings begun admitted l c queue ⌝ }
 {
     if 16 < queue.length {

@@ -16,20 +16,14 @@ pub fn with_clock(s: State, clock: u32) -> State {
     let queues = s.queues;
     let c = Slot(clock);
     g.clock = c;
-    State {
-        segment: g,
-        queues,
-    }
+    State { segment: g, queues }
 }
 
 pub fn with_settings(s: State, settings: Settings) -> State {
     let mut g = s.segment;
     let queues = s.queues;
     g.settings = settings;
-    State {
-        segment: g,
-        queues,
-    }
+    State { segment: g, queues }
 }
 
 pub fn with_counts(s: State, admitted: u64, sent: u64, lost: u64) -> State {
@@ -38,10 +32,7 @@ pub fn with_counts(s: State, admitted: u64, sent: u64, lost: u64) -> State {
     g.admitted = admitted;
     g.sent = sent;
     g.lost = lost;
-    State {
-        segment: g,
-        queues,
-    }
+    State { segment: g, queues }
 }
 
 pub fn with_round(s: State, won: bool, last: u32) -> State {
@@ -52,18 +43,11 @@ pub fn with_round(s: State, won: bool, last: u32) -> State {
         last: Capability(last),
     };
     g.round = round;
-    State {
-        segment: g,
-        queues,
-    }
+    State { segment: g, queues }
 }
 
 pub fn window(start: u64, size: u64, side: Side) -> Window {
-    Window {
-        start,
-        size,
-        side,
-    }
+    Window { start, size, side }
 }
 
 // A contention in this window; past the parameter phase, with this tie value.
@@ -77,10 +61,7 @@ pub fn with_contention(s: State, begun: bool, window: Window, tied: bool, tie: u
         tie,
     };
     g.contention = contention;
-    State {
-        segment: g,
-        queues,
-    }
+    State { segment: g, queues }
 }
 
 // Station i listed otherwise.
@@ -90,10 +71,7 @@ pub fn with_listed(s: State, i: usize, l: Listed) -> State {
     if i < 64 {
         g.listed[i] = l;
     }
-    State {
-        segment: g,
-        queues,
-    }
+    State { segment: g, queues }
 }
 
 pub fn contender(contends: bool, parameter: u64, packet: Packet) -> Contender {
@@ -110,10 +88,7 @@ pub fn with_contender(s: State, i: usize, c: Contender) -> State {
     if i < 64 {
         g.contenders[i] = c;
     }
-    State {
-        segment: g,
-        queues,
-    }
+    State { segment: g, queues }
 }
 
 pub fn packet(number: u64, value: u32, length: u32) -> Packet {
@@ -131,10 +106,7 @@ pub fn with_packet(s: State, at: usize, p: Packet) -> State {
     if at < 1024 {
         queues.packets[at] = p;
     }
-    State {
-        segment: g,
-        queues,
-    }
+    State { segment: g, queues }
 }
 
 // The length of a station's queue.
@@ -144,8 +116,5 @@ pub fn with_length(s: State, i: usize, length: usize) -> State {
     if i < 64 {
         queues.lengths[i] = length;
     }
-    State {
-        segment: g,
-        queues,
-    }
+    State { segment: g, queues }
 }

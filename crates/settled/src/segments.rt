@@ -59,12 +59,18 @@ pub fn rtdg() -> State {
 
 // RTVC, D 4, capabilities 0, 1, 3.
 pub fn rtvc() -> State {
-    segment(settings(2, 4, 8, 1, 3), row(listed(1, 0), listed(5, 1), listed(6, 3)))
+    segment(
+        settings(2, 4, 8, 1, 3),
+        row(listed(1, 0), listed(5, 1), listed(6, 3)),
+    )
 }
 
 // PRI, D 2, A 1,024: addresses that differ in the upper byte only.
 pub fn upper_bytes() -> State {
-    segment(settings(0, 2, 1_024, 1, 2), row(listed(7, 0), listed(263, 0), listed(0, 0)))
+    segment(
+        settings(0, 2, 1_024, 1, 2),
+        row(listed(7, 0), listed(263, 0), listed(0, 0)),
+    )
 }
 
 // The state after an admission.
