@@ -14,11 +14,13 @@ use crate::State;
 use crate::disciplines;
 use crate::standing;
 use crate::waiting;
+use window::Window;
 ghost use Prim.Native.Nat.{ℕ, _<_, _≤_};
 ghost use mathlib.Core.Path.{_≡_};
 ghost use mathlib.Core.Bool.{true, false, cond};
 ghost use lib.Dec.{ltb, eqb};
 ghost use lib.ListN.{getD};
+ghost use Rattle.window.specs.Splitting.{firstWindow};
 ghost use Rattle.rules.specs.Lists.{keep};
 ghost use Rattle.rules.specs.Begin.{begin, dropsOf};
 ghost use Rattle.bus.specs.State.{meaning, form, row, nobody, noContender, queueAt};
@@ -114,6 +116,13 @@ fn drop_late(queues: Queues, n: usize, discipline: u32, clock: Slot) -> Queues
     next
 }
 
+// 'The window is the first window of D, start 0, side right.'
+fn opening_window(d: u32) -> Window
+    ensures { λ r. ⌜ r ≡ firstWindow d ⌝ }
+{
+    window::first_window(d)
+}
+
 // 'If no contention is under way, a step first begins one at the present slot T.'
 pub fn begin(s: State) -> Begun
     requires { ⌜ standing s ≡ true ⌝ }
@@ -131,7 +140,7 @@ pub fn begin(s: State) -> Begun
     let after = standing::waiting_in(lengths_after, n);
     let drops = (before - after) as u64;
     let contenders = offers_of(g, rest);
-    let first = window::first_window(settings.d);
+    let first = opening_window(settings.d);
     let contention = Contention {
         begun: true,
         window: first,

@@ -21,6 +21,7 @@ ghost use Prim.Native.Nat.{ℕ, _+_, _<_, _≤_};
 ghost use mathlib.Core.Path.{_≡_};
 ghost use mathlib.Core.Bool.{true};
 ghost use lib.ListN.{getD};
+ghost use Rattle.window.specs.Splitting.{firstWindow};
 ghost use Rattle.rules.specs.Lists.{keep};
 ghost use Rattle.rules.specs.SetUp.{disciplineOf};
 ghost use Rattle.rules.specs.Probe.{probe};
@@ -34,6 +35,15 @@ pub const IDLE: u32 = 0;
 pub const COLLISION: u32 = 1;
 
 pub const SUCCESS: u32 = 2;
+
+// The parameter of station i, which contends: as it was when the contention began, 'fixed for the whole contention'.
+fn parameter_of(g: Segment, i: usize) -> u64
+    requires { ⌜ i < 64 ⌝ }
+    ensures { λ r. ⌜ r ≡ contenderAt g i .parameter ⌝ }
+{
+    let c = g.contenders[i];
+    c.parameter
+}
 
 // Whether station i transmits: 'its parameter (in the tie phase: its address) lies in the window and, in RTDG, its latest start is
 // not below the slot being probed'.
@@ -51,14 +61,15 @@ fn transmits(g: Segment, i: usize) -> bool
     if disciplines::late(settings.discipline, g.clock, c.packet.value) {
         return false;
     }
+    let parameter = parameter_of(g, i);
     if contention.tied {
-        if c.parameter != contention.tie {
+        if parameter != contention.tie {
             return false;
         }
         let l = g.listed[i];
         return window::in_window(window, sorts::address_number(l.address));
     }
-    window::in_window(window, c.parameter)
+    window::in_window(window, parameter)
 }
 
 // The next station from a place on that transmits; N where there is none.
@@ -130,6 +141,13 @@ fn onward(g: Segment, c: Contention) -> Segment
     next
 }
 
+// The tie phase's first window: 'the first window of A, start 0, side right'.
+fn tie_window(a: u32) -> Window
+    ensures { λ r. ⌜ r ≡ firstWindow a ⌝ }
+{
+    window::first_window(a)
+}
+
 // 'A window of size 2 or more becomes its left half, side left. A window of size 1 starts the tie phase among the contenders of that
 // parameter: the first window of A, start 0, side right.'
 fn split(g: Segment) -> Contention
@@ -147,7 +165,7 @@ fn split(g: Segment) -> Contention
             tie: c.tie,
         };
     }
-    let first = window::first_window(settings.a);
+    let first = tie_window(settings.a);
     let mut tie = w.start;
     if c.tied {
         tie = c.tie;

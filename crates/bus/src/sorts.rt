@@ -32,10 +32,10 @@ pub fn slots_until(t: Slot, u: Slot) -> u32
 }
 
 // Whether two addresses are one, compared in full.
-pub fn same_address(x: Address, y: Address) -> bool
-    ensures { λ r. ⌜ r ≡ eqb (x .0) (y .0) ⌝ }
+pub fn same_address(address: Address, other: Address) -> bool
+    ensures { λ r. ⌜ r ≡ eqb (address .0) (other .0) ⌝ }
 {
-    x.0 == y.0
+    address.0 == other.0
 }
 
 // Whether an address lies past the last of an address space.

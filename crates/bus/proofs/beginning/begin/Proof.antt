@@ -54,8 +54,8 @@ offers-of-requires c κs =
     let spaces = set-up-stands (meaning s) (r .stands) in
     (r .few, (room-left s r (rest .result) (rest .ensures), (spaces .q-least, omega (arith, spaces .D-least))))
 
-first-window-requires : tie.Need-first-window-requires
-first-window-requires c κs = search needs
+opening-window-requires : tie.Need-opening-window-requires
+opening-window-requires c κs = search needs
 
 add-next : tie.Need-add-next
 add-next c =
@@ -80,7 +80,7 @@ returns c =
     let before = c .before .before .before .before .waiting-in in
     let after = c .before .before .before .waiting-in2 in
     let drops : before .result - after .result ≡ dropsOf (meaning s) = rw (before .ensures, after .ensures) (omega arith) in
-    rw (c .before .first-window .ensures, c .before .before .offers-of .ensures)
+    rw (c .before .opening-window .ensures, c .before .before .offers-of .ensures)
     (begun-is s r (rest .result) (rest .ensures) (before .result - after .result) drops (n .0) (n .1))
 
 pub begin-spec : {M : Type 1} → statement M
@@ -92,6 +92,6 @@ begin-spec =
     waiting-in-requires-2
     sub-drops
     offers-of-requires
-    first-window-requires
+    opening-window-requires
     add-next
     returns)

@@ -21,14 +21,14 @@ returns c =
     let now = c .before .before .before .before .before .before .args .g .contention in
     simp (le-leb 2 (now .window .size) (c .before .if1 .taken)) (ap (under-way (now .tied) (now .tie)) (c .left-half .ensures))
 
-first-window-requires : tie.Need-first-window-requires
-first-window-requires c κs = search needs
+tie-window-requires : tie.Need-tie-window-requires
+tie-window-requires c κs = search needs
 
 returns-2 : tie.Need-returns-2
 returns-2 c =
     let first = c .before in
     let now = first .before .before .before .before .before .before .args .g .contention in
-    simp (lt-leb 2 (now .window .size) (first .before .if1 .left), c .if2 .taken) (ap (under-way true (now .tie)) (first .first-window .ensures))
+    simp (lt-leb 2 (now .window .size) (first .before .if1 .left), c .if2 .taken) (ap (under-way true (now .tie)) (first .tie-window .ensures))
 
 returns-3 : tie.Need-returns-3
 returns-3 c =
@@ -36,8 +36,8 @@ returns-3 c =
     let now = first .before .before .before .before .before .before .args .g .contention in
     simp
     (lt-leb 2 (now .window .size) (first .before .if1 .left), c .if2 .left)
-    (ap (under-way true (now .window .start)) (first .first-window .ensures))
+    (ap (under-way true (now .window .start)) (first .tie-window .ensures))
 
 pub split-spec : {M : Type 1} → statement M
 split-spec =
-    tie.close (tie.spec left-half-requires returns first-window-requires returns-2 returns-3)
+    tie.close (tie.spec left-half-requires returns tie-window-requires returns-2 returns-3)

@@ -3,6 +3,7 @@ use Prim.Native.Nat.{ℕ}
 use mathlib.Core.Path.{_≡_, refl, sym, ap, _∙_}
 use mathlib.Core.Bool.{Bool, true, false, not, _&&_, cond, and-true, and-false}
 use mathlib.Core.Option.{none, some}
+use lib.Dec.{eqb}
 use lib.ListN.{getD}
 use borrow.Author.Needs.{needs}
 use borrow.Author.Tests.{not-true, not-false, ne-eqb, eq-eqb}
@@ -64,22 +65,26 @@ returns-2 c =
     let args = c .before .before .before .before .before .before .before .before .before .args in
     out-of-time (args .t1) (args .i) (sym (c .before .late .ensures) ∙ c .if2 .taken)
 
+parameter-of-requires : tie.Need-parameter-of-requires
+parameter-of-requires c κs = search needs
+
 returns-3 : tie.Need-returns-3
 returns-3 c =
-    let tied = c .before .before .before in
-    let late = tied .before .before in
+    let tied = c .before .before in
+    let parameter = tied .before in
+    let late = parameter .before .before in
     let args = late .before .before .before .before .before .before .before .before .args in
     let g = args .t1 in
-    let at = at g (args .i) in
+    let tie = g .contention .tie in
     ap
     (λ (t : Bool). t && inWindow (g .contention .window) (contenderAt g (args .i) .address))
-    (sym (ne-eqb (at .parameter) (g .contention .tie) (c .if4 .taken)))
+    (sym (ne-eqb (parameter .parameter-of .result) tie (c .if4 .taken)) ∙ ap (λ n. eqb n tie) (parameter .parameter-of .ensures))
     ∙ in-time
     g
     (args .i)
     true
-    (not-false (at .contends) (late .before .before .if1 .left))
-    (sym (late .late .ensures) ∙ tied .before .if2 .left)
+    (not-false (at g (args .i) .contends) (late .before .before .if1 .left))
+    (sym (late .late .ensures) ∙ parameter .before .if2 .left)
     (tied .if3 .taken)
 
 mul-l : tie.Need-mul-l
@@ -98,22 +103,23 @@ returns-4 : tie.Need-returns-4
 returns-4 c =
     let number = c .before in
     let same = number .before .before in
-    let tied = same .before .before .before in
-    let late = tied .before .before in
+    let tied = same .before .before in
+    let parameter = tied .before in
+    let late = parameter .before .before in
     let args = late .before .before .before .before .before .before .before .before .args in
     let g = args .t1 in
-    let at = at g (args .i) in
+    let tie = g .contention .tie in
     c .in-window .ensures
     ∙ ap (inWindow (g .contention .window)) (number .address-number .ensures)
     ∙ ap
     (λ (t : Bool). t && inWindow (g .contention .window) (contenderAt g (args .i) .address))
-    (sym (eq-eqb (at .parameter) (g .contention .tie) (same .if4 .left)))
+    (sym (eq-eqb (parameter .parameter-of .result) tie (same .if4 .left)) ∙ ap (λ n. eqb n tie) (parameter .parameter-of .ensures))
     ∙ in-time
     g
     (args .i)
     true
-    (not-false (at .contends) (late .before .before .if1 .left))
-    (sym (late .late .ensures) ∙ tied .before .if2 .left)
+    (not-false (at g (args .i) .contends) (late .before .before .if1 .left))
+    (sym (late .late .ensures) ∙ parameter .before .if2 .left)
     (tied .if3 .taken)
 
 in-window-requires-2 : tie.Need-in-window-requires-2
@@ -122,16 +128,18 @@ in-window-requires-2 c κs = search needs
 returns-5 : tie.Need-returns-5
 returns-5 c =
     let untied = c .before in
-    let late = untied .before .before in
+    let parameter = untied .before in
+    let late = parameter .before .before in
     let args = late .before .before .before .before .before .before .before .before .args in
     let g = args .t1 in
     c .in-window2 .ensures
+    ∙ ap (inWindow (g .contention .window)) (parameter .parameter-of .ensures)
     ∙ in-time
     g
     (args .i)
     false
     (not-false (at g (args .i) .contends) (late .before .before .if1 .left))
-    (sym (late .late .ensures) ∙ untied .before .if2 .left)
+    (sym (late .late .ensures) ∙ parameter .before .if2 .left)
     (untied .if3 .left)
 
 pub transmits-spec : {M : Type 1} → statement M
@@ -143,6 +151,7 @@ transmits-spec =
     returns
     late-requires
     returns-2
+    parameter-of-requires
     returns-3
     mul-l
     element-copy-out-l
