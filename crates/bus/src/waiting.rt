@@ -26,14 +26,17 @@ pub fn queue_at(qs: Queues, i: usize) -> Queue
     requires { ⌜ i < 64 ⌝ }
     ensures { λ r. ⌜ r ≡ queueOf qs i ⌝ }
 {
-    let mut packets = [NO_PACKET; 16];
+    let mut places = [NO_PACKET; 16];
     let first = 16 * i;
     for j in 0..16 {
         let at = first + j;
-        packets[j] = qs.packets[at];
+        places[j] = qs.packets[at];
     }
     let length = qs.lengths[i];
-    Queue { packets, length }
+    Queue {
+        packets: places,
+        length,
+    }
 }
 
 // The row with the queue of station i put back.

@@ -11,10 +11,10 @@ use Rattle.bus.proofs.waiting.queue_at.Statement.{statement}
 use Rattle.bus.proofs.waiting.queue_at.Tie as tie
 
 abbrev Inv-loop : tie.InvT-loop
-Inv-loop i qs packets₀ first j₀ packets j = (j ≤ 16) × (packets ≡ paste packets₀ 0 (placesAt qs i) j)
+Inv-loop i qs places₀ first j₀ places j = (j ≤ 16) × (places ≡ paste places₀ 0 (placesAt qs i) j)
 
 abbrev μ-loop : tie.MeasureT-loop
-μ-loop i qs packets₀ first j₀ packets j = 16 - j
+μ-loop i qs places₀ first j₀ places j = 16 - j
 
 mul-first : tie.Need-mul-first Inv-loop μ-loop
 mul-first c = search needs
@@ -25,17 +25,17 @@ loop-holds c = search needs
 add-at : tie.Need-add-at Inv-loop μ-loop
 add-at c = search needs
 
-mul-packets : tie.Need-mul-packets Inv-loop μ-loop
-mul-packets c = search needs
+mul-places : tie.Need-mul-places Inv-loop μ-loop
+mul-places c = search needs
 
-element-copy-out-packets : tie.Need-element-copy-out-packets Inv-loop μ-loop
-element-copy-out-packets c = search needs
+element-copy-out-places : tie.Need-element-copy-out-places Inv-loop μ-loop
+element-copy-out-places c = search needs
 
-mul-packets-2 : tie.Need-mul-packets-2 Inv-loop μ-loop
-mul-packets-2 c = search needs
+mul-places-2 : tie.Need-mul-places-2 Inv-loop μ-loop
+mul-places-2 c = search needs
 
-array-set-from-packets : tie.Need-array-set-from-packets Inv-loop μ-loop
-array-set-from-packets c = search needs
+array-set-from-places : tie.Need-array-set-from-places Inv-loop μ-loop
+array-set-from-places c = search needs
 
 add-j : tie.Need-add-j Inv-loop μ-loop
 add-j c = search needs
@@ -75,10 +75,10 @@ queue-at-spec =
     mul-first
     loop-holds
     add-at
-    mul-packets
-    element-copy-out-packets
-    mul-packets-2
-    array-set-from-packets
+    mul-places
+    element-copy-out-places
+    mul-places-2
+    array-set-from-places
     add-j
     loop-less
     loop-again
