@@ -267,6 +267,16 @@ fn no_winner() -> Round
     }
 }
 
+// A circuit has won in this round.
+fn last_winner(capability: Capability) -> Round
+    ensures { λ r. ⌜ r ≡ record { won = true; last = capability } ⌝ }
+{
+    Round {
+        won: true,
+        last: capability,
+    }
+}
+
 // 'In RTVC the last winner is set.'
 fn round_after(discipline: u32, capability: Capability) -> Round
     ensures { λ r. ⌜ r ≡ roundAfter (disciplineOf discipline) capability ⌝ }
@@ -274,10 +284,7 @@ fn round_after(discipline: u32, capability: Capability) -> Round
     if discipline < disciplines::RTVC {
         return no_winner();
     }
-    Round {
-        won: true,
-        last: capability,
-    }
+    last_winner(capability)
 }
 
 // 'One transmits: success. .. The probed slot is its first, so the clock moves on by its length.'

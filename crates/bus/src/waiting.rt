@@ -46,9 +46,9 @@ pub fn with_queue(qs: Queues, i: usize, queue: Queue) -> Queues
 {
     let mut next = qs;
     let first = 16 * i;
-    for j in 0..16 {
-        let at = first + j;
-        next.packets[at] = queue.packets[j];
+    for k in 0..16 {
+        let at = first + k;
+        next.packets[at] = queue.packets[k];
     }
     next.lengths[i] = queue.length;
     next

@@ -67,7 +67,9 @@ add-next c =
     let parts = waiting-dropped s r (rest .result) (rest .ensures) (n .0) in
     let before = c .before .before .before .before .waiting-in in
     let after = c .before .before .before .waiting-in2 in
-    rw (before .ensures, after .ensures) (omega (arith, lost-counted s r))
+    let waited = before .ensures in
+    let left = after .ensures in
+    omega (arith, lost-counted s r)
 
 returns : tie.Need-returns
 returns c =

@@ -29,8 +29,12 @@ returns : tie.Need-returns
 returns c =
     let args = c .before .before .args in c .no-winner .ensures ∙ no-circuit (args .discipline) (args .capability) (c .before .if1 .taken)
 
+last-winner-requires : tie.Need-last-winner-requires
+last-winner-requires c κs = search needs
+
 returns-2 : tie.Need-returns-2
-returns-2 c = circuit (c .before .args .discipline) (c .before .args .capability) (c .if1 .left)
+returns-2 c =
+    let args = c .before .before .args in c .last-winner .ensures ∙ circuit (args .discipline) (args .capability) (c .before .if1 .left)
 
 pub round-after-spec : {M : Type 1} → statement M
-round-after-spec = tie.close (tie.spec no-winner-requires returns returns-2)
+round-after-spec = tie.close (tie.spec no-winner-requires returns last-winner-requires returns-2)
