@@ -8,14 +8,10 @@ mod segments;
 // 'Clock 1,073,737,728 steps; 1,073,737,729 gives 17.'
 fn clock_end() {
     let s = segments::two_waiting();
-    lines::stepped(
-        b"clock 1073737728 steps",
-        edits::with_clock(s, 1_073_737_728),
-    );
-    lines::stepped(
-        b"clock 1073737729 gives 17",
-        edits::with_clock(s, 1_073_737_729),
-    );
+    let last = edits::with_clock(s, 1_073_737_728);
+    lines::stepped(b"clock 1073737728 steps", last);
+    let past = edits::with_clock(s, 1_073_737_729);
+    lines::stepped(b"clock 1073737729 gives 17", past);
 }
 
 // 'Length 4,096 passes, 0 and 4,097 give 13.'
