@@ -114,6 +114,16 @@ counted s admitted =
       queues = s .queues;
     }
 
+-- the tests of 12 to 16 as the code makes them, for the station at a place
+abbrev pub laterTests : State → ℕ → ℕ → ℕ → List (ℕ × Bool)
+laterTests s place value len =
+    (12, not (value-fits (disciplineOf (s .segment .settings .discipline)) (s .segment .settings .d) value))
+    ∷ (13, not (length-fits len))
+    ∷ (14, late (disciplineOf (s .segment .settings .discipline)) (s .segment .clock .0) value)
+    ∷ (15, leb places (getD (s .queues .lengths) place 0))
+    ∷ (16, leb most-admitted (s .segment .admitted))
+    ∷ []
+
 -- an arrival at the address of which this is the place
 module _ (s : State) (r : Lent s) (place : ℕ) (address : Address) (sought : place ≡ addressPlace s address) (value len : ℕ) where
   abbrev arrival : Arrival
@@ -166,24 +176,12 @@ module _ (s : State) (r : Lent s) (place : ℕ) (address : Address) (sought : pl
     waiting-here : length (queueAt (s .queues) place) ≡ getD (s .queues .lengths) place 0
     waiting-here = queue-length s (r .held) (r .zeros) place (omega arith)
 
-    -- 12 to 16, by what the code finds of each
-    pub refused-later :
-        {fits long late! full spent : Bool}
-        → value-fits (disciplineOf (s .segment .settings .discipline)) (s .segment .settings .d) value ≡ fits
-        → length-fits len ≡ long
-        → late (disciplineOf (s .segment .settings .discipline)) (s .segment .clock .0) value ≡ late!
-        → leb places (getD (s .queues .lengths) place 0) ≡ full
-        → leb most-admitted (s .segment .admitted) ≡ spent
-        → firstOf 0 ((12, not fits) ∷ (13, not long) ∷ (14, late!) ∷ (15, full) ∷ (16, spent) ∷ []) ≡ admissionRefusal (meaning s) arrival
-    refused-later a b c d e =
+    pub refused-later : firstOf 0 (laterTests s place value len) ≡ admissionRefusal (meaning s) arrival
+    refused-later =
         rw (
           told (stands-exactly (meaning s)) (r .stands),
           some-named,
-          a,
-          b,
-          c,
-          some-such (λ x. leb places (length (x .queue))) ∙ ap (leb places) waiting-here ∙ d,
-          e,
+          some-such (λ x. leb places (length (x .queue))) ∙ ap (leb places) waiting-here,
         )
 
     -- where no refusal is given, there is room
