@@ -11,7 +11,7 @@ use borrow.Author.Tests.{ltb-true, ltb-false, eqb-true, eqb-false, eq-eqb, ne-eq
 use Rattle.rules.specs.Lists.{some-of, firstOf}
 use Rattle.rules.specs.Bus.{places, most-admitted, late, Station, Bus}
 use Rattle.rules.specs.SetUp.{disciplineOf}
-use Rattle.rules.specs.Standing.{value-fits, length-fits, stands, Standing}
+use Rattle.rules.specs.Standing.{value-fits, length-fits, Standing}
 use Rattle.rules.specs.declared.Admitted.{Admitted}
 use Rattle.rules.specs.Admission.{Arrival, named, admissionRefusal, newPacket, queued, joined, withPacket, admit}
 use Rattle.rules.proofs.Tests.{told}
@@ -20,9 +20,9 @@ use Rattle.bus.specs.State.{Address, Packet, State, queueAt, stationWith
 use Rattle.bus.specs.Coded.{standing, arrivalOf, codedAdmit, admissionResult}
 use Rattle.bus.specs.Parts.{firstPlace, addressPlace, accepted}
 use Rattle.bus.proofs.Rows.{among-values, first-place-holds, first-place-before}
-use Rattle.bus.proofs.Form.{Held, Padded, parts-padded, queue-length, to-form}
+use Rattle.bus.proofs.Form.{Held, parts-padded, queue-length, to-form}
 use Rattle.bus.proofs.Coded.{hands-back-admission, admit-bears, standing-exactly-admission}
-use Rattle.bus.proofs.Changed.{Lent, address-of, own-address, requeued, requeued-held, requeued-padded, stations-now}
+use Rattle.bus.proofs.Changed.{Lent, address-of, own-address, segmentCounting, recounted, requeued, requeued-held, requeued-padded, stations-now}
 
 -- ---- a test of some value
 
@@ -99,18 +99,7 @@ module _ (s : State) (address : Address) where
 abbrev pub counted : State → ℕ → State
 counted s admitted =
     record {
-      segment =
-          record {
-            settings = s .segment .settings;
-            listed = s .segment .listed;
-            clock = s .segment .clock;
-            admitted = admitted;
-            sent = s .segment .sent;
-            lost = s .segment .lost;
-            round = s .segment .round;
-            contention = s .segment .contention;
-            contenders = s .segment .contenders;
-          };
+      segment = segmentCounting (s .segment) admitted (s .segment .lost) (s .segment .contention) (s .segment .contenders);
       queues = s .queues;
     }
 
@@ -223,44 +212,11 @@ module _ (s : State) (r : Lent s) (place : ℕ) (address : Address) (sought : pl
       fits : length longer ≤ places
       fits = let n = waiting-here in omega (arith, length-append (queueAt (s .queues) place) (packet ∷ []))
 
-      held : Held (counted s number)
-      held =
-          record {
-            listed = r .held .listed;
-            contenders = r .held .contenders;
-            lengths = r .held .lengths;
-            packets = r .held .packets;
-          }
-
-      zeros : Padded (counted s number)
-      zeros =
-          record {
-            discipline = r .zeros .discipline;
-            queues = r .zeros .queues;
-            contenders = r .zeros .contenders;
-            past-N = r .zeros .past-N;
-            round = r .zeros .round;
-            contention = r .zeros .contention;
-          }
-
       means : meaning (requeued (counted s number) place longer) ≡ withPacket (meaning s) arrival
       means =
           let f = joined (meaning s) arrival in
-          let stations = stations-now (counted s number) held zeros (r .few) place here longer fits f (stationAt s) station-joined in
-          λ i.
-          record {
-            discipline = meaning s .discipline;
-            D = meaning s .D;
-            A = meaning s .A;
-            q = meaning s .q;
-            stations = stations i;
-            clock = meaning s .clock;
-            admitted = next i;
-            sent = meaning s .sent;
-            lost = meaning s .lost;
-            last = meaning s .last;
-            contention = meaning s .contention;
-          }
+          let stations = stations-now (counted s number) (r .held) (r .zeros) (r .few) place here longer fits f (stationAt s) station-joined in
+          λ i. recounted (meaning s) (stations i) (next i) (meaning s .lost) (meaning s .contention)
 
       pub state-joined : requeued (counted s number) place longer ≡ form (withPacket (meaning s) arrival)
       state-joined =
@@ -268,8 +224,8 @@ module _ (s : State) (r : Lent s) (place : ℕ) (address : Address) (sought : pl
           to-form
           next-state
           (withPacket (meaning s) arrival)
-          (requeued-held (counted s number) held zeros (r .few) place here longer fits)
-          (parts-padded next-state (requeued-padded (counted s number) held zeros (r .few) place here longer fits))
+          (requeued-held (counted s number) (r .held) (r .zeros) (r .few) place here longer fits)
+          (parts-padded next-state (requeued-padded (counted s number) (r .held) (r .zeros) (r .few) place here longer fits))
           means
 
 -- ---- what a call gives back

@@ -1,10 +1,9 @@
 -- `arrival::refusal` meets its contract: it tries the tests of 11 to 16 in turn, those of the stations by the place. Assumes nothing.
-use Prim.Native.Nat.{ℕ, _≤_, _<_}
-use mathlib.Core.Path.{_≡_, refl, sym, ap, _∙_}
-use mathlib.Core.Bool.{Bool, not}
-use mathlib.Core.List.{List}
+use Prim.Native.Nat.{ℕ, _<_}
+use mathlib.Core.Path.{_≡_, sym, ap, _∙_}
+use mathlib.Core.Bool.{not}
 use native.Mathlib.Omega.{arith}
-use lib.ListN.{getD, drop}
+use lib.ListN.{drop}
 use borrow.Author.Needs.{needs}
 use borrow.Author.Tests.{le-leb, lt-leb}
 use Rattle.rules.specs.Lists.{firstOf}
@@ -22,11 +21,11 @@ use Rattle.bus.proofs.arrival.refusal.Tie as tie
 here : (c : tie.Start) → Lent (c .args .s)
 here c = lent (c .args .s) _ (c .good .0) (c .pre)
 
--- where a station has the address
+-- `Else1` is where a station has the address
 abbrev start : tie.Else1 → tie.Start
 start c = c .before .before .before .before
 
--- there, and where k of the tests from 12 on have failed: the answer r is that of the others
+-- there, once k of the tests from 12 on have failed: the answer that the others give is that of the rules
 abbrev Left : ℕ → tie.Else1 → Type 0
 Left k c =
     (r : ℕ) → r ≡ firstOf 0 (drop k (laterTests (start c .args .s) (start c .args .place) (start c .args .value) (start c .args .length)))
