@@ -20,7 +20,7 @@ use Rattle.bus.specs.Parts.{Queue, Begun, Late, queueOf, packetsOf, queu
 use Rattle.bus.proofs.Rows.{values-take, values-map, values-same, row-length, row-at, row-replicate, row-same, row-set}
 use Rattle.bus.proofs.Form.{Held, Padded, parts-padded, queue-length, to-form}
 use Rattle.bus.proofs.QueueLaws.{kept-length, packets-of-form, form-padded, form-places, queue-of-with}
-use Rattle.bus.proofs.Changed.{Lent, few-packets, queue-formed}
+use Rattle.bus.proofs.Changed.{Lent, few-packets, queue-formed, segmentCounting, recounted}
 
 -- another station is before i + 1 if it is before i
 before-more : (j i : ℕ) → ¬ (j ≡ i) → ltb j i ≡ ltb j (i + 1)
@@ -240,17 +240,12 @@ abbrev pub begunState : State → Queues → ℕ → State
 begunState s rest drops =
     record {
       segment =
-          record {
-            settings = s .segment .settings;
-            listed = s .segment .listed;
-            clock = s .segment .clock;
-            admitted = s .segment .admitted;
-            sent = s .segment .sent;
-            lost = s .segment .lost + drops;
-            round = s .segment .round;
-            contention = record { begun = true; window = firstWindow (s .segment .settings .d); tied = false; tie = 0 };
-            contenders = placesTo (placeFor (s .segment) rest) (s .segment .settings .n);
-          };
+          segmentCounting
+          (s .segment)
+          (s .segment .admitted)
+          (s .segment .lost + drops)
+          (record { begun = true; window = firstWindow (s .segment .settings .d); tied = false; tie = 0 })
+          (placesTo (placeFor (s .segment) rest) (s .segment .settings .n));
       queues = rest;
     }
 
@@ -385,20 +380,7 @@ module _ (s : State) (r : Lent s) where
 
       meaning-begun : drops ≡ dropsOf (meaning s) → meaning (begunState s rest drops) ≡ begin (meaning s)
       meaning-begun e =
-          λ i.
-          record {
-            discipline = meaning s .discipline;
-            D = meaning s .D;
-            A = meaning s .A;
-            q = meaning s .q;
-            stations = stations-begun i;
-            clock = meaning s .clock;
-            admitted = meaning s .admitted;
-            sent = meaning s .sent;
-            lost = meaning s .lost + e i;
-            last = meaning s .last;
-            contention = begin (meaning s) .contention;
-          }
+          λ i. recounted (meaning s) (stations-begun i) (meaning s .admitted) (meaning s .lost + e i) (begin (meaning s) .contention)
 
     -- ---- what is dropped
 

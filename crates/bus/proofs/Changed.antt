@@ -1,8 +1,9 @@
--- What a state that stands has: zero padding, at most 64 stations, no two with one address; and a state in which one station's queue holds
--- other packets: its padding is zero, and the other stations are as they were. Assumes nothing.
+-- What a state that stands has: zero padding, at most 64 stations, no two with one address; a state with other counts; and a state in which
+-- one station's queue holds other packets: its padding is zero, and the other stations are as they were. Assumes nothing.
 use Prim.Native.Nat.{ℕ, zero, suc, _+_, _≤_, _<_}
 use mathlib.Core.Path.{_≡_, refl, sym, ap, _∙_, subst}
 use mathlib.Core.Bool.{Bool, true, false, not, _&&_, cond}
+use mathlib.Core.Option.{Option}
 use mathlib.Core.List.{List, map}
 use native.Mathlib.Omega.{arith}
 use mir.Val.{Val}
@@ -11,12 +12,13 @@ use borrow.Author.Tests.{eqb-true, eqb-false, eq-eqb, ne-eqb, leb-true, ltb-true
 use lib.Dec.{eqb, leb, ltb}
 use lib.ListN.{length, getD, drop}
 use Rattle.rules.specs.Lists.{each-of, Among, Distinct}
-use Rattle.rules.specs.Bus.{Station, places, most-stations}
+use Rattle.rules.specs.Bus as Machine
+use Rattle.rules.specs.Bus.{Station, Bus, places, most-stations}
 use Rattle.rules.specs.Standing.{stands, Standing}
 use Rattle.rules.proofs.Laws.{and-true}
 use Rattle.rules.proofs.Tests.{tells}
 use Rattle.rules.proofs.Standing.{stands-exactly, set-up-stands}
-use Rattle.bus.specs.State.{Packet, State, noContender, nobody, placesAt, queueAt, stationWith, stationAt, valuesFrom, stationsOf, meaning, no-packet, queue-padded, no-station, padded}
+use Rattle.bus.specs.State.{Packet, Contender, Contention, Segment, State, noContender, nobody, placesAt, queueAt, stationWith, stationAt, valuesFrom, stationsOf, meaning, no-packet, queue-padded, no-station, padded}
 use Rattle.bus.specs.Coded.{standing}
 use Rattle.bus.specs.Parts.{Queue, queueOf, withQueue, packetsOf, queueForm}
 use Rattle.bus.proofs.State as state
@@ -98,6 +100,39 @@ module _ (s : State) (h : Standing (meaning s)) where
           (address-of s i)
           (address-of s j)
           (λ same. apart (address-of s) 0 n addresses-apart j i (omega arith) (omega (arith, ltb-false i j l)) (omega arith) (sym same))
+
+-- ---- other counts of packets admitted and lost, and another contention
+
+abbrev pub segmentCounting : Segment → ℕ → ℕ → Contention → List Contender → Segment
+segmentCounting g admitted lost contention contenders =
+    record {
+      settings = g .settings;
+      listed = g .listed;
+      clock = g .clock;
+      admitted = admitted;
+      sent = g .sent;
+      lost = lost;
+      round = g .round;
+      contention = contention;
+      contenders = contenders;
+    }
+
+-- the same of a bus, and other stations
+abbrev pub recounted : Bus → List Station → ℕ → ℕ → Option Machine.Contention → Bus
+recounted b stations admitted lost contention =
+    record {
+      discipline = b .discipline;
+      D = b .D;
+      A = b .A;
+      q = b .q;
+      stations = stations;
+      clock = b .clock;
+      admitted = admitted;
+      sent = b .sent;
+      lost = lost;
+      last = b .last;
+      contention = contention;
+    }
 
 -- ---- one station's queue holds other packets
 

@@ -27,11 +27,15 @@ use Rattle.bus.proofs.Rows.{each-place-all, all-each-place, values-leng
 
 -- ---- the rows of a state are as long as the code's arrays
 
-pub record Held (s : State) : Type 0 where
-  pub listed : length (s .segment .listed) ≡ 64
-  pub contenders : length (s .segment .contenders) ≡ 64
-  pub lengths : length (s .queues .lengths) ≡ 64
-  pub packets : length (s .queues .packets) ≡ 1024
+-- This and `Padded` are records without a name, so that what they say of one state they say of any that agrees in what they read.
+abbrev pub Held : State → Type 0
+Held s =
+    record {
+      listed : length (s .segment .listed) ≡ 64;
+      contenders : length (s .segment .contenders) ≡ 64;
+      lengths : length (s .queues .lengths) ≡ 64;
+      packets : length (s .queues .packets) ≡ 1024;
+    }
 
 pub held-form : (b : Bus) → Held (form b)
 held-form b =
@@ -59,13 +63,16 @@ module _ {X : Type 0} where
 -- ---- the parts of a state whose padding is zero
 
 -- what `padded` says, part by part
-pub record Padded (s : State) : Type 0 where
-  pub discipline : s .segment .settings .discipline ≤ 2
-  pub queues : (i : ℕ) → i < most-stations → queue-padded (getD (s .queues .lengths) i 0) (placesAt (s .queues) i) ≡ true
-  pub contenders : (i : ℕ) → i < most-stations → contender-padded (getD (s .segment .contenders) i noContender) ≡ true
-  pub past-N : (i : ℕ) → s .segment .settings .n ≤ i → i < most-stations → no-station s i ≡ true
-  pub round : round-padded (s .segment .round) ≡ true
-  pub contention : contention-padded (s .segment .contention) ≡ true
+abbrev pub Padded : State → Type 0
+Padded s =
+    record {
+      discipline : s .segment .settings .discipline ≤ 2;
+      queues : (i : ℕ) → i < most-stations → queue-padded (getD (s .queues .lengths) i 0) (placesAt (s .queues) i) ≡ true;
+      contenders : (i : ℕ) → i < most-stations → contender-padded (getD (s .segment .contenders) i noContender) ≡ true;
+      past-N : (i : ℕ) → s .segment .settings .n ≤ i → i < most-stations → no-station s i ≡ true;
+      round : round-padded (s .segment .round) ≡ true;
+      contention : contention-padded (s .segment .contention) ≡ true;
+    }
 
 pub padded-parts : (s : State) → padded s ≡ true → Padded s
 padded-parts s e =

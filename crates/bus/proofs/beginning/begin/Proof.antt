@@ -1,58 +1,65 @@
 -- `beginning::begin` meets its contract: the state has the arrays' lengths, its padding is zero, and its meaning is the bus of the rules as
 -- the contention has begun. Assumes nothing.
-use Prim.Native.Nat.{_-_}
+use Prim.Native.Nat.{ℕ, _+_, _-_, _≤_, _<_}
 use mathlib.Core.Path.{_≡_}
 use native.Mathlib.Omega.{arith}
+use lib.ListN.{getD}
 use borrow.Author.Needs.{needs}
 use Rattle.rules.specs.Begin.{dropsOf}
 use Rattle.rules.proofs.Standing.{set-up-stands}
-use Rattle.bus.specs.State.{meaning}
+use Rattle.bus.specs.State.{State, meaning}
 use Rattle.bus.proofs.QueueLaws.{queues-arrays}
-use Rattle.bus.proofs.Changed.{lent, few-packets}
+use Rattle.bus.proofs.Changed.{Lent, lent, few-packets}
 use Rattle.bus.proofs.BeginningLaws.{all-formed, room-left, waiting-dropped, lost-counted, begun-is}
 use Rattle.bus.proofs.beginning.begin.Statement.{statement}
 use Rattle.bus.proofs.beginning.begin.Tie as tie
 
+-- the state that the function is lent, where it has dropped the late packets
+abbrev state : tie.After-drop-late → State
+state c = c .before .before .before .before .args .s
+
+here : (c : tie.Start) → Lent (c .args .s)
+here c = lent (c .args .s) _ (c .good .0) (c .pre .0)
+
 drop-late-requires : tie.Need-drop-late-requires
 drop-late-requires c κs =
     let start = c .before .before .before in
-    let s = start .args .s in
-    let r = lent s _ (start .good .0) (start .pre .0) in
-    (r .few, (all-formed s r, few-packets s r))
+    let r = here start in
+    (r .few, (all-formed (start .args .s) r, few-packets (start .args .s) r))
 
 waiting-in-requires : tie.Need-waiting-in-requires
 waiting-in-requires c κs =
     let start = c .before .before .before .before .before .before in
-    let s = start .args .s in
-    let r = lent s _ (start .good .0) (start .pre .0) in
-    (r .few, λ i l. few-packets s r i (omega arith))
+    let r = here start in
+    (r .few, λ i l. few-packets (start .args .s) r i (omega arith))
+
+-- the packets that are left have room
+room : (c : tie.After-drop-late) → (j : ℕ) → j < state c .segment .settings .n → getD (c .drop-late .result .lengths) j 0 ≤ 16
+room c = room-left (state c) (here (c .before .before .before .before)) (c .drop-late .result) (c .drop-late .ensures)
 
 waiting-in-requires-2 : tie.Need-waiting-in-requires-2
-waiting-in-requires-2 c κs =
-    let start = c .before .before .before .before .before .before .before in
-    let s = start .args .s in
-    let r = lent s _ (start .good .0) (start .pre .0) in
-    let rest = c .before .before .before .drop-late in
-    (r .few, room-left s r (rest .result) (rest .ensures))
+waiting-in-requires-2 c κs = (here (c .before .before .before .before .before .before .before) .few, room (c .before .before .before))
 
-sub-drops : tie.Need-sub-drops
-sub-drops c =
+-- those waiting before are those waiting after and those dropped
+dropped :
+    (c : tie.After-waiting-in2)
+    → c .before .waiting-in .result ≡ c .waiting-in2 .result + dropsOf (meaning (state (c .before .before .before .before)))
+dropped c =
     let start = c .before .before .before .before .before .before .before .before in
-    let s = start .args .s in
-    let r = lent s _ (start .good .0) (start .pre .0) in
     let rest = c .before .before .before .before .drop-late in
     let n = queues-arrays (rest .result) _ (rest .ok) in
-    let parts = waiting-dropped s r (rest .result) (rest .ensures) (n .0) in
-    rw (c .waiting-in2 .ensures, c .before .waiting-in .ensures) (omega arith)
+    rw (c .waiting-in2 .ensures, c .before .waiting-in .ensures)
+    (waiting-dropped (start .args .s) (here start) (rest .result) (rest .ensures) (n .0))
+
+sub-drops : tie.Need-sub-drops
+sub-drops c = omega (arith, dropped c)
 
 offers-of-requires : tie.Need-offers-of-requires
 offers-of-requires c κs =
     let start = c .before .before .before .before .before .before .before .before in
-    let s = start .args .s in
-    let r = lent s _ (start .good .0) (start .pre .0) in
-    let rest = c .before .before .before .before .drop-late in
-    let spaces = set-up-stands (meaning s) (r .stands) in
-    (r .few, (room-left s r (rest .result) (rest .ensures), (spaces .q-least, omega (arith, spaces .D-least))))
+    let r = here start in
+    let spaces = set-up-stands (meaning (start .args .s)) (r .stands) in
+    (r .few, (room (c .before .before .before .before), (spaces .q-least, omega (arith, spaces .D-least))))
 
 opening-window-requires : tie.Need-opening-window-requires
 opening-window-requires c κs = search needs
@@ -60,30 +67,19 @@ opening-window-requires c κs = search needs
 add-next : tie.Need-add-next
 add-next c =
     let start = c .before .before .before .before .before .before .before .before .before .before .before in
-    let s = start .args .s in
-    let r = lent s _ (start .good .0) (start .pre .0) in
-    let rest = c .before .before .before .before .before .before .before .drop-late in
-    let n = queues-arrays (rest .result) _ (rest .ok) in
-    let parts = waiting-dropped s r (rest .result) (rest .ensures) (n .0) in
-    let before = c .before .before .before .before .waiting-in in
-    let after = c .before .before .before .waiting-in2 in
-    let waited = before .ensures in
-    let left = after .ensures in
-    omega (arith, lost-counted s r)
+    omega (arith, dropped (c .before .before .before), lost-counted (start .args .s) (here start))
 
 returns : tie.Need-returns
 returns c =
     let start = c .before .before .before .before .before .before .before .before .before .before .before in
     let s = start .args .s in
-    let r = lent s _ (start .good .0) (start .pre .0) in
     let rest = c .before .before .before .before .before .before .before .drop-late in
     let n = queues-arrays (rest .result) _ (rest .ok) in
-    let parts = waiting-dropped s r (rest .result) (rest .ensures) (n .0) in
-    let before = c .before .before .before .before .waiting-in in
-    let after = c .before .before .before .waiting-in2 in
-    let drops : before .result - after .result ≡ dropsOf (meaning s) = rw (before .ensures, after .ensures) (omega arith) in
+    let before = c .before .before .before .before .waiting-in .result in
+    let after = c .before .before .before .waiting-in2 .result in
+    let drops : before - after ≡ dropsOf (meaning s) = omega (arith, dropped (c .before .before .before)) in
     rw (c .before .opening-window .ensures, c .before .before .offers-of .ensures)
-    (begun-is s r (rest .result) (rest .ensures) (before .result - after .result) drops (n .0) (n .1))
+    (begun-is s (here start) (rest .result) (rest .ensures) (before - after) drops (n .0) (n .1))
 
 pub begin-spec : {M : Type 1} → statement M
 begin-spec =
