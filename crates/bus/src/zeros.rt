@@ -1,4 +1,4 @@
-// 'What has no meaning is zero'.
+// 'What has no meaning is zero': places that nothing fills, no contention, no last winner.
 use crate::Address;
 use crate::Capability;
 use crate::Contender;

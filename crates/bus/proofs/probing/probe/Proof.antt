@@ -25,6 +25,9 @@ by-tests g drops first second e f a b =
 
 -- where the first search finds a station
 module _ (c : tie.Else1) where
+  abbrev first : ℕ
+  first = c .before .next-transmitter .result
+
   abbrev start : tie.Start
   start = c .before .before .before
 
@@ -36,9 +39,6 @@ module _ (c : tie.Else1) where
 
   abbrev n : ℕ
   n = g .settings .n
-
-  abbrev first : ℕ
-  first = c .before .next-transmitter .result
 
   -- it is a station, and transmits
   found : (first < n) × (transmitsAt g first ≡ true)
