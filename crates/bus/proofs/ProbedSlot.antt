@@ -1,33 +1,33 @@
 -- One probe of a state: what `probed` (specs/Parts.antt) makes of the segment, with the winner's packet gone from its queue, is the form of
 -- what the machine's probe makes of the state's meaning. Assumes nothing.
 use Prim.Native.Nat.{ℕ, zero, suc, _+_, _-_, _≤_, _<_}
-use mathlib.Core.Path.{_≡_, refl, sym, ap, _∙_, subst}
+use mathlib.Core.Path.{_≡_, refl, sym, ap, _∙_, subst, subst₂}
 use mathlib.Core.Bool.{Bool, true, false, not, _&&_, _||_, cond}
 use mathlib.Core.Option.{Option, none, some}
 use mathlib.Core.List.{List, [], _∷_, map}
 use native.Mathlib.Numerals.{add-one}
 use native.Mathlib.Omega.{arith}
 use lib.Dec.{leb, eqb}
-use lib.ListN.{length, getD, drop}
-use borrow.Author.Tests.{leb-true, eqb-true, eqb-false, eq-eqb, ne-eqb}
+use lib.ListN.{length, getD}
+use borrow.Author.Tests.{eqb-true, eqb-false, eq-eqb, ne-eqb}
 use Rattle.window.specs.declared.Side.{Side}
 use Rattle.window.specs.declared.Side.the-variants.{Left, Right}
 use Rattle.window.specs.Splitting.{firstWindow, leftHalf, moveRight, movedRight, placed}
 use Rattle.window.proofs.Facts.{moved-right}
-use Rattle.rules.specs.Lists.{kept, keep, each-of, Among}
+use Rattle.rules.specs.Lists.{kept, keep, Among}
 use Rattle.rules.specs.Bus as Machine
 use Rattle.rules.specs.Bus.{Discipline, PRI, RTDG, RTVC, Station, Bus, places, most-stations}
-use Rattle.rules.specs.Standing.{OfferStands, StationStands, WindowStands, ContentionStands, Standing}
+use Rattle.rules.specs.Standing.{OfferStands, StationStands, WindowStands, ContentionStands}
 use Rattle.rules.specs.Probe as Probe
 use Rattle.rules.specs.Probe.{contending, contenders, transmits, transmitters, phaseOf, tie-phase, parameter-phase, idle, collision, success, answered, unsent, sentBy, goesOn, withdrawn, unwon, left, lastWinner, tiedAt, split, heard, probe}
 use Rattle.rules.proofs.Laws.{and-true, true-and, count-some, count-le, total-among}
-use Rattle.bus.specs.State.{Packet, Address, Capability, Contention, Round, State, noContender, noRound, noContention, nobody, placesAt, queueAt, offerOf, stationWith, stationAt, valuesFrom, stationsOf, lastOf, tieOf, contentionOf, meaning, form, no-packet, contender-padded, no-station, round-padded, no-window, contention-padded}
+use Rattle.bus.specs.State.{Packet, Address, Capability, Contention, Round, Queues, State, noContender, noRound, noContention, nobody, queueAt, offerOf, stationWith, stationAt, valuesFrom, stationsOf, lastOf, tieOf, contentionOf, meaning, form, contender-padded, no-station, round-padded, no-window, contention-padded}
 use Rattle.bus.specs.Coded.{Stepped, answerForm, stepResult}
 use Rattle.bus.specs.Parts.{Probed, Sent, stays, queueForm, withQueue, firstPlace, noContenders, contenderAt, transmitsAt, nextTransmitter, openOf, answerTo, segmentWith, onward, splitAt, collidedAt, unheardAt, roundAfter, wonAt, probed}
 use Rattle.bus.proofs.Rows.{values-map, values-same, row-length, row-at, among-values, first-place-le}
 use Rattle.bus.proofs.Form.{Held, Padded, parts-padded, to-form}
 use Rattle.bus.proofs.QueueLaws.{kept-length}
-use Rattle.bus.proofs.Changed.{few-stations, own-address, requeued, requeued-held, requeued-padded, stations-now}
+use Rattle.bus.proofs.Changed.{Lent, own-address, requeued, requeued-held, requeued-padded, stations-now}
 
 -- ---- who transmits
 
@@ -120,9 +120,9 @@ moved b stations clock sent last contention =
 -- ---- the contention goes on
 
 goes-on :
-    (s : State) → Held s → Padded s → (c : Contention) (m : Machine.Contention) → contention-padded c ≡ true → contentionOf c ≡ some m
+    (s : State) → Lent s → (c : Contention) (m : Machine.Contention) → contention-padded c ≡ true → contentionOf c ≡ some m
     → record { segment = onward (s .segment) c; queues = s .queues } ≡ form (goesOn (meaning s) m)
-goes-on s h p c m z e =
+goes-on s r c m z e =
     to-form
     next
     (goesOn (meaning s) m)
@@ -139,62 +139,55 @@ goes-on s h p c m z e =
     }))
     (λ i. moved (meaning s) (stationsOf s) (add-one (s .segment .clock .0) i) (s .segment .sent) (meaning s .last) (e i))
   where
+    h : Held s
+    h = r .held
+
+    p : Padded s
+    p = r .zeros
+
     next : State
     next = record { segment = onward (s .segment) c; queues = s .queues }
 
--- what a collision makes of the contention
-split-is : (s : State) → contentionOf (splitAt (s .segment)) ≡ some (split (meaning s) (under-way s))
-split-is s = go (leb 2 (c .window .size)) (c .tied)
-  where
-    c : Contention
-    c = s .segment .contention
+module _ (s : State) where
+  abbrev now : Contention
+  now = s .segment .contention
 
-    tie-value : Bool → Option ℕ
-    tie-value tied = cond tied (some (c .tie)) none
+  -- what a collision makes of the contention, by its window's size and its phase
+  abbrev split-by : Bool → Bool → Contention
+  split-by large tied =
+      cond
+      large
+      (record { begun = true; window = leftHalf (now .window); tied = tied; tie = now .tie })
+      (record { begun = true; window = firstWindow (s .segment .settings .a); tied = true; tie = cond tied (now .tie) (now .window .start) })
 
-    go :
-        (large tied : Bool)
-        → contentionOf
-        (cond
-        large
-        (record { begun = true; window = leftHalf (c .window); tied = tied; tie = c .tie })
-        (record { begun = true; window = firstWindow (s .segment .settings .a); tied = true; tie = cond tied (c .tie) (c .window .start) }))
-        ≡ some
-        (cond
-        large
-        (record { window = leftHalf (c .window); tie = tie-value tied })
-        (record { window = firstWindow (s .segment .settings .a); tie = some (tiedAt (c .window) (tie-value tied)) }))
-    go true tied = refl
-    go false true = refl
-    go false false = refl
+  split-is : contentionOf (splitAt (s .segment)) ≡ some (split (meaning s) (under-way s))
+  split-is = go (leb 2 (now .window .size)) (now .tied)
+    where
+      tie-value : Bool → Option ℕ
+      tie-value tied = cond tied (some (now .tie)) none
 
--- outside the tie phase the tie value is zero, and it stays so
-tie-padded : (s : State) → Padded s → (s .segment .contention .tied || eqb (s .segment .contention .tie) 0) ≡ true
-tie-padded s p =
-    let c = s .segment .contention in
-    and-true (c .begun || (no-window (c .window) && not (c .tied))) (c .tied || eqb (c .tie) 0) (p .contention) .1
+      go :
+          (large tied : Bool)
+          → contentionOf (split-by large tied)
+          ≡ some
+          (cond
+          large
+          (record { window = leftHalf (now .window); tie = tie-value tied })
+          (record { window = firstWindow (s .segment .settings .a); tie = some (tiedAt (now .window) (tie-value tied)) }))
+      go true tied = refl
+      go false true = refl
+      go false false = refl
 
-split-padded : (s : State) → Padded s → contention-padded (splitAt (s .segment)) ≡ true
-split-padded s p = go (leb 2 (c .window .size))
-  where
-    c : Contention
-    c = s .segment .contention
+  -- outside the tie phase the tie value is zero, and it stays so
+  tie-padded : Lent s → (now .tied || eqb (now .tie) 0) ≡ true
+  tie-padded r = and-true (now .begun || (no-window (now .window) && not (now .tied))) (now .tied || eqb (now .tie) 0) (r .zeros .contention) .1
 
-    go :
-        (large : Bool)
-        → contention-padded
-        (cond
-        large
-        (record { begun = true; window = leftHalf (c .window); tied = c .tied; tie = c .tie })
-        (record {
-          begun = true;
-          window = firstWindow (s .segment .settings .a);
-          tied = true;
-          tie = cond (c .tied) (c .tie) (c .window .start);
-        }))
-        ≡ true
-    go true = tie-padded s p
-    go false = refl
+  split-padded : Lent s → contention-padded (splitAt (s .segment)) ≡ true
+  split-padded r = go (leb 2 (now .window .size))
+    where
+      go : (large : Bool) → contention-padded (split-by large (now .tied)) ≡ true
+      go true = tie-padded r
+      go false = refl
 
 -- ---- the contention ends
 
@@ -212,59 +205,55 @@ round-zeros PRI c = refl
 round-zeros RTDG c = refl
 round-zeros RTVC c = refl
 
--- a queue's length is within its sixteen places
-pub queue-room : (s : State) → Padded s → (i : ℕ) → i < most-stations → getD (s .queues .lengths) i 0 ≤ places
-queue-room s p i l =
-    let k = getD (s .queues .lengths) i 0 in
-    leb-true k places (and-true (leb k places) (each-of no-packet (drop k (placesAt (s .queues) i))) (p .queues i l) .0)
+-- station i is one of the stations, and stands
+station-listed : (s : State) (i : ℕ) → i < n s → Among (stationAt s i) (stationsOf s)
+station-listed s i l = among-values (stationAt s) 0 (n s) i (omega arith) (omega arith)
 
--- station i stands
-station-stands : (s : State) → Standing (meaning s) → (i : ℕ) → i < s .segment .settings .n → StationStands (meaning s) (stationAt s i)
-station-stands s stands i l =
-    stands .each-station (stationAt s i) (among-values (stationAt s) 0 (s .segment .settings .n) i (omega arith) (omega arith))
+station-stands : (s : State) → Lent s → (i : ℕ) → i < n s → StationStands (meaning s) (stationAt s i)
+station-stands s r i l = r .stands .each-station (stationAt s i) (station-listed s i l)
 
 -- the state with no contention, and another clock, sent count and round
 abbrev ended : State → ℕ → ℕ → Round → State
 ended s clock sent round =
     record { segment = segmentWith (s .segment) clock sent round noContention noContenders; queues = s .queues }
 
-ended-held : (s : State) → Held s → (clock sent : ℕ) (round : Round) → Held (ended s clock sent round)
-ended-held s h clock sent round =
-    record {
-      listed = h .listed;
-      contenders = row-length most-stations (λ i. noContender);
-      lengths = h .lengths;
-      packets = h .packets;
-    }
+module _ (s : State) (r : Lent s) where
+  ended-held : {clock sent : ℕ} {round : Round} → Held (ended s clock sent round)
+  ended-held =
+      record {
+        listed = r .held .listed;
+        contenders = row-length most-stations (λ i. noContender);
+        lengths = r .held .lengths;
+        packets = r .held .packets;
+      }
 
-ended-padded : (s : State) → Padded s → (clock sent : ℕ) (round : Round) → round-padded round ≡ true → Padded (ended s clock sent round)
-ended-padded s p clock sent round z =
-    record {
-      discipline = p .discipline;
-      queues = p .queues;
-      contenders = λ j l. ap contender-padded (no-contender j l);
-      past-N = nobody-past;
-      round = z;
-      contention = refl;
-    }
-  where
-    nobody-past : (i : ℕ) → s .segment .settings .n ≤ i → i < most-stations → no-station (ended s clock sent round) i ≡ true
-    nobody-past i m l =
-        let who = getD (s .segment .listed) i nobody in
-        let none-there = eqb (who .address .0) 0 && eqb (who .capability .0) 0 && eqb (getD (s .queues .lengths) i 0) 0 in
-        true-and
-        (and-true none-there (not (getD (s .segment .contenders) i noContender .contends)) (p .past-N i m l) .0)
-        (ap (λ c. not (c .contends)) (no-contender i l))
+  ended-padded : {clock sent : ℕ} {round : Round} → round-padded round ≡ true → Padded (ended s clock sent round)
+  ended-padded {clock} {sent} {round} z =
+      record {
+        discipline = r .zeros .discipline;
+        queues = r .zeros .queues;
+        contenders = λ j l. ap contender-padded (no-contender j l);
+        past-N = nobody-past;
+        round = z;
+        contention = refl;
+      }
+    where
+      nobody-past : (i : ℕ) → n s ≤ i → i < most-stations → no-station (ended s clock sent round) i ≡ true
+      nobody-past i m l =
+          let who = getD (s .segment .listed) i nobody in
+          let none-there = eqb (who .address .0) 0 && eqb (who .capability .0) 0 && eqb (getD (s .queues .lengths) i 0) 0 in
+          true-and
+          (and-true none-there (not (getD (s .segment .contenders) i noContender .contends)) (r .zeros .past-N i m l) .0)
+          (ap (λ c. not (c .contends)) (no-contender i l))
 
-module _ (s : State) (h : Held s) (p : Padded s) (few : s .segment .settings .n ≤ most-stations) where
   -- without a winner: the stations withdraw
   unwon-is : ended s (s .segment .clock .0 + 1) (s .segment .sent) noRound ≡ form (unwon (meaning s))
   unwon-is =
       to-form
       next
       (unwon (meaning s))
-      (ended-held s h (s .segment .clock .0 + 1) (s .segment .sent) noRound)
-      (parts-padded next (ended-padded s p (s .segment .clock .0 + 1) (s .segment .sent) noRound refl))
+      ended-held
+      (parts-padded next (ended-padded refl))
       (λ i. moved (meaning s) (stations i) (add-one (s .segment .clock .0) i) (s .segment .sent) none none)
     where
       next : State
@@ -282,11 +271,12 @@ module _ (s : State) (h : Held s) (p : Padded s) (few : s .segment .settings .n 
 
       stations : stationsOf next ≡ map withdrawn (stationsOf s)
       stations =
+          let few = r .few in
           values-same (stationAt next) (λ j. withdrawn (stationAt s j)) 0 (n s) (λ j l m. withdraws j (omega arith))
           ∙ sym (values-map withdrawn (stationAt s) 0 (n s))
 
   -- station i has sent its packet, which leaves its queue
-  module _ (stands : Standing (meaning s)) (i : ℕ) (here : i < s .segment .settings .n) where
+  module _ (i : ℕ) (here : i < n s) where
     abbrev winner : Probe.Contender
     winner = contenderAt (s .segment) i
 
@@ -308,24 +298,25 @@ module _ (s : State) (h : Held s) (p : Padded s) (few : s .segment .settings .n 
 
     room : length (staying i) ≤ places
     room =
-        let own = station-stands s stands i here .room in
+        let own = station-stands s r i here .room in
         omega (arith, kept-length (stays (Sent (winner .packet .number))) (queueAt (s .queues) i))
 
     held : Held next
-    held = ended-held s h clock (s .segment .sent + 1) round
+    held = ended-held
 
     zeros : Padded next
-    zeros = ended-padded s p clock (s .segment .sent + 1) round (round-zeros (meaning s .discipline) its-capability)
+    zeros = ended-padded (round-zeros (meaning s .discipline) its-capability)
 
     left-is :
-        (j : ℕ) → j < s .segment .settings .n
+        (j : ℕ) → j < n s
         → stationWith (next .segment) j (cond (eqb j i) (staying i) (queueAt (s .queues) j)) ≡ left winner (stationAt s j)
     left-is j l =
+        let few = r .few in
         λ k.
         record {
           address = stationAt s j .address;
           capability = stationAt s j .capability;
-          queue = (go (eqb j i) refl ∙ sym (ap (λ t. cond t (staying j) (queueAt (s .queues) j)) (own-address s stands i j here l))) k;
+          queue = (go (eqb j i) refl ∙ sym (ap (λ t. cond t (staying j) (queueAt (s .queues) j)) (own-address s (r .stands) i j here l))) k;
           offer = offerOf (no-contender j (omega arith) k);
         }
       where
@@ -338,12 +329,12 @@ module _ (s : State) (h : Held s) (p : Padded s) (few : s .segment .settings .n 
         to-form
         (requeued next i (staying i))
         (Probe.won (meaning s) winner)
-        (requeued-held next held zeros few i here (staying i) room)
-        (parts-padded (requeued next i (staying i)) (requeued-padded next held zeros few i here (staying i) room))
+        (requeued-held next held zeros (r .few) i here (staying i) room)
+        (parts-padded (requeued next i (staying i)) (requeued-padded next held zeros (r .few) i here (staying i) room))
         (λ k.
         moved
         (meaning s)
-        (stations-now next held zeros few i here (staying i) room (left winner) (stationAt s) left-is k)
+        (stations-now next held zeros (r .few) i here (staying i) room (left winner) (stationAt s) left-is k)
         clock
         (add-one (s .segment .sent) k)
         (last-is (meaning s .discipline) its-capability winner refl k)
@@ -351,21 +342,18 @@ module _ (s : State) (h : Held s) (p : Padded s) (few : s .segment .settings .n 
 
 -- ---- one probe
 
--- the state after a probe of its segment: on success the packet leaves the winner's queue
-abbrev pub probedState : State → Probed → State
-probedState s r =
-    record {
-      segment = r .segment;
-      queues =
-          cond
-          (eqb (r .answer .event) success)
-          (withQueue (s .queues) (r .winner) (queueForm (keep (stays (Sent (r .answer .number))) (queueAt (s .queues) (r .winner)))))
-          (s .queues);
-    }
+-- the queues without the winner's packet
+abbrev pub queuesAfter : State → Probed → Queues
+queuesAfter s p =
+    withQueue (s .queues) (p .winner) (queueForm (keep (stays (Sent (p .answer .number))) (queueAt (s .queues) (p .winner))))
 
--- the answer and the state
+-- what a probe of the segment makes of these queues
+abbrev pub slotWith : Probed → Queues → Stepped
+slotWith p queues = record { answer = p .answer; state = record { segment = p .segment; queues = queues } }
+
+-- on success the packet leaves the winner's queue
 abbrev pub slotOf : State → Probed → Stepped
-slotOf s r = record { answer = r .answer; state = probedState s r }
+slotOf s p = slotWith p (cond (eqb (p .answer .event) success) (queuesAfter s p) (s .queues))
 
 -- the same of the machine's answer and bus
 abbrev pub stepped : Probe.Answer × Bus → Stepped
@@ -399,8 +387,12 @@ answer-is s drops event address number length ended =
     }
 
 -- the winner is a station, and 0 stands for none
-pub winner-there : (s : State) → Standing (meaning s) → (drops : ℕ) → probed (s .segment) drops .winner < most-stations
-winner-there s stands drops = go (eqb (first s) (n s)) refl (eqb (second s) (n s)) (s .segment .contention .window .side)
+pub winner-there : (s : State) → Lent s → (drops : ℕ) (p : Probed) → p ≡ probed (s .segment) drops → p .winner < most-stations
+winner-there s r drops p is =
+    subst
+    (λ (q : Probed). q .winner < most-stations)
+    (sym is)
+    (go (eqb (first s) (n s)) refl (eqb (second s) (n s)) (s .segment .contention .window .side))
   where
     go :
         (t : Bool) → eqb (first s) (n s) ≡ t → (u : Bool) (side : Side)
@@ -408,69 +400,63 @@ winner-there s stands drops = go (eqb (first s) (n s)) refl (eqb (second s) (n s
         < most-stations
     go true e u Left = omega arith
     go true e u Right = omega arith
-    go false e true side = omega (arith, first-there s e, few-stations s stands)
+    go false e true side = omega (arith, first-there s e, r .few)
     go false e false side = omega arith
 
-module _ (s : State) (stands : Standing (meaning s)) (begun : s .segment .contention .begun ≡ true) where
+module _ (s : State) (r : Lent s) (begun : s .segment .contention .begun ≡ true) where
   -- the window is placed in the space of the phase
-  window-placed : (space : ℕ) × (placed space (s .segment .contention .window) ≡ true)
+  window-placed : (space : ℕ) × (placed space (now s .window) ≡ true)
   window-placed =
-      go (s .segment .contention .tied) (subst (λ t. ContentionStands (meaning s) (cond t (some (under-way s)) none)) begun (stands .window))
+      go (now s .tied) (subst (λ t. ContentionStands (meaning s) (cond t (some (under-way s)) none)) begun (r .stands .window))
     where
       go :
-          (t : Bool) → WindowStands (meaning s) (under-way s) (cond t (some (s .segment .contention .tie)) none)
-          → (space : ℕ) × (placed space (s .segment .contention .window) ≡ true)
+          (t : Bool) → WindowStands (meaning s) (under-way s) (cond t (some (now s .tie)) none)
+          → (space : ℕ) × (placed space (now s .window) ≡ true)
       go true w = (meaning s .A, w .1)
       go false w = (meaning s .D, w)
 
-  module _ (i : ℕ) (here : i < s .segment .settings .n) (sends : transmitsAt (s .segment) i ≡ true) where
+  module _ (i : ℕ) (here : i < n s) (sends : transmitsAt (s .segment) i ≡ true) where
     -- a station that transmits does so with a packet of its queue
     queued : Among (contenderAt (s .segment) i .packet) (queueAt (s .queues) i)
     queued =
         let c = getD (s .segment .contenders) i noContender in
-        let offered =
-        subst
-        (λ t. OfferStands (meaning s) (stationAt s i) (cond t (some (under-way s)) none) (offerOf c))
-        begun
-        (station-stands s stands i here .offered) in
-        subst
-        (λ t.
+        subst₂
+        (λ (t u : Bool).
         OfferStands
         (meaning s)
         (stationAt s i)
-        (some (under-way s))
-        (cond t (some (record { parameter = c .parameter; packet = c .packet })) none))
+        (cond t (some (under-way s)) none)
+        (cond u (some (record { parameter = c .parameter; packet = c .packet })) none))
+        begun
         (and-true (c .contends) (transmits (meaning s) (under-way s) (contenderAt (s .segment) i)) sends .0)
-        offered
+        (station-stands s r i here .offered)
         .0
 
     -- which is not too long, and which is not counted as sent yet
     pub sent-short : contenderAt (s .segment) i .packet .length ≤ 4096
-    sent-short = station-stands s stands i here .packets (contenderAt (s .segment) i .packet) queued .most
+    sent-short = station-stands s r i here .packets (contenderAt (s .segment) i .packet) queued .most
 
     pub sent-counted : s .segment .sent < 4294967295
     sent-counted =
         let one = count-some (λ (q : Packet). true) (queueAt (s .queues) i) queued refl in
         let its = count-le (λ (q : Packet). true) (queueAt (s .queues) i) in
-        let listed = among-values (stationAt s) 0 (n s) i (omega arith) (omega arith) in
-        let all = total-among (λ (x : Station). length (x .queue)) (stationsOf s) listed in
-        omega (arith, stands .counts, stands .admitted-in)
+        let all = total-among (λ (x : Station). length (x .queue)) (stationsOf s) (station-listed s i here) in
+        omega (arith, r .stands .counts, r .stands .admitted-in)
 
-  module _ (h : Held s) (p : Padded s) (drops : ℕ) where
+  module _ (drops : ℕ) where
     unheard-is : (side : Side) → slotOf s (unheardAt (s .segment) drops side) ≡ stepped (Probe.unheard (openOf s drops) side)
     unheard-is Left =
-        let c = s .segment .contention in
+        let c = now s in
         λ i.
         record {
           answer = answer-is s drops idle (record { 0 = 0 }) 0 0 0 i;
           state =
               goes-on
               s
-              h
-              p
+              r
               (record { begun = true; window = movedRight (c .window); tied = c .tied; tie = c .tie })
               (record { window = moveRight (c .window); tie = tieOf c })
-              (tie-padded s p)
+              (tie-padded s r)
               (ap (λ w. some (record { window = w; tie = tieOf c })) (moved-right (window-placed .0) (c .window) (window-placed .1)))
               i;
         }
@@ -478,7 +464,7 @@ module _ (s : State) (stands : Standing (meaning s)) (begun : s .segment .conten
         λ i.
         record {
           answer = answer-is s drops idle (record { 0 = 0 }) 0 0 1 i;
-          state = unwon-is s h p (few-stations s stands) i;
+          state = unwon-is s r i;
         }
 
     collided-is :
@@ -488,11 +474,11 @@ module _ (s : State) (stands : Standing (meaning s)) (begun : s .segment .conten
         λ i.
         record {
           answer = answer-is s drops collision (record { 0 = 0 }) 0 0 0 i;
-          state = goes-on s h p (splitAt (s .segment)) (split (meaning s) (under-way s)) (split-padded s p) (split-is s) i;
+          state = goes-on s r (splitAt (s .segment)) (split (meaning s) (under-way s)) (split-padded s r) (split-is s) i;
         }
 
     sent-is :
-        (j : ℕ) → j < s .segment .settings .n
+        (j : ℕ) → j < n s
         → slotOf s (wonAt (s .segment) drops j)
         ≡ stepped (sentBy (openOf s drops) (contenderAt (s .segment) j), Probe.won (meaning s) (contenderAt (s .segment) j))
     sent-is j l =
@@ -500,13 +486,15 @@ module _ (s : State) (stands : Standing (meaning s)) (begun : s .segment .conten
         λ i.
         record {
           answer = answer-is s drops success (getD (s .segment .listed) j nobody .address) (x .packet .number) (x .packet .length) 1 i;
-          state = won-is s h p (few-stations s stands) stands j l i;
+          state = won-is s r j l i;
         }
 
     -- by the first and the second station that transmit
-    pub probed-is : slotOf s (probed (s .segment) drops) ≡ stepped (probe (openOf s drops))
-    probed-is =
-        none-or-more (eqb (first s) (n s)) refl (eqb (second s) (n s)) refl ∙ sym (ap (λ xs. stepped (heard (openOf s drops) xs)) (all-heard s))
+    pub probed-is : (p : Probed) → p ≡ probed (s .segment) drops → slotOf s p ≡ stepped (probe (openOf s drops))
+    probed-is p is =
+        ap (slotOf s) is
+        ∙ none-or-more (eqb (first s) (n s)) refl (eqb (second s) (n s)) refl
+        ∙ sym (ap (λ xs. stepped (heard (openOf s drops) xs)) (all-heard s))
       where
         x : Probe.Contender
         x = contenderAt (s .segment) (first s)

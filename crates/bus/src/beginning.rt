@@ -14,6 +14,7 @@ use crate::State;
 use crate::disciplines;
 use crate::standing;
 use crate::waiting;
+use crate::zeros;
 use window::Window;
 ghost use Prim.Native.Nat.{ℕ, _<_, _≤_};
 ghost use mathlib.Core.Path.{_≡_};
@@ -26,13 +27,6 @@ ghost use Rattle.rules.specs.Begin.{begin, dropsOf};
 ghost use Rattle.bus.specs.State.{meaning, form, row, nobody, noContender, queueAt};
 ghost use Rattle.bus.specs.Coded.{standing};
 ghost use Rattle.bus.specs.Parts.{Late, queueOf, packetsOf, queueForm, stays, contenderFor};
-
-// The place of a station that does not contend.
-pub const NO_CONTENDER: Contender = Contender {
-    contends: false,
-    parameter: 0,
-    packet: waiting::NO_PACKET,
-};
 
 // A station's place among the contenders, of the packets that it has in time.
 fn contender_for(
@@ -49,10 +43,10 @@ fn contender_for(
 {
     let chosen = waiting::chosen(queue, settings.discipline);
     if !chosen.found {
-        return NO_CONTENDER;
+        return zeros::NO_CONTENDER;
     }
     if disciplines::sits_out(settings.discipline, round, l.capability) {
-        return NO_CONTENDER;
+        return zeros::NO_CONTENDER;
     }
     let packet = chosen.packet;
     let parameter = disciplines::parameter(settings, clock, l.capability, packet);
@@ -74,7 +68,7 @@ fn offers_of(g: Segment, queues: Queues) -> [Contender; 64]
     let settings = g.settings;
     let round = g.round;
     let n = settings.n;
-    let mut contenders = [NO_CONTENDER; 64];
+    let mut contenders = [zeros::NO_CONTENDER; 64];
     for i in 0..n {
         let l = g.listed[i];
         let queue = waiting::queue_at(queues, i);

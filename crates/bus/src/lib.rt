@@ -17,6 +17,7 @@ mod sorts;
 mod standing;
 mod stations;
 mod waiting;
+mod zeros;
 
 // 'step with the clock above 1,073,737,728'
 const LAST_SLOT: u32 = 1_073_737_728;
@@ -186,7 +187,7 @@ pub fn set_up(settings: Settings, row: Row) -> SetUp
             q: 0,
             n: 0,
         };
-        let nobody = [stations::NOBODY; 64];
+        let nobody = [zeros::NOBODY; 64];
         let state = stations::fresh(none, nobody);
         return SetUp { verdict, state };
     }

@@ -11,10 +11,10 @@ use crate::Segment;
 use crate::Slot;
 use crate::State;
 use crate::Stepped;
-use crate::beginning;
 use crate::disciplines;
 use crate::sorts;
 use crate::waiting;
+use crate::zeros;
 use window::Side;
 use window::Window;
 ghost use Prim.Native.Nat.{ℕ, _+_, _<_, _≤_};
@@ -25,7 +25,7 @@ ghost use Rattle.window.specs.Splitting.{firstWindow};
 ghost use Rattle.rules.specs.Lists.{keep};
 ghost use Rattle.rules.specs.SetUp.{disciplineOf};
 ghost use Rattle.rules.specs.Probe.{probe};
-ghost use Rattle.bus.specs.State.{form, noRound, noContention, queueAt};
+ghost use Rattle.bus.specs.State.{form, noContention, queueAt};
 ghost use Rattle.bus.specs.Coded.{standing, stepResult};
 ghost use Rattle.bus.specs.Parts.{Sent, transmitsAt, nextTransmitter, answerTo, collidedAt, unheardAt, wonAt, roundAfter, splitAt, onward, segmentWith, noContenders, contenderAt, probed, withQueue, queueForm, stays, openOf};
 
@@ -197,18 +197,8 @@ fn collided(g: Segment, drops: u64) -> Probed
 fn ended(g: Segment, clock: Slot, sent: u64, round: Round) -> Segment
     ensures { λ r. ⌜ r ≡ segmentWith g (clock .0) sent round noContention noContenders ⌝ }
 {
-    let nothing = Window {
-        start: 0,
-        size: 0,
-        side: Side::Left,
-    };
-    let contention = Contention {
-        begun: false,
-        window: nothing,
-        tied: false,
-        tie: 0,
-    };
-    let contenders = [beginning::NO_CONTENDER; 64];
+    let contention = zeros::NO_CONTENTION;
+    let contenders = [zeros::NO_CONTENDER; 64];
     let mut next = g;
     next.clock = clock;
     next.sent = sent;
@@ -245,8 +235,7 @@ fn unheard(g: Segment, drops: u64) -> Probed
         }
         Side::Right => {
             let clock = sorts::later(g.clock, 1);
-            let round = no_winner();
-            let segment = ended(g, clock, g.sent, round);
+            let segment = ended(g, clock, g.sent, zeros::NO_ROUND);
             let answer = unsent(g, drops, IDLE, true);
             Probed {
                 answer,
@@ -254,16 +243,6 @@ fn unheard(g: Segment, drops: u64) -> Probed
                 winner: 0,
             }
         }
-    }
-}
-
-// 'no last winner'
-fn no_winner() -> Round
-    ensures { λ r. ⌜ r ≡ noRound ⌝ }
-{
-    Round {
-        won: false,
-        last: Capability(0),
     }
 }
 
@@ -282,7 +261,7 @@ fn round_after(discipline: u32, capability: Capability) -> Round
     ensures { λ r. ⌜ r ≡ roundAfter (disciplineOf discipline) capability ⌝ }
 {
     if discipline < disciplines::RTVC {
-        return no_winner();
+        return zeros::NO_ROUND;
     }
     last_winner(capability)
 }

@@ -14,6 +14,7 @@ use crate::merging;
 use crate::sorts;
 use crate::stations;
 use crate::waiting;
+use crate::zeros;
 use rules::Packet;
 use window::Side;
 use window::Window;
@@ -201,10 +202,10 @@ fn stations_stand(g: Segment, queues: Queues) -> bool
 fn nobody_at(l: Listed, c: Contender, queue: Queue) -> bool
     ensures { λ r. ⌜ r ≡ nobodyTest l c queue ⌝ }
 {
-    if !sorts::same_address(l.address, stations::NOBODY.address) {
+    if !sorts::same_address(l.address, zeros::NOBODY.address) {
         return false;
     }
-    if !sorts::same_capability(l.capability, stations::NOBODY.capability) {
+    if !sorts::same_capability(l.capability, zeros::NOBODY.capability) {
         return false;
     }
     if queue.length != 0 {

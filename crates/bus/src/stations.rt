@@ -1,21 +1,16 @@
 // The stations of a set-up: refusals 2 to 6 of its numbers, then 7 to 10 of each station in turn; and a station by its address.
 use crate::Address;
 use crate::Capability;
-use crate::Contender;
-use crate::Contention;
 use crate::Listed;
 use crate::Queues;
-use crate::Round;
 use crate::Segment;
 use crate::Settings;
 use crate::Slot;
 use crate::State;
 use crate::disciplines;
 use crate::sorts;
-use crate::waiting;
+use crate::zeros;
 use rules::Verdict;
-use window::Side;
-use window::Window;
 ghost use Prim.Native.Nat.{_<_, _≤_, min};
 ghost use mathlib.Core.Path.{_≡_};
 ghost use mathlib.Core.Bool.{_||_, cond};
@@ -39,12 +34,6 @@ const MOST_SPACE: u32 = 65_536;
 
 // 'laxity step q: RTDG: 1 to 65,535'
 const MOST_STEP: u32 = 65_535;
-
-// A place that no station fills.
-pub const NOBODY: Listed = Listed {
-    address: Address(0),
-    capability: Capability(0),
-};
 
 fn space_outside(space: u32) -> bool
     ensures { λ r. ⌜ r ≡ outside least-space most-space space ⌝ }
@@ -206,7 +195,7 @@ pub fn up_to(stations: [Listed; 64], n: usize) -> [Listed; 64]
     requires { ⌜ n ≤ 64 ⌝ }
     ensures { λ r. ⌜ r ≡ row 64 (λ i. cond (ltb i n) (getD stations i nobody) nobody) ⌝ }
 {
-    let mut listed = [NOBODY; 64];
+    let mut listed = [zeros::NOBODY; 64];
     for i in 0..n {
         listed[i] = stations[i];
     }
@@ -217,29 +206,9 @@ pub fn up_to(stations: [Listed; 64], n: usize) -> [Listed; 64]
 pub fn fresh(settings: Settings, listed: [Listed; 64]) -> State
     ensures { λ r. ⌜ r ≡ freshState settings listed ⌝ }
 {
-    let nothing = Window {
-        start: 0,
-        size: 0,
-        side: Side::Left,
-    };
-    let contention = Contention {
-        begun: false,
-        window: nothing,
-        tied: false,
-        tie: 0,
-    };
-    let round = Round {
-        won: false,
-        last: Capability(0),
-    };
-    let contender = Contender {
-        contends: false,
-        parameter: 0,
-        packet: waiting::NO_PACKET,
-    };
-    let contenders = [contender; 64];
+    let contenders = [zeros::NO_CONTENDER; 64];
     let lengths = [0usize; 64];
-    let packets = [waiting::NO_PACKET; 1024];
+    let packets = [zeros::NO_PACKET; 1024];
     let segment = Segment {
         settings,
         listed,
@@ -247,8 +216,8 @@ pub fn fresh(settings: Settings, listed: [Listed; 64]) -> State
         admitted: 0,
         sent: 0,
         lost: 0,
-        round,
-        contention,
+        round: zeros::NO_ROUND,
+        contention: zeros::NO_CONTENTION,
         contenders,
     };
     let queues = Queues { lengths, packets };

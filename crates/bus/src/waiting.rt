@@ -4,6 +4,7 @@ use crate::Leaving;
 use crate::Queue;
 use crate::Queues;
 use crate::disciplines;
+use crate::zeros;
 use rules::Packet;
 ghost use Prim.Native.Nat.{_<_, _≤_};
 ghost use mathlib.Core.Path.{_≡_};
@@ -14,19 +15,12 @@ ghost use Rattle.rules.specs.SetUp.{disciplineOf};
 ghost use Rattle.rules.specs.Begin.{goes-before, choice};
 ghost use Rattle.bus.specs.Parts.{queueOf, withQueue, packetsOf, queueForm, stays, chosenForm};
 
-// A place that no packet fills.
-pub const NO_PACKET: Packet = Packet {
-    number: 0,
-    value: 0,
-    length: 0,
-};
-
 // The queue of station i, taken out of the row.
 pub fn queue_at(qs: Queues, i: usize) -> Queue
     requires { ⌜ i < 64 ⌝ }
     ensures { λ r. ⌜ r ≡ queueOf qs i ⌝ }
 {
-    let mut places = [NO_PACKET; 16];
+    let mut places = [zeros::NO_PACKET; 16];
     let first = 16 * i;
     for j in 0..16 {
         let at = first + j;
@@ -69,7 +63,7 @@ pub fn kept(queue: Queue, leaving: Leaving) -> Queue
     requires { ⌜ queue .length ≤ 16 ⌝ }
     ensures { λ r. ⌜ r ≡ queueForm (keep (stays leaving) (packetsOf queue)) ⌝ }
 {
-    let mut packets = [NO_PACKET; 16];
+    let mut packets = [zeros::NO_PACKET; 16];
     let mut filled = 0;
     let length = queue.length;
     for j in 0..length {
@@ -117,7 +111,7 @@ pub fn chosen(queue: Queue, discipline: u32) -> Chosen
     if length == 0 {
         return Chosen {
             found: false,
-            packet: NO_PACKET,
+            packet: zeros::NO_PACKET,
         };
     }
     let mut j = length - 1;

@@ -22,12 +22,8 @@ circuit zero capability h = absurd (omega arith)
 circuit (suc zero) capability h = absurd (omega arith)
 circuit (suc (suc n)) capability h = refl
 
-no-winner-requires : tie.Need-no-winner-requires
-no-winner-requires c κs = search needs
-
 returns : tie.Need-returns
-returns c =
-    let args = c .before .before .args in c .no-winner .ensures ∙ no-circuit (args .discipline) (args .capability) (c .before .if1 .taken)
+returns c = no-circuit (c .before .args .discipline) (c .before .args .capability) (c .if1 .taken)
 
 last-winner-requires : tie.Need-last-winner-requires
 last-winner-requires c κs = search needs
@@ -37,4 +33,4 @@ returns-2 c =
     let args = c .before .before .args in c .last-winner .ensures ∙ circuit (args .discipline) (args .capability) (c .before .if1 .left)
 
 pub round-after-spec : {M : Type 1} → statement M
-round-after-spec = tie.close (tie.spec no-winner-requires returns last-winner-requires returns-2)
+round-after-spec = tie.close (tie.spec returns last-winner-requires returns-2)

@@ -46,6 +46,36 @@ module _ (g : Segment) (i : ℕ) where
   in-time : (tied : Bool) → at .contends ≡ true → too-late ≡ false → g .contention .tied ≡ tied → lies tied ≡ transmitsAt g i
   in-time tied a b c = sym (and-true (lies tied)) ∙ by-tests true false tied a b c
 
+-- where the parameter has been read, the station contends and is in time
+module _ (c : tie.After-parameter-of) where
+  abbrev tried : tie.After-late
+  tried = c .before .before
+
+  abbrev start : tie.Start
+  start = tried .before .before .before .before .before .before .before .before
+
+  abbrev g : Segment
+  g = start .args .t1
+
+  abbrev i : ℕ
+  i = start .args .i
+
+  by-window : (tied : Bool) → g .contention .tied ≡ tied → lies g i tied ≡ transmitsAt g i
+  by-window tied =
+      in-time g i tied
+      (not-false (at g i .contends) (tried .before .before .if1 .left))
+      (sym (tried .late .ensures) ∙ c .before .if2 .left)
+
+  -- in the tie phase its parameter is the tied one, or not
+  by-tie :
+      {same : Bool} → g .contention .tied ≡ true → eqb (c .parameter-of .result) (g .contention .tie) ≡ same
+      → (same && inWindow (g .contention .window) (contenderAt g i .address)) ≡ transmitsAt g i
+  by-tie tied e =
+      ap
+      (λ (t : Bool). t && inWindow (g .contention .window) (contenderAt g i .address))
+      (sym e ∙ ap (λ n. eqb n (g .contention .tie)) (c .parameter-of .ensures))
+      ∙ by-window true tied
+
 mul-c : tie.Need-mul-c
 mul-c c = search needs
 
@@ -71,21 +101,10 @@ parameter-of-requires c κs = search needs
 returns-3 : tie.Need-returns-3
 returns-3 c =
     let tied = c .before .before in
-    let parameter = tied .before in
-    let late = parameter .before .before in
-    let args = late .before .before .before .before .before .before .before .before .args in
-    let g = args .t1 in
-    let tie = g .contention .tie in
-    ap
-    (λ (t : Bool). t && inWindow (g .contention .window) (contenderAt g (args .i) .address))
-    (sym (ne-eqb (parameter .parameter-of .result) tie (c .if4 .taken)) ∙ ap (λ n. eqb n tie) (parameter .parameter-of .ensures))
-    ∙ in-time
-    g
-    (args .i)
-    true
-    (not-false (at g (args .i) .contends) (late .before .before .if1 .left))
-    (sym (late .late .ensures) ∙ parameter .before .if2 .left)
+    by-tie
+    (tied .before)
     (tied .if3 .taken)
+    (ne-eqb (tied .before .parameter-of .result) (g (tied .before) .contention .tie) (c .if4 .taken))
 
 mul-l : tie.Need-mul-l
 mul-l c = search needs
@@ -101,26 +120,14 @@ in-window-requires c κs = search needs
 
 returns-4 : tie.Need-returns-4
 returns-4 c =
-    let number = c .before in
-    let same = number .before .before in
+    let same = c .before .before .before in
     let tied = same .before .before in
-    let parameter = tied .before in
-    let late = parameter .before .before in
-    let args = late .before .before .before .before .before .before .before .before .args in
-    let g = args .t1 in
-    let tie = g .contention .tie in
     c .in-window .ensures
-    ∙ ap (inWindow (g .contention .window)) (number .address-number .ensures)
-    ∙ ap
-    (λ (t : Bool). t && inWindow (g .contention .window) (contenderAt g (args .i) .address))
-    (sym (eq-eqb (parameter .parameter-of .result) tie (same .if4 .left)) ∙ ap (λ n. eqb n tie) (parameter .parameter-of .ensures))
-    ∙ in-time
-    g
-    (args .i)
-    true
-    (not-false (at g (args .i) .contends) (late .before .before .if1 .left))
-    (sym (late .late .ensures) ∙ parameter .before .if2 .left)
+    ∙ ap (inWindow (g (tied .before) .contention .window)) (c .before .address-number .ensures)
+    ∙ by-tie
+    (tied .before)
     (tied .if3 .taken)
+    (eq-eqb (tied .before .parameter-of .result) (g (tied .before) .contention .tie) (same .if4 .left))
 
 in-window-requires-2 : tie.Need-in-window-requires-2
 in-window-requires-2 c κs = search needs
@@ -128,19 +135,9 @@ in-window-requires-2 c κs = search needs
 returns-5 : tie.Need-returns-5
 returns-5 c =
     let untied = c .before in
-    let parameter = untied .before in
-    let late = parameter .before .before in
-    let args = late .before .before .before .before .before .before .before .before .args in
-    let g = args .t1 in
     c .in-window2 .ensures
-    ∙ ap (inWindow (g .contention .window)) (parameter .parameter-of .ensures)
-    ∙ in-time
-    g
-    (args .i)
-    false
-    (not-false (at g (args .i) .contends) (late .before .before .if1 .left))
-    (sym (late .late .ensures) ∙ parameter .before .if2 .left)
-    (untied .if3 .left)
+    ∙ ap (inWindow (g (untied .before) .contention .window)) (untied .before .parameter-of .ensures)
+    ∙ by-window (untied .before) false (untied .if3 .left)
 
 pub transmits-spec : {M : Type 1} → statement M
 transmits-spec =

@@ -21,9 +21,6 @@ enum-told-2 c = search needs
 later-requires : tie.Need-later-requires
 later-requires c κs = search needs
 
-no-winner-requires : tie.Need-no-winner-requires
-no-winner-requires c κs = search needs
-
 ended-requires : tie.Need-ended-requires
 ended-requires c κs = search needs
 
@@ -46,7 +43,6 @@ unheard-spec =
     unsent-requires
     enum-told-2
     later-requires
-    no-winner-requires
     ended-requires
     unsent-requires-2
     returns
