@@ -218,8 +218,8 @@ ended s clock sent round =
     record { segment = segmentWith (s .segment) clock sent round noContention noContenders; queues = s .queues }
 
 module _ (s : State) (r : Lent s) where
-  ended-held : {clock sent : ℕ} {round : Round} → Held (ended s clock sent round)
-  ended-held =
+  ended-held : (clock sent : ℕ) (round : Round) → Held (ended s clock sent round)
+  ended-held clock sent round =
       record {
         listed = r .held .listed;
         contenders = row-length most-stations (λ i. noContender);
@@ -227,8 +227,8 @@ module _ (s : State) (r : Lent s) where
         packets = r .held .packets;
       }
 
-  ended-padded : {clock sent : ℕ} {round : Round} → round-padded round ≡ true → Padded (ended s clock sent round)
-  ended-padded {clock} {sent} {round} z =
+  ended-padded : (clock sent : ℕ) (round : Round) → round-padded round ≡ true → Padded (ended s clock sent round)
+  ended-padded clock sent round z =
       record {
         discipline = r .zeros .discipline;
         queues = r .zeros .queues;
@@ -252,12 +252,15 @@ module _ (s : State) (r : Lent s) where
       to-form
       next
       (unwon (meaning s))
-      ended-held
-      (parts-padded next (ended-padded refl))
+      (ended-held later (s .segment .sent) noRound)
+      (parts-padded next (ended-padded later (s .segment .sent) noRound refl))
       (λ i. moved (meaning s) (stations i) (add-one (s .segment .clock .0) i) (s .segment .sent) none none)
     where
+      later : ℕ
+      later = s .segment .clock .0 + 1
+
       next : State
-      next = ended s (s .segment .clock .0 + 1) (s .segment .sent) noRound
+      next = ended s later (s .segment .sent) noRound
 
       withdraws : (j : ℕ) → j < most-stations → stationAt next j ≡ withdrawn (stationAt s j)
       withdraws j l =
@@ -302,10 +305,10 @@ module _ (s : State) (r : Lent s) where
         omega (arith, kept-length (stays (Sent (winner .packet .number))) (queueAt (s .queues) i))
 
     held : Held next
-    held = ended-held
+    held = ended-held clock (s .segment .sent + 1) round
 
     zeros : Padded next
-    zeros = ended-padded (round-zeros (meaning s .discipline) its-capability)
+    zeros = ended-padded clock (s .segment .sent + 1) round (round-zeros (meaning s .discipline) its-capability)
 
     left-is :
         (j : ℕ) → j < n s

@@ -313,11 +313,15 @@ unheardAt g drops Right =
       winner = 0;
     }
 
+-- a round in which a circuit has won
+abbrev pub wonRound : Capability → Round
+wonRound c = record { won = true; last = c }
+
 -- the round after a success: 'In RTVC the last winner is set.'
 abbrev pub roundAfter : Discipline → Capability → Round
 roundAfter PRI c = noRound
 roundAfter RTDG c = noRound
-roundAfter RTVC c = record { won = true; last = c }
+roundAfter RTVC c = wonRound c
 
 -- station i alone transmits
 abbrev pub wonAt : Segment → ℕ → ℕ → Probed

@@ -27,7 +27,7 @@ ghost use Rattle.rules.specs.SetUp.{disciplineOf};
 ghost use Rattle.rules.specs.Probe.{probe};
 ghost use Rattle.bus.specs.State.{form, noContention, queueAt};
 ghost use Rattle.bus.specs.Coded.{standing, stepResult};
-ghost use Rattle.bus.specs.Parts.{Sent, transmitsAt, nextTransmitter, answerTo, collidedAt, unheardAt, wonAt, roundAfter, splitAt, onward, segmentWith, noContenders, contenderAt, probed, withQueue, queueForm, stays, openOf};
+ghost use Rattle.bus.specs.Parts.{Sent, transmitsAt, nextTransmitter, answerTo, collidedAt, unheardAt, wonAt, roundAfter, wonRound, splitAt, onward, segmentWith, noContenders, contenderAt, probed, withQueue, queueForm, stays, openOf};
 
 // 'event 1 (0 idle, 1 collision, 2 success)'
 pub const IDLE: u32 = 0;
@@ -248,7 +248,7 @@ fn unheard(g: Segment, drops: u64) -> Probed
 
 // A circuit has won in this round.
 fn last_winner(capability: Capability) -> Round
-    ensures { λ r. ⌜ r ≡ record { won = true; last = capability } ⌝ }
+    ensures { λ r. ⌜ r ≡ wonRound capability ⌝ }
 {
     Round {
         won: true,
