@@ -109,7 +109,7 @@ pub enum Leaving {
 }
 
 // Which of their numbers two stations are compared by.
-pub enum Compared {
+enum Compared {
     Addresses,
     Capabilities,
 }
