@@ -19,8 +19,8 @@ abbrev μ-loop : tie.MeasureT-loop
 turn :
     (c : tie.After-same Inv-loop μ-loop) (t : Bool) → c .same .result ≡ t
     → let at = c .before .before .before in
-      let from = sharedFrom (at .before .before .args .compared) (at .before .before .args .t2) (at .before .before .args .i) in
-      from 0 ≡ (t || from (at .loop .e + 1))
+    let from = sharedFrom (at .before .before .args .compared) (at .before .before .args .t2) (at .before .before .args .i) in
+    from 0 ≡ (t || from (at .loop .e + 1))
 turn c t told =
     let at = c .before .before .before in
     let start = at .before .before in

@@ -28,7 +28,9 @@ not-2 c row = tested _ _ refl (le-ltb _ _ (c .if1 .left))
 not-3 : (c : tie.Else2) (row : List Asked) → let g = c .before .before .before .before .args .settings in but g row 2 ≡ but g row 0
 not-3 c row = tested _ _ (c .before .space-outside .ensures) (c .if2 .left) ∙ not-2 (c .before .before) row
 
-not-4 : (c : tie.Else3) (row : List Asked) → let g = c .before .before .before .before .before .before .args .settings in but g row 3 ≡ but g row 0
+not-4 :
+    (c : tie.Else3) (row : List Asked)
+    → let g = c .before .before .before .before .before .before .args .settings in but g row 3 ≡ but g row 0
 not-4 c row = tested _ _ (c .before .space-outside2 .ensures) (c .if3 .left) ∙ not-3 (c .before .before) row
 
 not-5 :
@@ -40,8 +42,8 @@ not-5 c row = tested _ _ (c .before .step-outside .ensures) (c .if4 .left) ∙ n
 last :
     (c : tie.After-count-outside) (t : Bool) (row : List Asked)
     → let a = c .before .before .before .before .before .before .before .before .before .args in
-      length row ≡ min (a .count) most-stations → c .count-outside .result ≡ t
-      → verdict t (fault 6 0) fine ≡ but (a .settings) row 0
+    length row ≡ min (a .count) most-stations → c .count-outside .result ≡ t
+    → verdict t (fault 6 0) fine ≡ but (a .settings) row 0
 last c t row e told =
     let a = c .before .before .before .before .before .before .before .before .before .args in
     tested _ _ (c .count-outside .ensures ∙ ap (λ k. outside 1 most-stations (a .settings .n) || ltb k (a .settings .n)) (sym e)) told

@@ -20,7 +20,8 @@ abbrev but : tie.Start → ℕ → Verdict
 but c k =
     let i = c .args .i in
     let stations = c .args .t2 in
-    firstOf fine (drop k (stationTests (requestWith (c .args .settings) []) i (map askedOf (take i stations)) (askedOf (getD stations i nobody))))
+    let r = requestWith (c .args .settings) [] in
+    firstOf fine (drop k (stationTests r i (map askedOf (take i stations)) (askedOf (getD stations i nobody))))
 
 -- it decides where 7 fails, where 7 and 8 fail, where 7 to 9 fail
 not-7 : (c : tie.Else1) → let start = c .before .before .before in but start 1 ≡ but start 0
@@ -36,7 +37,7 @@ not-9 c = tested _ _ (c .before .capability-outside .ensures) (c .if3 .left) ∙
 last :
     (c : tie.After-earlier-same2) (t : Bool) → c .earlier-same2 .result ≡ t
     → let start = c .before .before .before .before .before .before .before .before .before .before in
-      verdict t (fault 10 (start .args .i)) fine ≡ but start 0
+    verdict t (fault 10 (start .args .i)) fine ≡ but start 0
 last c t told =
     tested _ _ (sym (ap₂ _&&_ (eq-eqb _ _ (c .before .if4 .left)) (sym (c .earlier-same2 .ensures)))) told
     ∙ not-9 (c .before .before .before)
