@@ -14,7 +14,7 @@ use lib.Dec.{leb, ltb, eqb}
 use lib.ListN.{length, getD, take, length-map, length-take, List·getD-map, List·getD-eq-default}
 use lib.Seq.{slice, slice-cons, slice-empty, take-suc, take-all, take-take, getD-take, length-take-le}
 use borrow.Author.Tests.{leb-true, leb-false, ltb-true, ltb-false, eqb-true, le-leb, lt-leb, lt-ltb, le-ltb, ne-eqb}
-use Rattle.rules.specs.Lists.{each-of, has, outside, firstOf, verdict}
+use Rattle.rules.specs.Lists.{each-of, outside, firstOf, verdict}
 use Rattle.rules.specs.declared.Verdict.{Verdict}
 use Rattle.rules.specs.Bus.{most-stations, least-space, most-space, most-step, places, RTDG, code, Station, Bus, nothing}
 use Rattle.rules.specs.SetUp.{Asked, Request, fine, settingsTests, stationTests, rowTests, setUpVerdict, freshStation, freshBus}
@@ -24,7 +24,7 @@ use Rattle.rules.proofs.Laws.{and-true}
 use Rattle.rules.proofs.Tests.{below, out-of, by-case, equal, negated, one-of, inside, Tried, done, _then_, NoneHolds, none-held}
 use Rattle.bus.specs.State.{Settings, Listed, State, noPacket, noContender, noContention, noRound, nobody, row, stationOr, listedForm, contenderForm, form, stationAt, stationsOf, meaning}
 use Rattle.bus.specs.Coded.{SetUp, askedOf, requestWith, codedSetUp, setUpResult}
-use Rattle.bus.specs.Parts.{freshState}
+use Rattle.bus.specs.Parts.{Compared, numberOf, shared, freshState}
 use Rattle.bus.proofs.Listed.{the-row}
 use Rattle.bus.proofs.Rows.{values-length, values-map, values-take, row-same}
 use Rattle.bus.proofs.Form.{code-discipline}
@@ -48,34 +48,31 @@ outside-above least most n h = simp (le-leb least n h) (go (leb n most) refl)
 pub stations-count : (stations : List Listed) (vs : List Val) → Is (Array the-row 64) stations vs → length stations ≡ 64
 stations-count stations vs owned = owned .1 .0 .1
 
--- a number of each station
-abbrev pub numbered : (Asked → ℕ) → List Listed → List ℕ
-numbered f stations = map f (map askedOf stations)
+-- whether one of the stations from e to i has the number of station i
+abbrev pub sharedFrom : Compared → List Listed → ℕ → ℕ → Bool
+sharedFrom compared stations i e = shared compared (getD stations i nobody) (slice e i stations)
 
--- one turn of the search for a number among the stations from e to i
+-- one turn of the search for it; t is whether station e has it
 pub earlier-turn :
-    (f : Asked → ℕ) (stations : List Listed) (n e i : ℕ) (t : Bool) → length stations ≡ 64 → e < i → i < 64
-    → eqb n (f (askedOf (getD stations e nobody))) ≡ t
-    → has n (numbered f (slice e i stations)) ≡ (t || has n (numbered f (slice (e + 1) i stations)))
-earlier-turn f stations n e i t count h l same =
-    ap (λ xs. has n (numbered f xs)) (slice-cons e i stations nobody h (omega arith))
-    ∙ ap₂ (λ s k. s || has n (numbered f (slice k i stations))) same (sym (add-one e))
+    (compared : Compared) (stations : List Listed) (i e : ℕ) (t : Bool) → length stations ≡ 64 → e < i → i < 64
+    → t ≡ eqb (numberOf compared (askedOf (getD stations i nobody))) (numberOf compared (askedOf (getD stations e nobody)))
+    → sharedFrom compared stations i e ≡ (t || sharedFrom compared stations i (e + 1))
+earlier-turn compared stations i e t count h l same =
+    ap (shared compared (getD stations i nobody)) (slice-cons e i stations nobody h (omega arith))
+    ∙ ap₂ (λ b k. b || sharedFrom compared stations i k) (sym same) (sym (add-one e))
 
 -- and its end
 pub earlier-end :
-    (f : Asked → ℕ) (stations : List Listed) (n e i : ℕ) → e ≤ i → i ≤ e → has n (numbered f (slice e i stations)) ≡ false
-earlier-end f stations n e i h l =
+    (compared : Compared) (stations : List Listed) (i e : ℕ) → e ≤ i → i ≤ e → sharedFrom compared stations i e ≡ false
+earlier-end compared stations i e h l =
     let s : e ≡ i = omega arith in
-    ap (λ k. has n (numbered f (slice k i stations))) s ∙ ap (λ xs. has n (numbered f xs)) (slice-empty i stations)
+    ap (sharedFrom compared stations i) s ∙ ap (shared compared (getD stations i nobody)) (slice-empty i stations)
 
 -- ---- tests in turn
 
--- A test that holds gives its verdict, and one that fails leaves it to the next; s is what the code answers to the test b.
-pub held : {a v : Verdict} {s b : Bool} (rest : Verdict) → s ≡ b → s ≡ true → a ≡ v → a ≡ verdict b v rest
-held {a} {v} rest p h e = e ∙ ap (λ t. verdict t v rest) (sym h ∙ p)
-
-pub past : {a rest : Verdict} {s b : Bool} (v : Verdict) → s ≡ b → s ≡ false → a ≡ rest → a ≡ verdict b v rest
-past {a} {rest} v p h e = e ∙ ap (λ t. verdict t v rest) (sym h ∙ p)
+-- A test that holds gives its verdict, and one that fails leaves it to the rest; s is what the code answers to the test b.
+pub tested : {s b t : Bool} (v rest : Verdict) → s ≡ b → s ≡ t → verdict t v rest ≡ verdict b v rest
+tested v rest p h = ap (λ t. verdict t v rest) (sym h ∙ p)
 
 -- Where every refusal has a number from 1 on: further tests decide if the first ones give 0.
 in-turn :

@@ -10,21 +10,23 @@ use Rattle.window.specs.declared.Side.{Side}
 use Rattle.window.specs.declared.Side.the-variants.{Left, Right}
 use Rattle.window.specs.declared.Window.{Window}
 use Rattle.window.specs.Splitting.{firstWindow, leftHalf, movedRight, placed}
-use Rattle.rules.specs.Lists.{each-of, some-of, total, distinct}
+use Rattle.rules.specs.Lists.{each-of, some-of, has, total, distinct}
 use Rattle.rules.specs.Bus as Machine
 use Rattle.rules.specs.Bus.{places, Discipline, PRI, RTDG, RTVC, late}
 use Rattle.rules.specs.declared.Verdict.{Verdict}
-use Rattle.rules.specs.SetUp.{disciplineOf}
+use Rattle.rules.specs.SetUp.{Asked, disciplineOf}
 use Rattle.rules.specs.Standing.{value-fits, length-fits, rising, same-packet}
 use Rattle.rules.specs.Begin.{sits-out, choice}
 use Rattle.rules.specs.Admission.{Arrival, withPacket}
 use Rattle.rules.specs.Probe as Probe
 use Rattle.rules.specs.Probe.{lies-in, able, contenderOf, idle, collision, success, parameter-phase, tie-phase}
 use Rattle.bus.specs.State.{Slot, Address, Capability, Settings, Listed, Contender, Contention, Round, Segment, Queues, State, Packet, noPacket, noContender, noContention, noRound, nobody, placesAt, queueAt, lastOf, tieOf, meaning, form, row, no-packet, queue-padded, contender-padded, round-padded, contention-padded, each-place}
-use Rattle.bus.specs.Coded.{Admission, Answer}
+use Rattle.bus.specs.Coded.{Admission, Answer, askedOf}
 pub use Rattle.bus.specs.declared.Queue.{Queue}
 pub use Rattle.bus.specs.declared.Leaving.{Leaving}
 pub use Rattle.bus.specs.declared.Leaving.the-variants.{Late, Sent}
+pub use Rattle.bus.specs.declared.Compared.{Compared}
+pub use Rattle.bus.specs.declared.Compared.the-variants.{Addresses, Capabilities}
 pub use Rattle.bus.specs.declared.Chosen.{Chosen}
 pub use Rattle.bus.specs.declared.Begun.{Begun}
 pub use Rattle.bus.specs.declared.Probed.{Probed}
@@ -84,6 +86,17 @@ firstPlace test i (suc k) = cond (test i) i (firstPlace test (suc i) k)
 -- no station contends
 abbrev pub noContenders : List Contender
 noContenders = row 64 (λ i. noContender)
+
+-- ---- the stations of a set-up
+
+-- the number that stations are compared by
+abbrev pub numberOf : Compared → Asked → ℕ
+numberOf Addresses s = s .address
+numberOf Capabilities s = s .capability
+
+-- whether one of these stations has that number of s
+abbrev pub shared : Compared → Listed → List Listed → Bool
+shared compared s stations = has (numberOf compared (askedOf s)) (map (numberOf compared) (map askedOf stations))
 
 -- ---- the state that a set-up gives
 

@@ -109,6 +109,12 @@ pub enum Leaving {
     Sent(u64),
 }
 
+// Which of their numbers two stations are compared by.
+enum Compared {
+    Addresses,
+    Capabilities,
+}
+
 // The packet that a station offers, if it has one.
 pub struct Chosen {
     pub found: bool,

@@ -1,6 +1,7 @@
 // The stations of a set-up: refusals 2 to 6 of its numbers, then 7 to 10 of each station in turn; and a station by its address.
 use crate::Address;
 use crate::Capability;
+use crate::Compared;
 use crate::Listed;
 use crate::Queues;
 use crate::Segment;
@@ -17,12 +18,12 @@ ghost use mathlib.Core.Bool.{_||_, cond};
 ghost use mathlib.Core.List.{List, [], map};
 ghost use lib.Dec.{ltb, eqb};
 ghost use lib.ListN.{length, getD, take};
-ghost use Rattle.rules.specs.Lists.{has, outside, firstOf};
+ghost use Rattle.rules.specs.Lists.{outside, firstOf};
 ghost use Rattle.rules.specs.Bus.{most-stations, least-space, most-space};
 ghost use Rattle.rules.specs.SetUp.{Asked, fine, step-outside, capability-outside, settingsTests, stationTests, rowTests, setUpVerdict};
 ghost use Rattle.bus.specs.State.{nobody, row};
 ghost use Rattle.bus.specs.Coded.{askedOf, requestWith};
-ghost use Rattle.bus.specs.Parts.{firstPlace, freshState};
+ghost use Rattle.bus.specs.Parts.{numberOf, shared, firstPlace, freshState};
 
 // 'stations N: 1 to 64'
 const MOST_STATIONS: usize = 64;
@@ -98,32 +99,25 @@ fn settings_verdict(settings: Settings, count: usize) -> Verdict
     fault(0, 0)
 }
 
-// Whether an earlier station has the address of station i.
-fn earlier_address(stations: [Listed; 64], i: usize) -> bool
-    requires { ⌜ i < 64 ⌝ }
-    ensures { λ r. ⌜ r ≡ has (askedOf (getD stations i nobody) .address) (map (λ e. e .address) (map askedOf (take i stations))) ⌝ }
+// Whether two stations have one address, or one capability.
+fn same(compared: Compared, s: Listed, t: Listed) -> bool
+    ensures { λ r. ⌜ r ≡ eqb (numberOf compared (askedOf s)) (numberOf compared (askedOf t)) ⌝ }
 {
-    let s = stations[i];
-    let address = s.address;
-    for e in 0..i {
-        let t = stations[e];
-        if sorts::same_address(address, t.address) {
-            return true;
-        }
+    match compared {
+        Compared::Addresses => sorts::same_address(s.address, t.address),
+        Compared::Capabilities => sorts::same_capability(s.capability, t.capability),
     }
-    false
 }
 
-// Whether an earlier station has the capability of station i.
-fn earlier_capability(stations: [Listed; 64], i: usize) -> bool
+// Whether an earlier station has the address of station i, or its capability.
+fn earlier_same(compared: Compared, stations: [Listed; 64], i: usize) -> bool
     requires { ⌜ i < 64 ⌝ }
-    ensures { λ r. ⌜ r ≡ has (askedOf (getD stations i nobody) .capability) (map (λ e. e .capability) (map askedOf (take i stations))) ⌝ }
+    ensures { λ r. ⌜ r ≡ shared compared (getD stations i nobody) (take i stations) ⌝ }
 {
     let s = stations[i];
-    let capability = s.capability;
     for e in 0..i {
         let t = stations[e];
-        if sorts::same_capability(capability, t.capability) {
+        if same(compared, s, t) {
             return true;
         }
     }
@@ -149,7 +143,7 @@ fn station_verdict(settings: Settings, stations: [Listed; 64], i: usize) -> Verd
     if sorts::address_past(settings.a, s.address) {
         return fault(7, i);
     }
-    if earlier_address(stations, i) {
+    if earlier_same(Compared::Addresses, stations, i) {
         return fault(8, i);
     }
     if capability_outside(settings.discipline, settings.d, s.capability) {
@@ -158,7 +152,7 @@ fn station_verdict(settings: Settings, stations: [Listed; 64], i: usize) -> Verd
     if settings.discipline != disciplines::RTVC {
         return fault(0, 0);
     }
-    if earlier_capability(stations, i) {
+    if earlier_same(Compared::Capabilities, stations, i) {
         return fault(10, i);
     }
     fault(0, 0)

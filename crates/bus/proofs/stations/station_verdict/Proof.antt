@@ -1,11 +1,46 @@
 -- `station_verdict` meets its contract: the tests 7 to 10, in their order. Assumes nothing.
-use mathlib.Core.Path.{refl, sym, ap₂}
-use mathlib.Core.Bool.{_&&_}
-use Rattle.bus.proofs.SettingUp.{held, past}
+use Prim.Native.Nat.{ℕ}
+use mathlib.Core.Path.{_≡_, refl, sym, ap₂, _∙_}
+use mathlib.Core.Bool.{Bool, true, false, _&&_}
+use mathlib.Core.List.{[], map}
+use lib.ListN.{getD, take, drop}
 use borrow.Author.Tests.{eq-eqb, ne-eqb}
 use borrow.Author.Needs.{needs}
+use Rattle.rules.specs.Lists.{firstOf, verdict}
+use Rattle.rules.specs.declared.Verdict.{Verdict}
+use Rattle.rules.specs.SetUp.{fine, fault, stationTests}
+use Rattle.bus.specs.State.{nobody}
+use Rattle.bus.specs.Coded.{askedOf, requestWith}
+use Rattle.bus.proofs.SettingUp.{tested}
 use Rattle.bus.proofs.stations.station_verdict.Statement.{statement}
 use Rattle.bus.proofs.stations.station_verdict.Tie as tie
+
+-- the verdict of all tests but the first k
+abbrev but : tie.Start → ℕ → Verdict
+but c k =
+    let i = c .args .i in
+    let stations = c .args .t2 in
+    let r = requestWith (c .args .settings) [] in
+    firstOf fine (drop k (stationTests r i (map askedOf (take i stations)) (askedOf (getD stations i nobody))))
+
+-- it decides where 7 fails, where 7 and 8 fail, where 7 to 9 fail
+not-7 : (c : tie.Else1) → let start = c .before .before .before in but start 1 ≡ but start 0
+not-7 c = tested _ _ (c .before .address-past .ensures) (c .if1 .left)
+
+not-8 : (c : tie.Else2) → let start = c .before .before .before .before .before in but start 2 ≡ but start 0
+not-8 c = tested _ _ (c .before .earlier-same .ensures) (c .if2 .left) ∙ not-7 (c .before .before)
+
+not-9 : (c : tie.Else3) → let start = c .before .before .before .before .before .before .before in but start 3 ≡ but start 0
+not-9 c = tested _ _ (c .before .capability-outside .ensures) (c .if3 .left) ∙ not-8 (c .before .before)
+
+-- the test of 10 in RTVC
+last :
+    (c : tie.After-earlier-same2) (t : Bool) → c .earlier-same2 .result ≡ t
+    → let start = c .before .before .before .before .before .before .before .before .before .before in
+    verdict t (fault 10 (start .args .i)) fine ≡ but start 0
+last c t told =
+    tested _ _ (sym (ap₂ _&&_ (eq-eqb _ _ (c .before .if4 .left)) (sym (c .earlier-same2 .ensures)))) told
+    ∙ not-9 (c .before .before .before)
 
 mul-s : tie.Need-mul-s
 mul-s c = search needs
@@ -20,23 +55,18 @@ fault-requires : tie.Need-fault-requires
 fault-requires c κs = search needs
 
 returns : tie.Need-returns
-returns c = let one = c .before in held _ (one .before .address-past .ensures) (one .if1 .taken) (c .fault .ensures)
+returns c = let at = c .before in c .fault .ensures ∙ tested _ _ (at .before .address-past .ensures) (at .if1 .taken)
 
-earlier-address-requires : tie.Need-earlier-address-requires
-earlier-address-requires c κs = search needs
+earlier-same-requires : tie.Need-earlier-same-requires
+earlier-same-requires c κs = search needs
 
 fault-requires-2 : tie.Need-fault-requires-2
 fault-requires-2 c κs = search needs
 
 returns-2 : tie.Need-returns-2
 returns-2 c =
-    let two = c .before in
-    let one = two .before .before in
-    past
-    _
-    (one .before .address-past .ensures)
-    (one .if1 .left)
-    (held _ (two .before .earlier-address .ensures) (two .if2 .taken) (c .fault2 .ensures))
+    let at = c .before in
+    c .fault2 .ensures ∙ tested _ _ (at .before .earlier-same .ensures) (at .if2 .taken) ∙ not-7 (at .before .before)
 
 capability-outside-requires : tie.Need-capability-outside-requires
 capability-outside-requires c κs = search needs
@@ -46,74 +76,31 @@ fault-requires-3 c κs = search needs
 
 returns-3 : tie.Need-returns-3
 returns-3 c =
-    let three = c .before in
-    let two = three .before .before in
-    let one = two .before .before in
-    past
-    _
-    (one .before .address-past .ensures)
-    (one .if1 .left)
-    (past _ (two .before .earlier-address .ensures) (two .if2 .left)
-    (held _ (three .before .capability-outside .ensures) (three .if3 .taken)
-    (c .fault3 .ensures)))
+    let at = c .before in
+    c .fault3 .ensures ∙ tested _ _ (at .before .capability-outside .ensures) (at .if3 .taken) ∙ not-8 (at .before .before)
 
 fault-requires-4 : tie.Need-fault-requires-4
 fault-requires-4 c κs = search needs
 
 returns-4 : tie.Need-returns-4
 returns-4 c =
-    let four = c .before in
-    let three = four .before .before in
-    let two = three .before .before in
-    let one = two .before .before in
-    past
-    _
-    (one .before .address-past .ensures)
-    (one .if1 .left)
-    (past _ (two .before .earlier-address .ensures) (two .if2 .left)
-    (past _ (three .before .capability-outside .ensures) (three .if3 .left)
-    (past _ (sym (ap₂ _&&_ (ne-eqb _ _ (four .if4 .taken)) refl)) refl (c .fault4 .ensures))))
+    let at = c .before in
+    c .fault4 .ensures ∙ tested _ _ (sym (ap₂ _&&_ (ne-eqb _ _ (at .if4 .taken)) refl)) refl ∙ not-9 (at .before .before)
 
-earlier-capability-requires : tie.Need-earlier-capability-requires
-earlier-capability-requires c κs = search needs
+earlier-same-requires-2 : tie.Need-earlier-same-requires-2
+earlier-same-requires-2 c κs = search needs
 
 fault-requires-5 : tie.Need-fault-requires-5
 fault-requires-5 c κs = search needs
 
 returns-5 : tie.Need-returns-5
-returns-5 c =
-    let five = c .before in
-    let four = five .before .before in
-    let three = four .before .before in
-    let two = three .before .before in
-    let one = two .before .before in
-    past
-    _
-    (one .before .address-past .ensures)
-    (one .if1 .left)
-    (past _ (two .before .earlier-address .ensures) (two .if2 .left)
-    (past _ (three .before .capability-outside .ensures) (three .if3 .left)
-    (held _ (sym (ap₂ _&&_ (eq-eqb _ _ (four .if4 .left)) (sym (five .before .earlier-capability .ensures)))) (five .if5 .taken)
-    (c .fault5 .ensures))))
+returns-5 c = c .fault5 .ensures ∙ last (c .before .before) true (c .before .if5 .taken)
 
 fault-requires-6 : tie.Need-fault-requires-6
 fault-requires-6 c κs = search needs
 
 returns-6 : tie.Need-returns-6
-returns-6 c =
-    let five = c .before in
-    let four = five .before .before in
-    let three = four .before .before in
-    let two = three .before .before in
-    let one = two .before .before in
-    past
-    _
-    (one .before .address-past .ensures)
-    (one .if1 .left)
-    (past _ (two .before .earlier-address .ensures) (two .if2 .left)
-    (past _ (three .before .capability-outside .ensures) (three .if3 .left)
-    (past _ (sym (ap₂ _&&_ (eq-eqb _ _ (four .if4 .left)) (sym (five .before .earlier-capability .ensures)))) (five .if5 .left)
-    (c .fault6 .ensures))))
+returns-6 c = c .fault6 .ensures ∙ last (c .before .before) false (c .before .if5 .left)
 
 pub station-verdict-spec : {M : Type 1} → statement M
 station-verdict-spec =
@@ -124,7 +111,7 @@ station-verdict-spec =
     address-past-requires
     fault-requires
     returns
-    earlier-address-requires
+    earlier-same-requires
     fault-requires-2
     returns-2
     capability-outside-requires
@@ -132,7 +119,7 @@ station-verdict-spec =
     returns-3
     fault-requires-4
     returns-4
-    earlier-capability-requires
+    earlier-same-requires-2
     fault-requires-5
     returns-5
     fault-requires-6
