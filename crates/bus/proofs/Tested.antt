@@ -24,6 +24,14 @@ denied {answer} e h = sym e ∙ not-true answer h
 pub granted : {answer test : Bool} → answer ≡ test → not answer ≡ false → test ≡ true
 granted {answer} e h = sym e ∙ not-false answer h
 
+-- ---- a test in turn: what is told where it is passed, and where it is failed
+
+pub passed : {told test rest : Bool} → told ≡ (test && rest) → test ≡ true → told ≡ rest
+passed {rest = rest} e h = e ∙ ap (λ t. t && rest) h
+
+pub failed : {told test : Bool} (rest : Bool) → told ≡ (test && rest) → test ≡ false → told ≡ false
+failed rest e h = e ∙ ap (λ t. t && rest) h
+
 -- ---- loops
 
 -- the packets of a queue that a function is handed stand in its places
