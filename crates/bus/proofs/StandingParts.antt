@@ -513,6 +513,7 @@ standing-parts s h e =
     let last = last-stands (meaning s .discipline) (stationsOf s) (meaning s .last) in
     let contention = contention-padded (s .segment .contention) in
     let window = contention-stands (meaning s) (meaning s .contention) in
+    let begun = contentionSound (s .segment .settings) (s .segment .contention) in
     ap₂
     (λ d v. d && zeros && past && round && contention && (v && clock && admitted && counts && stand && apart && last && window))
     (both .0)
@@ -537,7 +538,4 @@ standing-parts s h e =
     (λ r c. clock && (admitted && (r && (c && (sound && counts′ && apart)))))
     (sym (round-same s h few))
     (sym (contention-same s))
-    ∙ ap
-    (λ ns. clock && (admitted && (roundSound (s .segment) && (contentionSound (s .segment .settings) (s .segment .contention)
-    && (sound && counts′ && distinct ns)))))
-    (numbers-same s 0 n)
+    ∙ ap (λ ns. clock && (admitted && (roundSound (s .segment) && (begun && (sound && counts′ && distinct ns))))) (numbers-same s 0 n)

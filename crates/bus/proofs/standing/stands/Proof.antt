@@ -29,19 +29,18 @@ few c = few-tried (lent c) (asked c)
 after-set-up : (c : tie.Else1) → standing (lent c) ≡ (leb (lent c .segment .clock .0) clock-end && from-admitted (lent c))
 after-set-up c = standing-parts (lent c) (state-held (lent c) _ (c .before .before .before .before .before .before .good .0)) (asked c)
 
-after-clock : (c : tie.Else2) → standing (lent (c .before .before)) ≡ from-admitted (lent (c .before .before))
+after-clock : (c : tie.Else2) → let s = lent (c .before .before) in standing s ≡ from-admitted s
 after-clock c =
     let clock = lent (c .before .before) .segment .clock .0 in
     let in-time = ltb-false clock-end clock (sym (c .before .before2 .ensures) ∙ c .if2 .left) in
     passed (after-set-up (c .before .before)) (le-leb clock clock-end in-time)
 
-after-admitted : (c : tie.Else3) → standing (lent (c .before .before .before .before)) ≡ from-round (lent (c .before .before .before .before))
-after-admitted c = passed (after-clock (c .before .before)) (le-leb _ most-admitted (c .if3 .left))
+after-admitted : (c : tie.Else3) → let s = lent (c .before .before .before .before) in standing s ≡ from-round s
+after-admitted c =
+    let s = lent (c .before .before .before .before) in
+    passed (after-clock (c .before .before)) (le-leb (s .segment .admitted) most-admitted (c .if3 .left))
 
-after-round :
-    (c : tie.Else4)
-    → standing (lent (c .before .before .before .before .before .before))
-    ≡ from-contention (lent (c .before .before .before .before .before .before))
+after-round : (c : tie.Else4) → let s = lent (c .before .before .before .before .before .before) in standing s ≡ from-contention s
 after-round c = passed (after-admitted (c .before .before)) (granted (c .before .round-stands .ensures) (c .if4 .left))
 
 -- ---- the needs
@@ -66,7 +65,9 @@ returns-2 c =
     sym (failed _ (after-set-up (c .before .before)) (lt-leb clock clock-end late))
 
 returns-3 : tie.Need-returns-3
-returns-3 c = sym (failed _ (after-clock (c .before .before)) (lt-leb _ most-admitted (c .if3 .taken)))
+returns-3 c =
+    let s = lent (c .before .before .before .before) in
+    sym (failed _ (after-clock (c .before .before)) (lt-leb (s .segment .admitted) most-admitted (c .if3 .taken)))
 
 round-stands-requires : tie.Need-round-stands-requires
 round-stands-requires c κs = few (c .before .before .before .before)
