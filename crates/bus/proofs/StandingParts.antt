@@ -6,14 +6,13 @@ use mathlib.Core.Bool.{Bool, true, false, not, _&&_, _||_, cond, and-true as and
 use mathlib.Core.Option.{none, some}
 use mathlib.Core.List.{List, [], _∷_, _++_, map}
 use native.Mathlib.Nat.{zero-add, add-zero, suc-add, add-suc}
-use native.Mathlib.Numerals.{add-one}
 use native.Mathlib.Omega.{arith}
 use mir.Val.{Val}
 use denote.Laws.{Is}
 use lib.Dec.{leb, ltb, eqb}
 use lib.ListN.{length, getD, take, drop, length-take, length-map}
 use lib.Seq.{length-take-le}
-use borrow.Author.Tests.{eqb-true, leb-true, ltb-true, le-leb, eq-eqb, ne-eqb}
+use borrow.Author.Tests.{eqb-true, leb-true, ltb-true, le-leb, lt-ltb, le-ltb, eq-eqb, ne-eqb}
 use Rattle.window.specs.Splitting.{placed}
 use Rattle.rules.specs.Lists.{each-of, some-of, total, distinct}
 use Rattle.rules.specs.Bus as Machine
@@ -25,9 +24,9 @@ use Rattle.rules.proofs.Tests.{Whether, holds, fails}
 use Rattle.rules.proofs.Standing.{stands-exactly}
 use Rattle.bus.specs.State.{Packet, Contender, Contention, Segment, Queues, State, noContender, nobody, placesAt, queueAt, stationAt, stationsOf, valuesFrom, tieOf, meaning, no-packet, queue-padded, contender-padded, station-padded, no-station, each-place, round-padded, contention-padded, padded}
 use Rattle.bus.specs.Coded.{standing, askedOf, requestWith}
-use Rattle.bus.specs.Parts.{Queue, queueOf, parameterFits, contenderSound, stationTest, stationSound, nobodyTest, nobodyAt, numbersFrom, queuesSound, roundSound, contentionSound}
+use Rattle.bus.specs.Parts.{parameterFits, contenderSound, stationSound, nobodyAt, placeSound, numbersFrom, queuesSound, roundSound, contentionSound}
 use Rattle.bus.proofs.State as state
-use Rattle.bus.proofs.Rows.{each-place-all, each-place-turn, values-take}
+use Rattle.bus.proofs.Rows.{each-place-all, values-take}
 use Rattle.bus.proofs.Form.{Held, padded-parts, places-length}
 use Rattle.bus.proofs.QueueLaws.{queues-arrays}
 use Rattle.bus.proofs.SettingUp.{set-up-pass, passes-as-asked}
@@ -62,66 +61,19 @@ each-both one two i (suc k) =
     ap (λ t. one i && two i && t) (each-both one two (suc i) k)
     ∙ and-four (one i) (two i) (each-place one (suc i) k) (each-place two (suc i) k)
 
--- tests that agree at each place
-each-same : (one two : ℕ → Bool) → ((j : ℕ) → one j ≡ two j) → (i k : ℕ) → each-place one i k ≡ each-place two i k
+-- tests that agree at each of these places
+each-same :
+    (one two : ℕ → Bool) (i k : ℕ) → ((j : ℕ) → i ≤ j → j < i + k → one j ≡ two j) → each-place one i k ≡ each-place two i k
 unfolding each-place
-each-same one two h i zero = refl
-each-same one two h i (suc k) = ap₂ _&&_ (h i) (each-same one two h (suc i) k)
+each-same one two i zero h = refl
+each-same one two i (suc k) h =
+    ap₂ _&&_ (h i (omega arith) (omega arith)) (each-same one two (suc i) k (λ j l m. h j (omega arith) (omega arith)))
 
 -- a test of values, by their places
 each-values : {X : Type 0} (test : X → Bool) (f : ℕ → X) (i k : ℕ) → each-of test (valuesFrom f i k) ≡ each-place (λ j. test (f j)) i k
 unfolding each-place
 each-values test f i zero = refl
 each-values test f i (suc k) = ap (λ t. test (f i) && t) (each-values test f (suc i) k)
-
--- ---- the loops over the places of stations
-
--- one turn of a loop over the places from i to n: the test at i, and those that are left
-turn : {t : Bool} (test : ℕ → Bool) (i n : ℕ) → i < n → test i ≡ t → each-place test i (n - i) ≡ (t && each-place test (i + 1) (n - (i + 1)))
-turn test i n l e = each-place-turn test i n l ∙ ap₂ (λ t j. t && each-place test j (n - j)) e (sym (add-one i))
-
--- where station i is tested, and where place i is tested for nobody
-pub station-turn :
-    {r t : Bool} {queue : Queue} (g : Segment) (qs : Queues) (i : ℕ) → i < g .settings .n → queue ≡ queueOf qs i
-    → r
-    ≡ stationTest
-    (g .settings)
-    (g .contention .begun)
-    (g .admitted)
-    (getD (g .listed) i nobody)
-    (getD (g .contenders) i noContender)
-    queue
-    → r ≡ t
-    → each-place (stationSound g qs) i (g .settings .n - i)
-    ≡ (t && each-place (stationSound g qs) (i + 1) (g .settings .n - (i + 1)))
-station-turn g qs i l taken tested e =
-    turn
-    (stationSound g qs)
-    i
-    (g .settings .n)
-    l
-    (ap
-    (stationTest
-    (g .settings)
-    (g .contention .begun)
-    (g .admitted)
-    (getD (g .listed) i nobody)
-    (getD (g .contenders) i noContender))
-    (sym taken)
-    ∙ sym tested
-    ∙ e)
-
-pub nobody-turn :
-    {r t : Bool} {queue : Queue} (g : Segment) (qs : Queues) (i : ℕ) → i < 64 → queue ≡ queueOf qs i
-    → r ≡ nobodyTest (getD (g .listed) i nobody) (getD (g .contenders) i noContender) queue → r ≡ t
-    → each-place (nobodyAt g qs) i (64 - i) ≡ (t && each-place (nobodyAt g qs) (i + 1) (64 - (i + 1)))
-nobody-turn g qs i l taken tested e =
-    turn
-    (nobodyAt g qs)
-    i
-    64
-    l
-    (ap (nobodyTest (getD (g .listed) i nobody) (getD (g .contenders) i noContender)) (sym taken) ∙ sym tested ∙ e)
 
 -- ---- a station
 
@@ -221,7 +173,7 @@ station-same s i =
 -- the parts of a place past N, in the order of the code and in the order of `station-padded` and `no-station`: a length of 0 is in range
 nobody-order :
     (address capability empty contends parameter packet zeros room : Bool) → (empty ≡ true → room ≡ true)
-    → (address && capability && empty && not contends && parameter && packet && zeros)
+    → (address && capability && empty && (not contends && parameter && packet) && zeros)
     ≡ (room && zeros && (contends || (parameter && packet)) && (address && capability && empty && not contends))
 nobody-order false capability empty contends parameter packet zeros room h =
     sym (and-false (room && zeros && (contends || (parameter && packet))))
@@ -256,34 +208,47 @@ nobody-same s i =
 
 -- ---- all places
 
--- each place's two parts, gathered: the padding of all places, those past N, the stations
-gathered : (padded stand past empty : Bool) → (padded && stand && (past && empty)) ≡ (padded && past && empty && stand)
-gathered false stand past empty = refl
-gathered true false past empty = sym (and-false (past && empty))
-gathered true true past empty = sym (and-last-true (past && empty))
+-- a place's padding, and the station or nobody
+place-same :
+    (s : State) (i : ℕ)
+    → placeSound (s .segment) (s .queues) i
+    ≡ (station-padded s i && cond (ltb i (s .segment .settings .n)) (station-stands (meaning s) (stationAt s i)) (no-station s i))
+place-same s i = go (ltb i (s .segment .settings .n))
+  where
+    go :
+        (t : Bool)
+        → cond t (stationSound (s .segment) (s .queues) i) (nobodyAt (s .segment) (s .queues) i)
+        ≡ (station-padded s i && cond t (station-stands (meaning s) (stationAt s i)) (no-station s i))
+    go true = station-same s i
+    go false = nobody-same s i
 
+-- the padding of all places, those past N, the stations
 places-same :
     (s : State) → s .segment .settings .n ≤ most-stations
-    → (each-place (stationSound (s .segment) (s .queues)) 0 (s .segment .settings .n)
-    && each-place (nobodyAt (s .segment) (s .queues)) (s .segment .settings .n) (most-stations - s .segment .settings .n))
+    → each-place (placeSound (s .segment) (s .queues)) 0 most-stations
     ≡ (each-place (station-padded s) 0 most-stations
     && each-place (no-station s) (s .segment .settings .n) (most-stations - s .segment .settings .n)
     && each-of (station-stands (meaning s)) (stationsOf s))
 places-same s h =
     let all : n + m ≡ most-stations = omega arith in
-    ap₂
-    _&&_
-    (each-same (stationSound (s .segment) (s .queues)) (λ i. station-padded s i && stand i) (station-same s) 0 n
-    ∙ each-both (station-padded s) stand 0 n)
-    (each-same (nobodyAt (s .segment) (s .queues)) (λ i. station-padded s i && no-station s i) (nobody-same s) n m
-    ∙ each-both (station-padded s) (no-station s) n m)
-    ∙ gathered (each-place (station-padded s) 0 n) (each-place stand 0 n) (each-place (station-padded s) n m) (each-place (no-station s) n m)
+    each-same (placeSound (s .segment) (s .queues)) (λ i. station-padded s i && there i) 0 most-stations (λ i l k. place-same s i)
+    ∙ each-both (station-padded s) there 0 most-stations
+    ∙ ap
+    (λ t. each-place (station-padded s) 0 most-stations && t)
+    (ap (each-place there 0) (sym all)
+    ∙ each-split there 0 n m
     ∙ ap₂
-    (λ p t. p && each-place (no-station s) n m && t)
-    (ap (λ i. each-place (station-padded s) 0 n && each-place (station-padded s) i m) (sym (zero-add n))
-    ∙ sym (each-split (station-padded s) 0 n m)
-    ∙ ap (each-place (station-padded s) 0) all)
-    (sym (each-values (station-stands (meaning s)) (stationAt s) 0 n))
+    _&&_
+    (each-same there stand 0 n (λ i l k. ap (λ t. cond t (stand i) (no-station s i)) (lt-ltb i n (omega arith)))
+    ∙ sym (each-values (station-stands (meaning s)) (stationAt s) 0 n))
+    (ap (λ i. each-place there i m) (zero-add n)
+    ∙ each-same there (no-station s) n m (λ i l k. ap (λ t. cond t (stand i) (no-station s i)) (le-ltb i n l)))
+    ∙ and-comm (each-of (station-stands (meaning s)) (stationsOf s)) (each-place (no-station s) n m))
+    ∙ sym
+    (and-assoc
+    (each-place (station-padded s) 0 most-stations)
+    (each-place (no-station s) n m)
+    (each-of (station-stands (meaning s)) (stationsOf s)))
   where
     n : ℕ
     n = s .segment .settings .n
@@ -293,6 +258,9 @@ places-same s h =
 
     stand : ℕ → Bool
     stand i = station-stands (meaning s) (stationAt s i)
+
+    there : ℕ → Bool
+    there i = cond (ltb i n) (stand i) (no-station s i)
 
 -- ---- the numbers and lengths of the queues
 
@@ -397,8 +365,8 @@ contention-same s = ap (λ t. contention-padded c && t) (go (c .begun) (c .tied)
 abbrev pub tried : State → Request
 tried s = requestWith (s .segment .settings) (map askedOf (take 64 (s .segment .listed)))
 
-pub few-stations : (s : State) → setUpVerdict (tried s) .refusal ≡ 0 → s .segment .settings .n ≤ most-stations
-few-stations s e = set-up-pass (s .segment .settings) (tried s .row) e .few
+pub few-tried : (s : State) → setUpVerdict (tried s) .refusal ≡ 0 → s .segment .settings .n ≤ most-stations
+few-tried s e = set-up-pass (s .segment .settings) (tried s .row) e .few
 
 -- the code's test is that the discipline is one of the three and the meaning passes
 set-up-same :
@@ -433,34 +401,34 @@ state-held s vs owned =
 
 -- ---- the standing conditions
 
--- The parts in the order of `standing`, and as the code has them. `sound` and `nobodies` are the tests of the places up to N and past it:
--- together they are the tests `zeros`, `past` and `stand`. The counts are compared where the places up to N are sound.
+-- The parts in the order of `standing`, and as the code has them. `sound` is the test of the 64 places: the tests `zeros`, `past` and
+-- `stand`. The counts are compared where the places are sound.
 parts-order :
-    (zeros past round contention clock admitted counts stand apart last window sound nobodies counts′ : Bool)
-    → (sound && nobodies) ≡ (zeros && past && stand) → (sound ≡ true → counts′ ≡ counts)
+    (zeros past round contention clock admitted counts stand apart last window sound counts′ : Bool)
+    → sound ≡ (zeros && past && stand) → (sound ≡ true → counts′ ≡ counts)
     → (zeros && past && round && contention && (clock && admitted && counts && stand && apart && last && window))
-    ≡ (clock && admitted && (round && last) && (contention && window) && (sound && nobodies && counts′ && apart))
-parts-order zeros past round contention clock admitted counts stand apart last window sound nobodies counts′ same agreed =
+    ≡ (clock && (admitted && ((round && last) && ((contention && window) && (sound && counts′ && apart)))))
+parts-order zeros past round contention clock admitted counts stand apart last window sound counts′ same agreed =
     and-four (zeros && past && round) contention (clock && admitted && counts && stand && apart && last) window
     ∙ ap (λ t. t && (contention && window)) (and-four (zeros && past) round (clock && admitted && counts && stand && apart) last)
     ∙ ap (λ t. t && (round && last) && (contention && window)) (gather (zeros && past) (clock && admitted))
     ∙ ap (λ t. clock && admitted && (t && counts && apart) && (round && last) && (contention && window)) (sym same)
     ∙ ap (λ t. clock && admitted && t && (round && last) && (contention && window)) (compare sound agreed)
-    ∙ queues-last (clock && admitted) (round && last) (contention && window) (sound && nobodies && counts′ && apart)
+    ∙ queues-last clock admitted (round && last) (contention && window) (sound && counts′ && apart)
   where
     gather : (a b : Bool) → (a && (b && counts && stand && apart)) ≡ (b && (a && stand && counts && apart))
     gather a false = and-false a
     gather false true = refl
     gather true true = ap (λ t. t && apart) (and-comm counts stand)
 
-    compare : (t : Bool) → (t ≡ true → counts′ ≡ counts) → (t && nobodies && counts && apart) ≡ (t && nobodies && counts′ && apart)
+    compare : (t : Bool) → (t ≡ true → counts′ ≡ counts) → (t && counts && apart) ≡ (t && counts′ && apart)
     compare false h = refl
-    compare true h = ap (λ t. nobodies && t && apart) (sym (h refl))
+    compare true h = ap (λ t. t && apart) (sym (h refl))
 
-    queues-last : (a b c d : Bool) → (a && d && b && c) ≡ (a && b && c && d)
-    queues-last false b c d = refl
-    queues-last true b c false = sym (and-false (b && c))
-    queues-last true b c true = sym (and-last-true (b && c))
+    queues-last : (a b c d e : Bool) → (a && b && e && c && d) ≡ (a && (b && (c && (d && e))))
+    queues-last false b c d e = refl
+    queues-last true false c d e = refl
+    queues-last true true c d e = and-assoc e c d ∙ and-comm e (c && d) ∙ and-assoc c d e
 
 -- a state that a set-up would refuse does not stand
 pub not-set-up : (s : State) → Held s → ¬ (setUpVerdict (tried s) .refusal ≡ 0) → standing s ≡ false
@@ -480,56 +448,63 @@ not-set-up s h n = go (standing s) refl
         (eq-eqb (setUpVerdict (askedFor (meaning s)) .refusal) 0 (passes (stands-exactly (meaning s)) (both .1))))
         (set-up-same s h ∙ ne-eqb (setUpVerdict (tried s) .refusal) 0 n)
 
--- the parts of a sound station's queue that other tests lean on
-record SoundQueue (g : Segment) (qs : Queues) (i : ℕ) : Type 0 where
-  room : getD (qs .lengths) i 0 ≤ places
-  rises : rising 0 (g .admitted) (queueAt qs i) ≡ true
-
-sound-queue : (g : Segment) (qs : Queues) (n : ℕ) → each-place (stationSound g qs) 0 n ≡ true → (i : ℕ) → i < n → SoundQueue g qs i
-sound-queue g qs n e i l =
-    let k = getD (qs .lengths) i 0 in
-    let zeros = each-of no-packet (drop k (placesAt qs i)) in
-    let sound = each-place-all (stationSound g qs) 0 n e i (omega arith) (omega arith) in
-    let abc = and-true (leb k places && zeros && rising 0 (g .admitted) (queueAt qs i) && _) _ sound in
-    let ab = and-true (leb k places && zeros && rising 0 (g .admitted) (queueAt qs i)) _ (abc .0) in
-    let both = and-true (leb k places && zeros) (rising 0 (g .admitted) (queueAt qs i)) (ab .0) in
-    record { room = leb-true k places (and-true (leb k places) zeros (both .0) .0); rises = both .1 }
-
-pub sound-room :
-    (g : Segment) (qs : Queues) (n : ℕ) → each-place (stationSound g qs) 0 n ≡ true → (i : ℕ) → i < n → getD (qs .lengths) i 0 ≤ places
-sound-room g qs n e i l = sound-queue g qs n e i l .room
-
-pub sound-rises :
-    (g : Segment) (qs : Queues) (n : ℕ) → each-place (stationSound g qs) 0 n ≡ true → (i : ℕ) → i < n → Rising 0 (g .admitted) (queueAt qs i)
-sound-rises g qs n e i l = rises 0 (queueAt qs i) (sound-queue g qs n e i l .rises)
+-- where all 64 places are sound: what other tests lean on
+module _
+    (g : Segment)
+    (qs : Queues)
+    (few : g .settings .n ≤ most-stations)
+    (sound : each-place (placeSound g qs) 0 most-stations ≡ true)
+    (i : ℕ)
+    (here : i < g .settings .n)
   where
-    rises : (before : ℕ) (queue : List Packet) → rising before (g .admitted) queue ≡ true → Rising before (g .admitted) queue
-    rises before [] h = leb-true before (g .admitted) h
-    rises before (p ∷ queue) h =
-        let both = and-true (ltb before (p .number)) (rising (p .number) (g .admitted) queue) h in
-        (ltb-true before (p .number) (both .0), rises (p .number) queue (both .1))
+    sound-queue : (leb (getD (qs .lengths) i 0) places ≡ true) × (rising 0 (g .admitted) (queueAt qs i) ≡ true)
+    sound-queue =
+        let k = getD (qs .lengths) i 0 in
+        let zeros = each-of no-packet (drop k (placesAt qs i)) in
+        let rises = rising 0 (g .admitted) (queueAt qs i) in
+        let place = each-place-all (placeSound g qs) 0 most-stations sound i (omega arith) (omega arith) in
+        let station = ap (λ t. cond t (stationSound g qs i) (nobodyAt g qs i)) (sym (lt-ltb i (g .settings .n) here)) ∙ place in
+        let three = and-true (leb k places && zeros && rises && _) _ station in
+        let two = and-true (leb k places && zeros && rises) _ (three .0) in
+        let both = and-true (leb k places && zeros) rises (two .0) in
+        (and-true (leb k places) zeros (both .0) .0, both .1)
 
--- a state that a set-up would not refuse stands as the code's other tests, in turn, tell
+    pub sound-room : getD (qs .lengths) i 0 ≤ places
+    sound-room = leb-true (getD (qs .lengths) i 0) places (sound-queue .0)
+
+    pub sound-rises : Rising 0 (g .admitted) (queueAt qs i)
+    sound-rises = rises 0 (queueAt qs i) (sound-queue .1)
+      where
+        rises : (before : ℕ) (queue : List Packet) → rising before (g .admitted) queue ≡ true → Rising before (g .admitted) queue
+        rises before [] h = leb-true before (g .admitted) h
+        rises before (p ∷ queue) h =
+            let both = and-true (ltb before (p .number)) (rising (p .number) (g .admitted) queue) h in
+            (ltb-true before (p .number) (both .0), rises (p .number) queue (both .1))
+
+-- the tests of the code after the set-up: from the admitted count on, from the round on, from the contention on
+abbrev pub from-contention : State → Bool
+from-contention s = contentionSound (s .segment .settings) (s .segment .contention) && queuesSound (s .segment) (s .queues)
+
+abbrev pub from-round : State → Bool
+from-round s = roundSound (s .segment) && from-contention s
+
+abbrev pub from-admitted : State → Bool
+from-admitted s = leb (s .segment .admitted) most-admitted && from-round s
+
+-- a state that a set-up would not refuse stands as the code's other tests tell
 pub standing-parts :
-    {clock′ admitted′ round′ contention′ queues′ : Bool} (s : State) → Held s → setUpVerdict (tried s) .refusal ≡ 0
-    → leb (s .segment .clock .0) clock-end ≡ clock′
-    → leb (s .segment .admitted) most-admitted ≡ admitted′
-    → roundSound (s .segment) ≡ round′
-    → contentionSound (s .segment .settings) (s .segment .contention) ≡ contention′
-    → queuesSound (s .segment) (s .queues) ≡ queues′
-    → standing s ≡ (clock′ && admitted′ && round′ && contention′ && queues′)
-standing-parts {clock′} {admitted′} {round′} {contention′} s h e clock-is admitted-is round-is contention-is queues-is =
+    (s : State) → Held s → setUpVerdict (tried s) .refusal ≡ 0 → standing s ≡ (leb (s .segment .clock .0) clock-end && from-admitted s)
+standing-parts s h e =
     let passes = set-up-same s h ∙ eq-eqb (setUpVerdict (tried s) .refusal) 0 e in
     let both = and-true (leb (s .segment .settings .discipline) 2) (eqb (setUpVerdict (askedFor (meaning s)) .refusal) 0) passes in
-    let few = few-stations s e in
+    let few = few-tried s e in
     let n = s .segment .settings .n in
     let clock = leb (s .segment .clock .0) clock-end in
     let admitted = leb (s .segment .admitted) most-admitted in
     let zeros = each-place (station-padded s) 0 most-stations in
     let past = each-place (no-station s) n (most-stations - n) in
     let stand = each-of (station-stands (meaning s)) (stationsOf s) in
-    let sound = each-place (stationSound (s .segment) (s .queues)) 0 n in
-    let nobodies = each-place (nobodyAt (s .segment) (s .queues)) n (most-stations - n) in
+    let sound = each-place (placeSound (s .segment) (s .queues)) 0 most-stations in
     let counted : ℕ → Bool = λ waiting. eqb (s .segment .admitted) (s .segment .sent + s .segment .lost + waiting) in
     let counts = counted (waiting (stationsOf s)) in
     let counts′ = counted (total (λ k. k) (take n (s .queues .lengths))) in
@@ -538,6 +513,7 @@ standing-parts {clock′} {admitted′} {round′} {contention′} s h e clock-i
     let last = last-stands (meaning s .discipline) (stationsOf s) (meaning s .last) in
     let contention = contention-padded (s .segment .contention) in
     let window = contention-stands (meaning s) (meaning s .contention) in
+    let begun = contentionSound (s .segment .settings) (s .segment .contention) in
     ap₂
     (λ d v. d && zeros && past && round && contention && (v && clock && admitted && counts && stand && apart && last && window))
     (both .0)
@@ -555,15 +531,11 @@ standing-parts {clock′} {admitted′} {round′} {contention′} s h e clock-i
     last
     window
     sound
-    nobodies
     counts′
     (places-same s few)
-    (λ k. ap counted (waiting-same s h few (sound-room (s .segment) (s .queues) n k)))
-    ∙ ap₂ (λ k a. k && a && (round && last) && (contention && window) && (sound && nobodies && counts′ && apart)) clock-is admitted-is
+    (λ k. ap counted (waiting-same s h few (sound-room (s .segment) (s .queues) few k)))
     ∙ ap₂
-    (λ r c. clock′ && admitted′ && r && c && (sound && nobodies && counts′ && apart))
-    (sym (round-same s h few) ∙ round-is)
-    (sym (contention-same s) ∙ contention-is)
-    ∙ ap
-    (λ q. clock′ && admitted′ && round′ && contention′ && q)
-    (ap (λ ns. sound && nobodies && counts′ && distinct ns) (numbers-same s 0 n) ∙ queues-is)
+    (λ r c. clock && (admitted && (r && (c && (sound && counts′ && apart)))))
+    (sym (round-same s h few))
+    (sym (contention-same s))
+    ∙ ap (λ ns. clock && (admitted && (roundSound (s .segment) && (begun && (sound && counts′ && distinct ns))))) (numbers-same s 0 n)

@@ -132,6 +132,10 @@ accepted s a =
 
 -- ---- the standing conditions, in the parts that the code tests
 
+-- the place of a station that does not contend
+abbrev pub no-contender : Contender → Bool
+no-contender c = not (c .contends) && eqb (c .parameter) 0 && no-packet (c .packet)
+
 -- a station's place among the contenders: zero where it does not contend, and `offer-stands` of the rules where it does
 abbrev pub contenderSound : Settings → Bool → Listed → Contender → List Packet → Bool
 contenderSound g begun l c packets =
@@ -167,25 +171,26 @@ nobodyTest l c queue =
     eqb (l .address .0) 0
     && eqb (l .capability .0) 0
     && eqb (queue .length) 0
-    && not (c .contends)
-    && eqb (c .parameter) 0
-    && no-packet (c .packet)
+    && no-contender c
     && each-of no-packet (drop (queue .length) (queue .packets))
 
 -- the same, of place i
 abbrev pub nobodyAt : Segment → Queues → ℕ → Bool
 nobodyAt g qs i = nobodyTest (getD (g .listed) i nobody) (getD (g .contenders) i noContender) (queueOf qs i)
 
+-- the place of station i: a station's up to N, nobody's past it
+abbrev pub placeSound : Segment → Queues → ℕ → Bool
+placeSound g qs i = cond (ltb i (g .settings .n)) (stationSound g qs i) (nobodyAt g qs i)
+
 -- the packets' numbers in the k queues from i on
 abbrev pub numbersFrom : Queues → ℕ → ℕ → List ℕ
 numbersFrom qs i zero = []
 numbersFrom qs i (suc k) = map (λ p. p .number) (queueAt qs i) ++ numbersFrom qs (suc i) k
 
--- the stations, the counts, and 'none twice over all queues'
+-- the places of stations, the counts, and 'none twice over all queues'
 abbrev pub queuesSound : Segment → Queues → Bool
 queuesSound g qs =
-    each-place (stationSound g qs) 0 (g .settings .n)
-    && each-place (nobodyAt g qs) (g .settings .n) (64 - g .settings .n)
+    each-place (placeSound g qs) 0 64
     && eqb (g .admitted) (g .sent + g .lost + total (λ k. k) (take (g .settings .n) (qs .lengths)))
     && distinct (numbersFrom qs 0 (g .settings .n))
 

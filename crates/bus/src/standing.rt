@@ -18,17 +18,17 @@ use crate::zeros;
 use rules::Packet;
 use window::Side;
 use window::Window;
-ghost use Prim.Native.Nat.{ℕ, _+_, _-_, _<_, _≤_};
+ghost use Prim.Native.Nat.{ℕ, _+_, _<_, _≤_};
 ghost use mathlib.Core.Path.{_≡_};
-ghost use mathlib.Core.Bool.{_&&_};
-ghost use lib.Dec.{eqb};
+ghost use mathlib.Core.Bool.{_&&_, cond};
+ghost use lib.Dec.{eqb, ltb};
 ghost use lib.ListN.{getD, drop, take};
 ghost use Rattle.rules.specs.Lists.{each-of, some-of, total};
 ghost use Rattle.rules.specs.SetUp.{disciplineOf};
 ghost use Rattle.rules.specs.Standing.{value-fits, length-fits, rising, same-packet};
 ghost use Rattle.bus.specs.State.{no-packet, no-window, each-place};
 ghost use Rattle.bus.specs.Coded.{standing};
-ghost use Rattle.bus.specs.Parts.{packetsOf, contenderSound, stationTest, stationSound, nobodyTest, nobodyAt, queuesSound, roundSound, contentionSound};
+ghost use Rattle.bus.specs.Parts.{packetsOf, no-contender, contenderSound, stationTest, nobodyTest, placeSound, queuesSound, roundSound, contentionSound};
 
 // 'packets admitted: at most 4,294,967,295'
 pub const MOST_ADMITTED: u64 = 4_294_967_295;
@@ -43,6 +43,19 @@ fn no_packet(p: Packet) -> bool
         return false;
     }
     p.length == 0
+}
+
+// The place of a station that does not contend.
+fn no_contender(c: Contender) -> bool
+    ensures { λ r. ⌜ r ≡ no-contender c ⌝ }
+{
+    if c.contends {
+        return false;
+    }
+    if c.parameter != 0 {
+        return false;
+    }
+    no_packet(c.packet)
 }
 
 // Whether two packets are one.
@@ -136,10 +149,7 @@ fn contender_stands(settings: Settings, begun: bool, l: Listed, c: Contender, qu
     ensures { λ r. ⌜ r ≡ contenderSound settings begun l c (packetsOf queue) ⌝ }
 {
     if !c.contends {
-        if c.parameter != 0 {
-            return false;
-        }
-        return no_packet(c.packet);
+        return no_contender(c);
     }
     if !begun {
         return false;
@@ -179,25 +189,6 @@ fn station_stands(
     contender_stands(settings, begun, l, c, queue)
 }
 
-// Each of the N stations.
-fn stations_stand(g: Segment, queues: Queues) -> bool
-    requires { ⌜ g .settings .n ≤ 64 ⌝ }
-    ensures { λ r. ⌜ r ≡ each-place (stationSound g queues) 0 (g .settings .n) ⌝ }
-{
-    let settings = g.settings;
-    let contention = g.contention;
-    let n = settings.n;
-    for i in 0..n {
-        let l = g.listed[i];
-        let c = g.contenders[i];
-        let queue = waiting::queue_at(queues, i);
-        if !station_stands(settings, contention.begun, g.admitted, l, c, queue) {
-            return false;
-        }
-    }
-    true
-}
-
 // 'What has no meaning is zero: stations past N'
 fn nobody_at(l: Listed, c: Contender, queue: Queue) -> bool
     ensures { λ r. ⌜ r ≡ nobodyTest l c queue ⌝ }
@@ -211,30 +202,41 @@ fn nobody_at(l: Listed, c: Contender, queue: Queue) -> bool
     if queue.length != 0 {
         return false;
     }
-    if c.contends {
-        return false;
-    }
-    if c.parameter != 0 {
-        return false;
-    }
-    if !no_packet(c.packet) {
+    if !no_contender(c) {
         return false;
     }
     zero_past_end(queue)
 }
 
-// Each of the places past N.
-fn nobody_past(g: Segment, queues: Queues) -> bool
-    requires { ⌜ g .settings .n ≤ 64 ⌝ }
-    ensures { λ r. ⌜ r ≡ each-place (nobodyAt g queues) (g .settings .n) (64 - g .settings .n) ⌝ }
+// The place of station i: a station's up to N, nobody's past it.
+fn place_stands(
+    settings: Settings,
+    begun: bool,
+    admitted: u64,
+    i: usize,
+    l: Listed,
+    c: Contender,
+    queue: Queue,
+) -> bool
+    ensures { λ r. ⌜ r ≡ cond (ltb i (settings .n)) (stationTest settings begun admitted l c queue) (nobodyTest l c queue) ⌝ }
+{
+    if i < settings.n {
+        return station_stands(settings, begun, admitted, l, c, queue);
+    }
+    nobody_at(l, c, queue)
+}
+
+// Each of the 64 places.
+fn places_stand(g: Segment, queues: Queues) -> bool
+    ensures { λ r. ⌜ r ≡ each-place (placeSound g queues) 0 64 ⌝ }
 {
     let settings = g.settings;
-    let n = settings.n;
-    for i in n..64 {
+    let contention = g.contention;
+    for i in 0..64 {
         let l = g.listed[i];
         let c = g.contenders[i];
         let queue = waiting::queue_at(queues, i);
-        if !nobody_at(l, c, queue) {
+        if !place_stands(settings, contention.begun, g.admitted, i, l, c, queue) {
             return false;
         }
     }
@@ -341,15 +343,12 @@ fn contention_stands(settings: Settings, c: Contention) -> bool
     window::is_placed(w, settings.d)
 }
 
-// The stations, the places past N, 'admitted = sent + lost + waiting', and 'none twice over all queues'.
+// The places of stations, 'admitted = sent + lost + waiting', and 'none twice over all queues'.
 fn queues_stand(g: Segment, queues: Queues) -> bool
     requires { ⌜ g .settings .n ≤ 64 ⌝ }
     ensures { λ r. ⌜ r ≡ queuesSound g queues ⌝ }
 {
-    if !stations_stand(g, queues) {
-        return false;
-    }
-    if !nobody_past(g, queues) {
+    if !places_stand(g, queues) {
         return false;
     }
     let settings = g.settings;

@@ -1,80 +1,71 @@
 -- `standing::contender_stands` meets its contract: each test of the definition, in its order. Assumes nothing.
-use mathlib.Core.Path.{sym, _∙_}
-use mathlib.Core.Bool.{and-true}
+use mathlib.Core.Path.{_≡_, sym, _∙_}
+use mathlib.Core.Bool.{true, and-true}
 use native.Mathlib.Omega.{arith}
 use borrow.Author.Needs.{needs}
-use borrow.Author.Tests.{not-true, not-false, eq-eqb, ne-eqb, lt-ltb, le-ltb}
+use borrow.Author.Tests.{not-true, not-false, lt-ltb, le-ltb}
 use Rattle.bus.proofs.Tested.{denied, granted}
 use Rattle.bus.proofs.standing.contender_stands.Statement.{statement}
 use Rattle.bus.proofs.standing.contender_stands.Tie as tie
 
+contends : (c : tie.Else1) → c .before .before .args .c .contends ≡ true
+contends c = not-false (c .before .before .args .c .contends) (c .if1 .left)
+
+begun : (c : tie.Else2) → c .before .before .before .args .begun ≡ true
+begun c = not-false (c .before .before .before .args .begun) (c .if2 .left)
+
+no-contender-requires : tie.Need-no-contender-requires
+no-contender-requires c κs = search needs
+
 returns : tie.Need-returns
 returns c =
-    let one = c .before .before in
-    rw (not-true (one .before .before .args .c .contends) (one .if1 .taken), ne-eqb _ _ (c .if2 .taken))
-
-no-packet-requires : tie.Need-no-packet-requires
-no-packet-requires c κs = search needs
+    let one = c .before in
+    c .no-contender .ensures ∙ rw (not-true (one .before .before .args .c .contends) (one .if1 .taken)) (sym (and-true _))
 
 returns-2 : tie.Need-returns-2
-returns-2 c =
-    let one = c .before .before .before in
-    rw (not-true (one .before .before .args .c .contends) (one .if1 .taken), eq-eqb _ _ (c .before .if2 .left))
-    (c .no-packet .ensures ∙ sym (and-true _))
-
-returns-3 : tie.Need-returns-3
-returns-3 c =
-    let args = c .before .before .before .args in
-    rw (not-false (args .c .contends) (c .before .if1 .left), not-true (args .begun) (c .if3 .taken))
+returns-2 c = rw (contends (c .before), not-true (c .before .before .before .args .begun) (c .if2 .taken))
 
 holds-requires : tie.Need-holds-requires
 holds-requires c κs = search needs
 
-returns-4 : tie.Need-returns-4
-returns-4 c =
-    let three = c .before .before in
-    let args = three .before .before .before .args in
-    let contends = not-false (args .c .contends) (three .before .if1 .left) in
-    let begun = not-false (args .begun) (three .if3 .left) in
-    rw (contends, begun, denied (c .before .holds .ensures) (c .if4 .taken))
+returns-3 : tie.Need-returns-3
+returns-3 c =
+    let two = c .before .before in
+    rw (contends (two .before), begun two, denied (c .before .holds .ensures) (c .if3 .taken))
 
 wide-requires : tie.Need-wide-requires
 wide-requires c κs = search needs
 
-returns-5 : tie.Need-returns-5
-returns-5 c =
-    let wide = c .before .before in
-    let three = wide .before .before .before in
-    let args = three .before .before .before .args in
-    let contends = not-false (args .c .contends) (three .before .if1 .left) in
-    let begun = not-false (args .begun) (three .if3 .left) in
-    let held = granted (wide .before .before .holds .ensures) (wide .before .if4 .left) in
-    rw (contends, begun, held, le-ltb (args .c .parameter) (args .settings .d) (omega arith))
+returns-4 : tie.Need-returns-4
+returns-4 c =
+    let three = c .before .before .before in
+    let two = three .before .before in
+    let args = two .before .before .before .args in
+    let large = le-ltb (args .c .parameter) (args .settings .d) (omega arith) in
+    rw (contends (two .before), begun two, granted (three .before .holds .ensures) (three .if3 .left), large)
 
 parameter-fits-requires : tie.Need-parameter-fits-requires
 parameter-fits-requires c κs = search needs
 
-returns-6 : tie.Need-returns-6
-returns-6 c =
-    let wide = c .before .before .before in
-    let three = wide .before .before .before in
-    let args = three .before .before .before .args in
-    let contends = not-false (args .c .contends) (three .before .if1 .left) in
-    let begun = not-false (args .begun) (three .if3 .left) in
-    let held = granted (wide .before .before .holds .ensures) (wide .before .if4 .left) in
-    c .parameter-fits .ensures ∙ rw (contends, begun, held, lt-ltb (args .c .parameter) (args .settings .d) (omega arith))
+returns-5 : tie.Need-returns-5
+returns-5 c =
+    let three = c .before .before .before .before in
+    let two = three .before .before in
+    let args = two .before .before .before .args in
+    let small = lt-ltb (args .c .parameter) (args .settings .d) (omega arith) in
+    c .parameter-fits .ensures
+    ∙ rw (contends (two .before), begun two, granted (three .before .holds .ensures) (three .if3 .left), small)
 
 pub contender-stands-spec : {M : Type 1} → statement M
 contender-stands-spec =
     tie.close
     (tie.spec
+    no-contender-requires
     returns
-    no-packet-requires
     returns-2
-    returns-3
     holds-requires
-    returns-4
+    returns-3
     wide-requires
-    returns-5
+    returns-4
     parameter-fits-requires
-    returns-6)
+    returns-5)

@@ -1,8 +1,8 @@
 -- `standing::has_capability` meets its contract. The loop's invariant: some station has it if one of those from i on has.
 -- Assumes nothing.
-use Prim.Native.Nat.{_-_, _≤_}
+use Prim.Native.Nat.{_+_, _-_, _≤_}
 use mathlib.Core.Path.{_≡_, refl, sym, _∙_}
-use mathlib.Core.Bool.{Bool}
+use mathlib.Core.Bool.{Bool, _||_}
 use native.Mathlib.Omega.{arith}
 use borrow.Author.Needs.{needs}
 use lib.Dec.{eqb}
@@ -10,7 +10,7 @@ use lib.ListN.{length, take}
 use lib.Seq.{slice}
 use Rattle.rules.specs.Lists.{some-of}
 use Rattle.bus.specs.State.{Capability, Listed, nobody}
-use Rattle.bus.proofs.Tested.{some-holds, some-fails, some-end}
+use Rattle.bus.proofs.Tested.{some-turn, some-end}
 use Rattle.bus.proofs.standing.has_capability.Statement.{statement}
 use Rattle.bus.proofs.standing.has_capability.Tie as tie
 
@@ -35,14 +35,22 @@ array-copy-out-l c = search needs
 same-capability-requires : tie.Need-same-capability-requires Inv-loop μ-loop
 same-capability-requires c κs = search needs
 
-returns : tie.Need-returns Inv-loop μ-loop
-returns c =
-    let turn = c .before .before .before in
-    let start = turn .before .before in
+-- one turn: what is told of station i, and the stations that are left
+turn :
+    (c : tie.After-same-capability Inv-loop μ-loop)
+    → let args = c .before .before .before .before .args in
+    some-of (has-it (args .capability)) (take (args .n) (args .t1))
+    ≡ (c .same-capability .result
+    || some-of (has-it (args .capability)) (slice (c .before .before .before .loop .i + 1) (args .n) (args .t1)))
+turn c =
+    let at = c .before .before .before in
+    let start = at .before in
     let places : length (start .args .t1) ≡ 64 = start .good .0 .1 .0 .1 in
     let room : start .args .n ≤ length (start .args .t1) = omega arith in
-    let same = sym (c .before .same-capability .ensures) ∙ c .if1 .taken in
-    sym (turn .before .loop .inv ∙ some-holds _ _ (turn .before .loop .i) _ nobody (turn .loop-test .taken) room same)
+    at .loop .inv ∙ some-turn _ _ (at .loop .i) _ nobody (c .before .before .loop-test .taken) room (c .same-capability .ensures)
+
+returns : tie.Need-returns Inv-loop μ-loop
+returns c = sym (turn (c .before) ∙ rw (c .if1 .taken))
 
 add-i : tie.Need-add-i Inv-loop μ-loop
 add-i c = search needs
@@ -51,13 +59,7 @@ loop-less : tie.Need-loop-less Inv-loop μ-loop
 loop-less c = search needs
 
 loop-again : tie.Need-loop-again Inv-loop μ-loop
-loop-again c =
-    let turn = c .before .before .before in
-    let start = turn .before .before in
-    let places : length (start .args .t1) ≡ 64 = start .good .0 .1 .0 .1 in
-    let room : start .args .n ≤ length (start .args .t1) = omega arith in
-    let other = sym (c .before .same-capability .ensures) ∙ c .if1 .left in
-    turn .before .loop .inv ∙ some-fails _ _ (turn .before .loop .i) _ nobody (turn .loop-test .taken) room other
+loop-again c = turn (c .before) ∙ rw (c .if1 .left)
 
 returns-2 : tie.Need-returns-2 Inv-loop μ-loop
 returns-2 c = sym (c .before .loop .inv ∙ some-end _ _ _ _ (c .loop-test .left))

@@ -1,14 +1,15 @@
 -- `standing::holds` meets its contract. The loop's invariant: the packet is one of the queue's if it is one of those from j on.
 -- Assumes nothing.
-use Prim.Native.Nat.{_-_}
+use Prim.Native.Nat.{_+_, _-_}
 use mathlib.Core.Path.{_≡_, refl, sym, _∙_}
+use mathlib.Core.Bool.{_||_}
 use borrow.Author.Needs.{needs}
 use lib.Seq.{slice}
 use Rattle.rules.specs.Lists.{some-of}
 use Rattle.rules.specs.Standing.{same-packet}
 use Rattle.bus.specs.State.{noPacket}
 use Rattle.bus.specs.Parts.{packetsOf}
-use Rattle.bus.proofs.Tested.{queue-room, some-holds, some-fails, some-end}
+use Rattle.bus.proofs.Tested.{queue-room, some-turn, some-end}
 use Rattle.bus.proofs.standing.holds.Statement.{statement}
 use Rattle.bus.proofs.standing.holds.Tie as tie
 
@@ -31,13 +32,21 @@ element-copy-out-p c = search needs
 same-packet-requires : tie.Need-same-packet-requires Inv-loop μ-loop
 same-packet-requires c κs = search needs
 
-returns : tie.Need-returns Inv-loop μ-loop
-returns c =
-    let turn = c .before .before .before in
-    let start = turn .before .before in
+-- one turn: what is told of the packet at j, and the packets that are left
+turn :
+    (c : tie.After-same-packet Inv-loop μ-loop)
+    → let at = c .before .before .before in
+    let args = at .before .args in
+    let held = some-of (same-packet (args .packet)) in
+    held (packetsOf (args .t1)) ≡ (c .same-packet .result || held (slice (at .loop .j + 1) (args .t1 .length) (args .t1 .packets)))
+turn c =
+    let at = c .before .before .before in
+    let start = at .before in
     let room = queue-room (start .args .t1) _ (start .good .0) (start .pre) in
-    let same = sym (c .before .same-packet .ensures) ∙ c .if1 .taken in
-    sym (turn .before .loop .inv ∙ some-holds _ _ (turn .before .loop .j) _ noPacket (turn .loop-test .taken) room same)
+    at .loop .inv ∙ some-turn _ _ (at .loop .j) _ noPacket (c .before .before .loop-test .taken) room (c .same-packet .ensures)
+
+returns : tie.Need-returns Inv-loop μ-loop
+returns c = sym (turn (c .before) ∙ rw (c .if1 .taken))
 
 add-j : tie.Need-add-j Inv-loop μ-loop
 add-j c = search needs
@@ -46,12 +55,7 @@ loop-less : tie.Need-loop-less Inv-loop μ-loop
 loop-less c = search needs
 
 loop-again : tie.Need-loop-again Inv-loop μ-loop
-loop-again c =
-    let turn = c .before .before .before in
-    let start = turn .before .before in
-    let room = queue-room (start .args .t1) _ (start .good .0) (start .pre) in
-    let other = sym (c .before .same-packet .ensures) ∙ c .if1 .left in
-    turn .before .loop .inv ∙ some-fails _ _ (turn .before .loop .j) _ noPacket (turn .loop-test .taken) room other
+loop-again c = turn (c .before) ∙ rw (c .if1 .left)
 
 returns-2 : tie.Need-returns-2 Inv-loop μ-loop
 returns-2 c = sym (c .before .loop .inv ∙ some-end _ _ _ _ (c .loop-test .left))

@@ -1,10 +1,25 @@
 -- `standing::nobody_at` meets its contract: each test of the definition, in its order. Assumes nothing.
-use mathlib.Core.Path.{_∙_}
+use mathlib.Core.Path.{_≡_}
+use mathlib.Core.Bool.{true, _&&_}
 use borrow.Author.Needs.{needs}
 use borrow.Author.Tests.{eq-eqb, ne-eqb}
+use lib.Dec.{eqb}
+use Rattle.rules.proofs.Laws.{true-and}
+use Rattle.bus.specs.State.{Listed}
 use Rattle.bus.proofs.Tested.{denied, granted}
 use Rattle.bus.proofs.standing.nobody_at.Statement.{statement}
 use Rattle.bus.proofs.standing.nobody_at.Tie as tie
+
+-- what is listed, and that it is nobody
+abbrev listed : tie.Else2 → Listed
+listed c = c .before .before .before .before .args .l
+
+nobody : (c : tie.Else2) → (eqb (listed c .address .0) 0 && eqb (listed c .capability .0) 0) ≡ true
+nobody c =
+    let one = c .before .before in
+    true-and
+    (granted (one .before .same-address .ensures) (one .if1 .left))
+    (granted (c .before .same-capability .ensures) (c .if2 .left))
 
 same-address-requires : tie.Need-same-address-requires
 same-address-requires c κs = search needs
@@ -21,63 +36,24 @@ returns-2 c =
     rw (granted (one .before .same-address .ensures) (one .if1 .left), denied (c .before .same-capability .ensures) (c .if2 .taken))
 
 returns-3 : tie.Need-returns-3
-returns-3 c =
-    let two = c .before .before in
-    let one = two .before .before in
-    let address = granted (one .before .same-address .ensures) (one .if1 .left) in
-    let capability = granted (two .before .same-capability .ensures) (two .if2 .left) in
-    rw (address, capability, ne-eqb _ _ (c .if3 .taken))
+returns-3 c = rw (nobody (c .before .before), ne-eqb _ _ (c .if3 .taken))
+
+no-contender-requires : tie.Need-no-contender-requires
+no-contender-requires c κs = search needs
 
 returns-4 : tie.Need-returns-4
 returns-4 c =
-    let three = c .before in
-    let two = three .before .before in
-    let one = two .before .before in
-    let address = granted (one .before .same-address .ensures) (one .if1 .left) in
-    let capability = granted (two .before .same-capability .ensures) (two .if2 .left) in
-    rw (address, capability, eq-eqb _ _ (three .if3 .left), c .if4 .taken)
-
-returns-5 : tie.Need-returns-5
-returns-5 c =
-    let four = c .before .before in
-    let three = four .before in
-    let two = three .before .before in
-    let one = two .before .before in
-    let address = granted (one .before .same-address .ensures) (one .if1 .left) in
-    let capability = granted (two .before .same-capability .ensures) (two .if2 .left) in
-    rw (address, capability, eq-eqb _ _ (three .if3 .left), four .if4 .left, ne-eqb _ _ (c .if5 .taken))
-
-no-packet-requires : tie.Need-no-packet-requires
-no-packet-requires c κs = search needs
-
-returns-6 : tie.Need-returns-6
-returns-6 c =
-    let five = c .before .before in
-    let four = five .before .before in
-    let three = four .before in
-    let two = three .before .before in
-    let one = two .before .before in
-    let address = granted (one .before .same-address .ensures) (one .if1 .left) in
-    let capability = granted (two .before .same-capability .ensures) (two .if2 .left) in
-    let packet = denied (c .before .no-packet .ensures) (c .if6 .taken) in
-    rw (address, capability, eq-eqb _ _ (three .if3 .left), four .if4 .left, eq-eqb _ _ (five .if5 .left), packet)
+    let three = c .before .before in
+    rw (nobody (three .before .before), eq-eqb _ _ (three .if3 .left), denied (c .before .no-contender .ensures) (c .if4 .taken))
 
 zero-past-end-requires : tie.Need-zero-past-end-requires
 zero-past-end-requires c κs = search needs
 
-returns-7 : tie.Need-returns-7
-returns-7 c =
-    let six = c .before in
-    let five = six .before .before in
-    let four = five .before .before in
-    let three = four .before in
-    let two = three .before .before in
-    let one = two .before .before in
-    let address = granted (one .before .same-address .ensures) (one .if1 .left) in
-    let capability = granted (two .before .same-capability .ensures) (two .if2 .left) in
-    let packet = granted (six .before .no-packet .ensures) (six .if6 .left) in
-    c .zero-past-end .ensures
-    ∙ rw (address, capability, eq-eqb _ _ (three .if3 .left), four .if4 .left, eq-eqb _ _ (five .if5 .left), packet)
+returns-5 : tie.Need-returns-5
+returns-5 c =
+    let three = c .before .before .before in
+    let none = granted (c .before .before .no-contender .ensures) (c .before .if4 .left) in
+    rw (nobody (three .before .before), eq-eqb _ _ (three .if3 .left), none) (c .zero-past-end .ensures)
 
 pub nobody-at-spec : {M : Type 1} → statement M
 nobody-at-spec =
@@ -88,9 +64,7 @@ nobody-at-spec =
     same-capability-requires
     returns-2
     returns-3
+    no-contender-requires
     returns-4
-    returns-5
-    no-packet-requires
-    returns-6
     zero-past-end-requires
-    returns-7)
+    returns-5)

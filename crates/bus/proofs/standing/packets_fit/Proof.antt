@@ -1,15 +1,16 @@
 -- `standing::packets_fit` meets its contract. The loop's invariant: all packets fit if those from j on do. Assumes nothing.
-use Prim.Native.Nat.{ℕ, _-_}
+use Prim.Native.Nat.{ℕ, _+_, _-_}
 use mathlib.Core.Path.{_≡_, refl, sym, _∙_}
 use mathlib.Core.Bool.{Bool, _&&_}
 use borrow.Author.Needs.{needs}
+use borrow.Author.Tests.{not-true, not-false}
 use lib.Seq.{slice}
 use Rattle.rules.specs.Lists.{each-of}
 use Rattle.rules.specs.SetUp.{disciplineOf}
 use Rattle.rules.specs.Standing.{value-fits, length-fits}
 use Rattle.bus.specs.State.{Packet, noPacket}
 use Rattle.bus.specs.Parts.{packetsOf}
-use Rattle.bus.proofs.Tested.{queue-room, denied, granted, each-holds, each-fails, each-end}
+use Rattle.bus.proofs.Tested.{queue-room, each-turn, each-end}
 use Rattle.bus.proofs.standing.packets_fit.Statement.{statement}
 use Rattle.bus.proofs.standing.packets_fit.Tie as tie
 
@@ -35,13 +36,21 @@ element-copy-out-p c = search needs
 packet-fits-requires : tie.Need-packet-fits-requires Inv-loop μ-loop
 packet-fits-requires c κs = search needs
 
-returns : tie.Need-returns Inv-loop μ-loop
-returns c =
-    let turn = c .before .before .before in
-    let start = turn .before .before in
+-- one turn: what is told of the packet at j, and the packets that are left
+turn :
+    (c : tie.After-packet-fits Inv-loop μ-loop)
+    → let at = c .before .before .before in
+    let args = at .before .args in
+    let fit = each-of (fits (args .discipline) (args .d)) in
+    fit (packetsOf (args .t1)) ≡ (c .packet-fits .result && fit (slice (at .loop .j + 1) (args .t1 .length) (args .t1 .packets)))
+turn c =
+    let at = c .before .before .before in
+    let start = at .before in
     let room = queue-room (start .args .t1) _ (start .good .0) (start .pre) in
-    let unfit = denied (c .before .packet-fits .ensures) (c .if1 .taken) in
-    sym (turn .before .loop .inv ∙ each-fails _ _ (turn .before .loop .j) _ noPacket (turn .loop-test .taken) room unfit)
+    at .loop .inv ∙ each-turn _ _ (at .loop .j) _ noPacket (c .before .before .loop-test .taken) room (c .packet-fits .ensures)
+
+returns : tie.Need-returns Inv-loop μ-loop
+returns c = sym (turn (c .before) ∙ rw (not-true (c .before .packet-fits .result) (c .if1 .taken)))
 
 add-j : tie.Need-add-j Inv-loop μ-loop
 add-j c = search needs
@@ -50,12 +59,7 @@ loop-less : tie.Need-loop-less Inv-loop μ-loop
 loop-less c = search needs
 
 loop-again : tie.Need-loop-again Inv-loop μ-loop
-loop-again c =
-    let turn = c .before .before .before in
-    let start = turn .before .before in
-    let room = queue-room (start .args .t1) _ (start .good .0) (start .pre) in
-    let fit = granted (c .before .packet-fits .ensures) (c .if1 .left) in
-    turn .before .loop .inv ∙ each-holds _ _ (turn .before .loop .j) _ noPacket (turn .loop-test .taken) room fit
+loop-again c = turn (c .before) ∙ rw (not-false (c .before .packet-fits .result) (c .if1 .left))
 
 returns-2 : tie.Need-returns-2 Inv-loop μ-loop
 returns-2 c = sym (c .before .loop .inv ∙ each-end _ _ _ _ (c .loop-test .left))

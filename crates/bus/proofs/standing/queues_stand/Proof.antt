@@ -1,88 +1,64 @@
--- `queues_stand` meets its contract: each test that fails makes the conjunction fail, and the queues of sound stations have room and rise.
--- Assumes nothing.
+-- `standing::queues_stand` meets its contract: each test that fails makes the conjunction fail, and the queues of sound places have room
+-- and rise. Assumes nothing.
+use mathlib.Core.Path.{_≡_}
+use mathlib.Core.Bool.{true}
 use borrow.Author.Needs.{needs}
+use Rattle.bus.specs.State.{each-place}
+use Rattle.bus.specs.Parts.{placeSound}
 use Rattle.bus.proofs.Tested.{denied, granted}
 use Rattle.bus.proofs.StandingParts.{sound-room, sound-rises}
 use Rattle.bus.proofs.standing.queues_stand.Statement.{statement}
 use Rattle.bus.proofs.standing.queues_stand.Tie as tie
 
-stations-stand-requires : tie.Need-stations-stand-requires
-stations-stand-requires c κs = search needs
+sound : (c : tie.Else1) → each-place (placeSound (c .before .before .args .g) (c .before .before .args .queues)) 0 64 ≡ true
+sound c = granted (c .before .places-stand .ensures) (c .if1 .left)
+
+places-stand-requires : tie.Need-places-stand-requires
+places-stand-requires c κs = search needs
 
 returns : tie.Need-returns
-returns c = simp (denied (c .before .stations-stand .ensures) (c .if1 .taken))
-
-nobody-past-requires : tie.Need-nobody-past-requires
-nobody-past-requires c κs = search needs
-
-returns-2 : tie.Need-returns-2
-returns-2 c =
-    simp (
-      granted (c .before .before .before .stations-stand .ensures) (c .before .before .if1 .left),
-      denied (c .before .nobody-past .ensures) (c .if2 .taken),
-    )
+returns c = simp (denied (c .before .places-stand .ensures) (c .if1 .taken))
 
 waiting-in-requires : tie.Need-waiting-in-requires
 waiting-in-requires c κs =
-    let first = c .before .before .before .before in
-    let start = first .before .before in (
-      start .pre,
-      sound-room
-          (start .args .g)
-          (start .args .queues)
-          (start .args .g .settings .n)
-          (granted (first .before .stations-stand .ensures) (first .if1 .left)),
-    )
+    let one = c .before .before in
+    let start = one .before .before in
+    (start .pre, sound-room (start .args .g) (start .args .queues) (start .pre) (sound one))
 
 counts-stand-requires : tie.Need-counts-stand-requires
 counts-stand-requires c κs = search needs
 
-returns-3 : tie.Need-returns-3
-returns-3 c =
-    let second = c .before .before .before .before .before in
-    let first = second .before .before in
-    simp (
-      granted (first .before .stations-stand .ensures) (first .if1 .left),
-      granted (second .before .nobody-past .ensures) (second .if2 .left),
-      ← c .before .before .waiting-in .ensures,
-      denied (c .before .counts-stand .ensures) (c .if3 .taken),
-    )
+returns-2 : tie.Need-returns-2
+returns-2 c =
+    let waits = c .before .before in
+    simp (sound (waits .before .before .before), ← waits .waiting-in .ensures, denied (c .before .counts-stand .ensures) (c .if2 .taken))
 
 none-twice-requires : tie.Need-none-twice-requires
 none-twice-requires c κs =
-    let first = c .before .before .before .before .before .before .before in
-    let start = first .before .before in
-    let sound = granted (first .before .stations-stand .ensures) (first .if1 .left) in (
+    let one = c .before .before .before .before .before in
+    let start = one .before .before in
+    let g = start .args .g in (
       start .pre,
       (
-        sound-room (start .args .g) (start .args .queues) (start .args .g .settings .n) sound,
-        λ i h. (start .args .g .admitted, sound-rises (start .args .g) (start .args .queues) (start .args .g .settings .n) sound i h),
+        sound-room g (start .args .queues) (start .pre) (sound one),
+        λ i h. (g .admitted, sound-rises g (start .args .queues) (start .pre) (sound one) i h),
       ),
     )
 
-returns-4 : tie.Need-returns-4
-returns-4 c =
-    let third = c .before in
-    let second = third .before .before .before .before .before in
-    let first = second .before .before in
-    simp (
-      granted (first .before .stations-stand .ensures) (first .if1 .left),
-      granted (second .before .nobody-past .ensures) (second .if2 .left),
-      ← third .before .before .waiting-in .ensures,
-      granted (third .before .counts-stand .ensures) (third .if3 .left),
-    )
-    (c .none-twice .ensures)
+returns-3 : tie.Need-returns-3
+returns-3 c =
+    let waits = c .before .before .before in
+    let count = granted (c .before .before .counts-stand .ensures) (c .before .if2 .left) in
+    simp (sound (waits .before .before .before), ← waits .waiting-in .ensures, count) (c .none-twice .ensures)
 
 pub queues-stand-spec : {M : Type 1} → statement M
 queues-stand-spec =
     tie.close
     (tie.spec
-    stations-stand-requires
+    places-stand-requires
     returns
-    nobody-past-requires
-    returns-2
     waiting-in-requires
     counts-stand-requires
-    returns-3
+    returns-2
     none-twice-requires
-    returns-4)
+    returns-3)

@@ -1,59 +1,49 @@
--- `stands` meets its contract: each part that fails makes the standing conditions fail, and where all hold they hold. Assumes nothing.
+-- `standing::stands` meets its contract: each part that fails makes the standing conditions fail, and where all hold they hold.
+-- Assumes nothing.
 use Prim.Native.Nat.{_≤_}
-use mathlib.Core.Path.{_≡_, refl, sym, ap, _∙_}
-use mathlib.Core.Bool.{Bool, true, false}
-use lib.Dec.{leb, ltb}
+use mathlib.Core.Path.{_≡_, sym, ap, _∙_}
+use mathlib.Core.Bool.{_&&_}
+use lib.Dec.{leb}
 use borrow.Author.Needs.{needs}
 use borrow.Author.Tests.{ltb-true, ltb-false, le-leb, lt-leb}
 use Rattle.rules.specs.Bus.{clock-end, most-admitted, most-stations}
 use Rattle.rules.specs.SetUp.{setUpVerdict}
 use Rattle.bus.specs.State.{State}
-use Rattle.bus.proofs.Form.{Held}
-use Rattle.bus.proofs.Tested.{denied, granted}
-use Rattle.bus.proofs.StandingParts.{tried, few-stations, state-held, not-set-up, standing-parts}
+use Rattle.bus.specs.Coded.{standing}
+use Rattle.bus.proofs.Tested.{denied, granted, passed, failed}
+use Rattle.bus.proofs.StandingParts.{tried, few-tried, state-held, not-set-up, from-contention, from-round, from-admitted, standing-parts}
 use Rattle.bus.proofs.standing.stands.Statement.{statement}
 use Rattle.bus.proofs.standing.stands.Tie as tie
-use Rattle.bus.proofs.standing.stands.Reads as reads
-use Rattle.bus.proofs.standing.stands.Lts as lts
-use Rattle.bus.proofs.sorts.before.Reads as before-reads
-use Rattle.bus.proofs.standing.contention_stands.Reads as contention-stands-reads
-use Rattle.bus.proofs.standing.queues_stand.Reads as queues-stand-reads
-use Rattle.bus.proofs.standing.round_stands.Reads as round-stands-reads
-use Rattle.bus.proofs.stations.verdict.Reads as verdict-reads
 
--- what is known where the set-up is not refused; `lent` is the state there
-abbrev SetUp : Type 0
-SetUp =
-    lts.Else1 (
-      verdict-reads.Asked,
-      verdict-reads.Learnt,
-      before-reads.Asked,
-      before-reads.Learnt,
-      round-stands-reads.Asked,
-      round-stands-reads.Learnt,
-      contention-stands-reads.Asked,
-      contention-stands-reads.Learnt,
-      queues-stand-reads.Asked,
-      queues-stand-reads.Learnt,
-    )
-    reads.Pre
-    reads.Post
+-- ---- what is known after each test that is passed; `lent` is the state
 
-abbrev lent : SetUp → State
+abbrev lent : tie.Else1 → State
 lent c = c .before .before .before .before .before .before .args .s
 
-passed : (c : SetUp) → setUpVerdict (tried (lent c)) .refusal ≡ 0
-passed c = ap (λ v. v .refusal) (sym (c .before .before .verdict .ensures)) ∙ c .if1 .left
+asked : (c : tie.Else1) → setUpVerdict (tried (lent c)) .refusal ≡ 0
+asked c = ap (λ v. v .refusal) (sym (c .before .before .verdict .ensures)) ∙ c .if1 .left
 
-held : (c : SetUp) → Held (lent c)
-held c = state-held (lent c) _ (c .before .before .before .before .before .before .good .0)
+few : (c : tie.Else1) → lent c .segment .settings .n ≤ most-stations
+few c = few-tried (lent c) (asked c)
 
-few : (c : SetUp) → lent c .segment .settings .n ≤ most-stations
-few c = few-stations (lent c) (passed c)
+after-set-up : (c : tie.Else1) → standing (lent c) ≡ (leb (lent c .segment .clock .0) clock-end && from-admitted (lent c))
+after-set-up c = standing-parts (lent c) (state-held (lent c) _ (c .before .before .before .before .before .before .good .0)) (asked c)
 
-in-time :
-    {r : Bool} (c : SetUp) → r ≡ ltb clock-end (lent c .segment .clock .0) → r ≡ false → leb (lent c .segment .clock .0) clock-end ≡ true
-in-time c e k = let clock = lent c .segment .clock .0 in le-leb clock clock-end (ltb-false clock-end clock (sym e ∙ k))
+after-clock : (c : tie.Else2) → let s = lent (c .before .before) in standing s ≡ from-admitted s
+after-clock c =
+    let clock = lent (c .before .before) .segment .clock .0 in
+    let in-time = ltb-false clock-end clock (sym (c .before .before2 .ensures) ∙ c .if2 .left) in
+    passed (after-set-up (c .before .before)) (le-leb clock clock-end in-time)
+
+after-admitted : (c : tie.Else3) → let s = lent (c .before .before .before .before) in standing s ≡ from-round s
+after-admitted c =
+    let s = lent (c .before .before .before .before) in
+    passed (after-clock (c .before .before)) (le-leb (s .segment .admitted) most-admitted (c .if3 .left))
+
+after-round : (c : tie.Else4) → let s = lent (c .before .before .before .before .before .before) in standing s ≡ from-contention s
+after-round c = passed (after-admitted (c .before .before)) (granted (c .before .round-stands .ensures) (c .if4 .left))
+
+-- ---- the needs
 
 verdict-requires : tie.Need-verdict-requires
 verdict-requires c κs = search needs
@@ -70,89 +60,35 @@ before-requires c κs = search needs
 
 returns-2 : tie.Need-returns-2
 returns-2 c =
-    let first = c .before .before in
-    let s = lent first in
-    let late = ltb-true clock-end (s .segment .clock .0) (sym (c .before .before2 .ensures) ∙ c .if2 .taken) in
-    sym (standing-parts s (held first) (passed first) (lt-leb (s .segment .clock .0) clock-end late) refl refl refl refl)
+    let clock = lent (c .before .before) .segment .clock .0 in
+    let late = ltb-true clock-end clock (sym (c .before .before2 .ensures) ∙ c .if2 .taken) in
+    sym (failed _ (after-set-up (c .before .before)) (lt-leb clock clock-end late))
 
 returns-3 : tie.Need-returns-3
 returns-3 c =
-    let second = c .before .before in
-    let first = second .before .before in
-    let s = lent first in
-    sym
-    (standing-parts
-    s
-    (held first)
-    (passed first)
-    (in-time first (second .before .before2 .ensures) (second .if2 .left))
-    (lt-leb (s .segment .admitted) most-admitted (c .if3 .taken))
-    refl
-    refl
-    refl)
+    let s = lent (c .before .before .before .before) in
+    sym (failed _ (after-clock (c .before .before)) (lt-leb (s .segment .admitted) most-admitted (c .if3 .taken)))
 
 round-stands-requires : tie.Need-round-stands-requires
 round-stands-requires c κs = few (c .before .before .before .before)
 
 returns-4 : tie.Need-returns-4
-returns-4 c =
-    let third = c .before .before in
-    let second = third .before .before in
-    let first = second .before .before in
-    let s = lent first in
-    sym
-    (standing-parts
-    s
-    (held first)
-    (passed first)
-    (in-time first (second .before .before2 .ensures) (second .if2 .left))
-    (le-leb (s .segment .admitted) most-admitted (third .if3 .left))
-    (denied (c .before .round-stands .ensures) (c .if4 .taken))
-    refl
-    refl)
+returns-4 c = sym (failed _ (after-admitted (c .before .before)) (denied (c .before .round-stands .ensures) (c .if4 .taken)))
 
 contention-stands-requires : tie.Need-contention-stands-requires
 contention-stands-requires c κs = search needs
 
 returns-5 : tie.Need-returns-5
-returns-5 c =
-    let fourth = c .before .before .before in
-    let third = fourth .before .before in
-    let second = third .before .before in
-    let first = second .before .before in
-    let s = lent first in
-    sym
-    (standing-parts
-    s
-    (held first)
-    (passed first)
-    (in-time first (second .before .before2 .ensures) (second .if2 .left))
-    (le-leb (s .segment .admitted) most-admitted (third .if3 .left))
-    (granted (fourth .before .round-stands .ensures) (fourth .if4 .left))
-    (denied (c .before .contention-stands .ensures) (c .if5 .taken))
-    refl)
+returns-5 c = sym (failed _ (after-round (c .before .before .before)) (denied (c .before .contention-stands .ensures) (c .if5 .taken)))
 
 queues-stand-requires : tie.Need-queues-stand-requires
 queues-stand-requires c κs = few (c .before .before .before .before .before .before .before .before .before .before)
 
 returns-6 : tie.Need-returns-6
 returns-6 c =
-    let fifth = c .before .before in
-    let fourth = fifth .before .before .before in
-    let third = fourth .before .before in
-    let second = third .before .before in
-    let first = second .before .before in
-    let s = lent first in
-    sym
-    (standing-parts
-    s
-    (held first)
-    (passed first)
-    (in-time first (second .before .before2 .ensures) (second .if2 .left))
-    (le-leb (s .segment .admitted) most-admitted (third .if3 .left))
-    (granted (fourth .before .round-stands .ensures) (fourth .if4 .left))
-    (granted (fifth .before .contention-stands .ensures) (fifth .if5 .left))
-    (sym (c .queues-stand .ensures)))
+    let five = c .before .before in
+    let sound = granted (five .before .contention-stands .ensures) (five .if5 .left) in
+    c .queues-stand .ensures ∙ sym (passed (after-round (five .before .before .before)) sound)
 
 pub stands-spec : {M : Type 1} → statement M
 stands-spec =

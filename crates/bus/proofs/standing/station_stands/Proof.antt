@@ -1,9 +1,28 @@
 -- `standing::station_stands` meets its contract: each test of the definition, in its order. Assumes nothing.
+use mathlib.Core.Path.{_≡_}
+use mathlib.Core.Bool.{true, _&&_}
 use borrow.Author.Needs.{needs}
 use borrow.Author.Tests.{le-leb, lt-leb}
+use Rattle.rules.specs.Standing.{rising}
+use Rattle.rules.proofs.Laws.{true-and}
+use Rattle.bus.specs.State.{queue-padded}
+use Rattle.bus.specs.Parts.{packetsOf}
 use Rattle.bus.proofs.Tested.{denied, granted}
 use Rattle.bus.proofs.standing.station_stands.Statement.{statement}
 use Rattle.bus.proofs.standing.station_stands.Tie as tie
+
+-- what is known after each test that is passed
+padded :
+    (c : tie.Else2)
+    → let queue = c .before .before .before .before .args .queue in queue-padded (queue .length) (queue .packets) ≡ true
+padded c = true-and (le-leb _ _ (c .before .before .if1 .left)) (granted (c .before .zero-past-end .ensures) (c .if2 .left))
+
+rises :
+    (c : tie.Else3)
+    → let args = c .before .before .before .before .before .before .args in
+    let queue = args .queue in
+    (queue-padded (queue .length) (queue .packets) && rising 0 (args .admitted) (packetsOf queue)) ≡ true
+rises c = true-and (padded (c .before .before)) (granted (c .before .rises .ensures) (c .if3 .left))
 
 returns : tie.Need-returns
 returns c = rw (lt-leb _ _ (c .if1 .taken))
@@ -18,21 +37,13 @@ rises-requires : tie.Need-rises-requires
 rises-requires c κs = search needs
 
 returns-3 : tie.Need-returns-3
-returns-3 c =
-    let two = c .before .before in
-    let zero = granted (two .before .zero-past-end .ensures) (two .if2 .left) in
-    rw (le-leb _ _ (two .before .before .if1 .left), zero, denied (c .before .rises .ensures) (c .if3 .taken))
+returns-3 c = rw (padded (c .before .before), denied (c .before .rises .ensures) (c .if3 .taken))
 
 packets-fit-requires : tie.Need-packets-fit-requires
 packets-fit-requires c κs = search needs
 
 returns-4 : tie.Need-returns-4
-returns-4 c =
-    let three = c .before .before in
-    let two = three .before .before in
-    let zero = granted (two .before .zero-past-end .ensures) (two .if2 .left) in
-    let rise = granted (three .before .rises .ensures) (three .if3 .left) in
-    rw (le-leb _ _ (two .before .before .if1 .left), zero, rise, denied (c .before .packets-fit .ensures) (c .if4 .taken))
+returns-4 c = rw (rises (c .before .before), denied (c .before .packets-fit .ensures) (c .if4 .taken))
 
 contender-stands-requires : tie.Need-contender-stands-requires
 contender-stands-requires c κs = search needs
@@ -40,12 +51,8 @@ contender-stands-requires c κs = search needs
 returns-5 : tie.Need-returns-5
 returns-5 c =
     let four = c .before in
-    let three = four .before .before in
-    let two = three .before .before in
-    let zero = granted (two .before .zero-past-end .ensures) (two .if2 .left) in
-    let rise = granted (three .before .rises .ensures) (three .if3 .left) in
     let fit = granted (four .before .packets-fit .ensures) (four .if4 .left) in
-    rw (le-leb _ _ (two .before .before .if1 .left), zero, rise, fit) (c .contender-stands .ensures)
+    rw (rises (four .before .before), fit) (c .contender-stands .ensures)
 
 pub station-stands-spec : {M : Type 1} → statement M
 station-stands-spec =
