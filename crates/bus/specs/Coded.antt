@@ -17,7 +17,7 @@ use Rattle.rules.specs.Probe as Probe
 use Rattle.rules.specs.Probe.{refusedAnswer}
 use Rattle.rules.specs.Step.{step}
 use Rattle.rules.specs.Engine.{Engine}
-use Rattle.bus.specs.State.{Slot, Address, Settings, Listed, State, meaning, form, padded}
+use Rattle.bus.specs.State.{Address, Settings, Listed, State, meaning, form, padded}
 pub use Rattle.bus.specs.declared.Row.{Row}
 pub use Rattle.bus.specs.declared.SetUp.{SetUp}
 pub use Rattle.bus.specs.declared.Admission.{Admission}
@@ -29,7 +29,7 @@ pub use Rattle.bus.specs.declared.Totals.{Totals}
 abbrev pub standing : State → Bool
 standing s = padded s && stands (meaning s)
 
--- ---- what is asked for
+-- ---- what is asked for: a station, a set-up by its numbers and its row, an admission
 
 abbrev pub askedOf : Listed → Asked
 askedOf l = record { address = l .address .0; capability = l .capability .0 }
@@ -43,7 +43,8 @@ requestOf g r = requestWith g (map askedOf (take (r .length) (r .stations)))
 abbrev pub arrivalOf : Address → ℕ → ℕ → Arrival
 arrivalOf address value length = record { address = address .0; value = value; length = length }
 
--- ---- the three calls
+-- ---- the three calls. 'Any other refusal hands back the number, zero in the answer's other fields, and the state exactly as lent': on a padded
+-- state that is the form of its meaning, which is the state itself.
 
 abbrev pub codedSetUp : Request → Verdict × State
 codedSetUp r = (setUp r .0, form (setUp r .1))
@@ -98,6 +99,7 @@ answerOf a =
       ended = bit (a .ended);
     }
 
+-- an answer beside the state, as the functions return them
 abbrev pub setUpResult : Verdict × State → SetUp
 setUpResult r = record { verdict = r .0; state = r .1 }
 

@@ -1,25 +1,21 @@
 -- The parts that the code is made of, as functions: what the contracts of the private functions cite. Assumes nothing.
 use Prim.Native.Nat.{ℕ, zero, suc, _+_, _-_, _*_, _/_, min}
-use mathlib.Core.Path.{_≡_}
 use mathlib.Core.Bool.{Bool, true, false, not, _&&_, _||_, cond}
 use mathlib.Core.Option.{Option, none, some}
-use mathlib.Core.List.{List, [], _∷_, _++_, map}
+use mathlib.Core.List.{List, [], _++_, map}
 use lib.Dec.{leb, ltb, eqb}
 use lib.ListN.{length, getD, take, drop, set, replicate}
 use Rattle.window.specs.declared.Side.{Side}
 use Rattle.window.specs.declared.Side.the-variants.{Left, Right}
-use Rattle.window.specs.declared.Window.{Window}
 use Rattle.window.specs.Splitting.{firstWindow, leftHalf, movedRight, placed}
 use Rattle.rules.specs.Lists.{each-of, some-of, has, total, distinct}
-use Rattle.rules.specs.Bus as Machine
 use Rattle.rules.specs.Bus.{places, Discipline, PRI, RTDG, RTVC, late}
-use Rattle.rules.specs.declared.Verdict.{Verdict}
 use Rattle.rules.specs.SetUp.{Asked, disciplineOf}
 use Rattle.rules.specs.Standing.{value-fits, length-fits, rising, same-packet}
 use Rattle.rules.specs.Begin.{sits-out, choice}
 use Rattle.rules.specs.Admission.{Arrival, withPacket}
 use Rattle.rules.specs.Probe as Probe
-use Rattle.rules.specs.Probe.{lies-in, able, contenderOf, idle, collision, success, parameter-phase, tie-phase}
+use Rattle.rules.specs.Probe.{lies-in, able, idle, collision, success, parameter-phase, tie-phase}
 use Rattle.bus.specs.State.{Slot, Address, Capability, Settings, Listed, Contender, Contention, Round, Segment, Queues, State, Packet, noPacket, noContender, noContention, noRound, nobody, placesAt, queueAt, lastOf, tieOf, meaning, form, row, no-packet, queue-padded, contender-padded, round-padded, contention-padded, each-place}
 use Rattle.bus.specs.Coded.{Admission, Answer, askedOf}
 pub use Rattle.bus.specs.declared.Queue.{Queue}

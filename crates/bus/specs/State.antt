@@ -4,10 +4,9 @@ use Prim.Native.Nat.{ℕ, zero, suc, _-_, _*_, _/_, _%_}
 use mathlib.Core.Bool.{Bool, true, false, not, _&&_, _||_, cond}
 use mathlib.Core.Option.{Option, none, some}
 use mathlib.Core.List.{List, [], _∷_}
-use lib.Dec.{leb, ltb, eqb}
+use lib.Dec.{leb, eqb}
 use lib.ListN.{length, getD, take, drop}
-use Rattle.window.specs.declared.Side.{Side}
-use Rattle.window.specs.declared.Side.the-variants.{Left, Right}
+use Rattle.window.specs.declared.Side.the-variants.{Left}
 use Rattle.window.specs.declared.Window.{Window}
 use Rattle.window.specs.Splitting.{sameSide}
 pub use Rattle.rules.specs.declared.Packet.{Packet}
@@ -27,7 +26,7 @@ pub use Rattle.bus.specs.declared.Segment.{Segment}
 pub use Rattle.bus.specs.declared.Queues.{Queues}
 pub use Rattle.bus.specs.declared.State.{State}
 
--- ---- what has no meaning is zero
+-- ---- what has no meaning is zero: a packet, a contender, a contention, a round's last winner, a station that are not there
 
 abbrev pub noPacket : Packet
 noPacket = record { number = 0; value = 0; length = 0 }
@@ -81,12 +80,15 @@ valuesFrom f i (suc k) = f i ∷ valuesFrom f (suc i) k
 abbrev pub stationsOf : State → List Machine.Station
 stationsOf s = valuesFrom (stationAt s) 0 (s .segment .settings .n)
 
+-- the last winner of a round, if a circuit has won
 abbrev pub lastOf : Round → Option ℕ
 lastOf r = cond (r .won) (some (r .last .0)) none
 
+-- the tie value, in the tie phase
 abbrev pub tieOf : Contention → Option ℕ
 tieOf c = cond (c .tied) (some (c .tie)) none
 
+-- the contention, if one is under way
 abbrev pub contentionOf : Contention → Option Machine.Contention
 contentionOf c = cond (c .begun) (some (record { window = c .window; tie = tieOf c })) none
 
@@ -121,9 +123,11 @@ row n f = valuesFrom f 0 n
 abbrev pub noStation : Machine.Station
 noStation = record { address = 0; capability = 0; queue = []; offer = none }
 
+-- station i of a bus; one that is not there past its stations
 abbrev pub stationOr : Machine.Bus → ℕ → Machine.Station
 stationOr b i = getD (b .stations) i noStation
 
+-- a station as it is listed, and its place among the contenders
 abbrev pub listedForm : Machine.Station → Listed
 listedForm s = record { address = record { 0 = s .address }; capability = record { 0 = s .capability } }
 
@@ -131,6 +135,7 @@ abbrev pub contenderForm : Option Machine.Offer → Contender
 contenderForm none = noContender
 contenderForm (some o) = record { contends = true; parameter = o .parameter; packet = o .packet }
 
+-- the round by its last winner, and the contention by its window and its tie value
 abbrev pub roundForm : Option ℕ → Round
 roundForm none = noRound
 roundForm (some c) = record { won = true; last = record { 0 = c } }
@@ -143,6 +148,7 @@ abbrev pub contentionForm : Option Machine.Contention → Contention
 contentionForm none = noContention
 contentionForm (some c) = tiedForm (c .window) (c .tie)
 
+-- the numbers of the set-up, all of the state but the queues, and the queues
 abbrev pub settingsForm : Machine.Bus → Settings
 settingsForm b = record { discipline = code (b .discipline); d = b .D; a = b .A; q = b .q; n = length (b .stations) }
 
@@ -174,6 +180,7 @@ form b = record { segment = segmentForm b; queues = queuesForm b }
 -- ---- 'What has no meaning is zero: places past a queue's end, stations past N, the last winner where there is none, the tie value
 -- outside the tie phase, the window and contenders between contentions.'
 
+-- a place that no packet fills
 abbrev pub no-packet : Packet → Bool
 no-packet p = eqb (p .number) 0 && eqb (p .value) 0 && eqb (p .length) 0
 
@@ -185,12 +192,13 @@ queue-padded n packets = leb n places && each-of no-packet (drop n packets)
 abbrev pub contender-padded : Contender → Bool
 contender-padded c = c .contends || (eqb (c .parameter) 0 && no-packet (c .packet))
 
--- station i has what is zero in its queue and its contender, and is nobody, if it stands past N
+-- the queue and the contender of station i have zeros where they should
 abbrev pub station-padded : State → ℕ → Bool
 station-padded s i =
     queue-padded (getD (s .queues .lengths) i 0) (placesAt (s .queues) i)
     && contender-padded (getD (s .segment .contenders) i noContender)
 
+-- no station is listed at place i, none contends there, and its queue is empty
 abbrev pub no-station : State → ℕ → Bool
 no-station s i =
     eqb (getD (s .segment .listed) i nobody .address .0) 0
@@ -203,16 +211,18 @@ unfoldable pub each-place : (ℕ → Bool) → ℕ → ℕ → Bool
 each-place test i zero = true
 each-place test i (suc k) = test i && each-place test (suc i) k
 
+-- 'the last winner where there is none'
 abbrev pub round-padded : Round → Bool
 round-padded r = r .won || eqb (r .last .0) 0
 
+-- 'the tie value outside the tie phase, the window .. between contentions'
 abbrev pub no-window : Window → Bool
 no-window w = eqb (w .start) 0 && eqb (w .size) 0 && sameSide (w .side) Left
 
 abbrev pub contention-padded : Contention → Bool
 contention-padded c = (c .begun || (no-window (c .window) && not (c .tied))) && (c .tied || eqb (c .tie) 0)
 
--- The discipline is one of the three; each of the 64 places of stations, and those past N, are as the sentence above has them.
+-- The sentence whole, and that the discipline's number is one of the three. Each of the 64 places is tested, and those past N for a station too.
 abbrev pub padded : State → Bool
 padded s =
     leb (s .segment .settings .discipline) 2

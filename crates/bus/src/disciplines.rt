@@ -8,7 +8,6 @@ use crate::sorts;
 use rules::Packet;
 ghost use Prim.Native.Nat.{_-_, _/_, _≤_, min};
 ghost use mathlib.Core.Path.{_≡_};
-ghost use lib.Dec.{leb, ltb, eqb};
 ghost use Rattle.rules.specs.Bus.{late};
 ghost use Rattle.rules.specs.SetUp.{disciplineOf};
 ghost use Rattle.rules.specs.Standing.{value-fits, length-fits};

@@ -98,13 +98,13 @@ pub struct State {
 }
 
 // One station's queue: its first `length` places are filled, the others zero.
-pub struct Queue {
+struct Queue {
     pub packets: [Packet; 16],
     pub length: usize,
 }
 
 // Which packets leave a queue: in a discipline, those whose latest start is below a slot; or the one with a number.
-pub enum Leaving {
+enum Leaving {
     Late(u32, Slot),
     Sent(u64),
 }
@@ -116,7 +116,7 @@ enum Compared {
 }
 
 // The packet that a station offers, if it has one.
-pub struct Chosen {
+struct Chosen {
     pub found: bool,
     pub packet: Packet,
 }
@@ -156,13 +156,13 @@ pub struct Stepped {
 }
 
 // A contention that has begun, and how many packets were dropped.
-pub struct Begun {
+struct Begun {
     pub state: State,
     pub drops: u64,
 }
 
 // A probe's answer, the segment after it, and on success the winner's place.
-pub struct Probed {
+struct Probed {
     pub answer: Answer,
     pub segment: Segment,
     pub winner: usize,
