@@ -33,6 +33,7 @@ ghost use Rattle.bus.specs.Parts.{packetsOf, no-contender, contenderSoun
 // 'packets admitted: at most 4,294,967,295'
 pub const MOST_ADMITTED: u64 = 4_294_967_295;
 
+// Whether a place is one that no packet fills.
 fn no_packet(p: Packet) -> bool
     ensures { λ r. ⌜ r ≡ no-packet p ⌝ }
 {
@@ -45,7 +46,7 @@ fn no_packet(p: Packet) -> bool
     p.length == 0
 }
 
-// The place of a station that does not contend.
+// Whether a place is that of a station that does not contend.
 fn no_contender(c: Contender) -> bool
     ensures { λ r. ⌜ r ≡ no-contender c ⌝ }
 {
@@ -103,6 +104,7 @@ fn rises(queue: Queue, admitted: u64) -> bool
     before <= admitted
 }
 
+// Whether a packet's value and length are in range.
 fn packet_fits(discipline: u32, d: u32, p: Packet) -> bool
     ensures { λ r. ⌜ r ≡ (value-fits (disciplineOf discipline) d (p .value) && length-fits (p .length)) ⌝ }
 {
@@ -301,6 +303,7 @@ fn round_stands(g: Segment) -> bool
     has_capability(listed, settings.n, round.last)
 }
 
+// Whether this is no window: 'the window .. between contentions' is zero.
 fn no_window(w: Window) -> bool
     ensures { λ r. ⌜ r ≡ no-window w ⌝ }
 {

@@ -36,6 +36,7 @@ const MOST_SPACE: u32 = 65_536;
 // 'laxity step q: RTDG: 1 to 65,535'
 const MOST_STEP: u32 = 65_535;
 
+// Whether a space is outside its range.
 fn space_outside(space: u32) -> bool
     ensures { λ r. ⌜ r ≡ outside least-space most-space space ⌝ }
 {
@@ -71,6 +72,7 @@ fn count_outside(n: usize, count: usize) -> bool
     count < n
 }
 
+// The verdict of a refusal, at a station's place where it is one of 7 to 10; 0 for none.
 fn fault(refusal: u32, station: usize) -> Verdict
     ensures { λ r. ⌜ r ≡ record { refusal = refusal; station = station } ⌝ }
 {
