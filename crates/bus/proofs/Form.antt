@@ -22,7 +22,8 @@ use Rattle.rules.specs.SetUp.{disciplineOf}
 use Rattle.rules.specs.Standing.{Standing}
 use Rattle.rules.proofs.Laws.{clash, and-true, true-and, all-nil, each-view}
 use Rattle.rules.proofs.Standing.{set-up-stands}
-use Rattle.bus.specs.State.{Packet, Contender, Contention, Round, Queues, State, noPacket, noContender, nobody, placesAt, queueAt, offerOf, stationAt, stationsOf, lastOf, contentionOf, meaning, noStation, stationOr, listedForm, contenderForm, roundForm, tiedForm, contentionForm, segmentForm, queuesForm, form, no-packet, queue-padded, contender-padded, station-padded, no-station, each-place, round-padded, no-window, contention-padded, padded}
+use Rattle.bus.specs.State.{Packet, Contender, Contention, Round, State, noPacket, noContender, nobody, placesAt, queueAt, offerOf, stationAt, stationsOf, lastOf, contentionOf, meaning, noStation, stationOr, listedForm, contenderForm, roundForm, tiedForm, contentionForm, segmentForm, queuesForm, form, no-packet, queue-padded, contender-padded, station-padded, no-station, each-place, round-padded, no-window, contention-padded, padded}
+use Rattle.bus.proofs.QueueLaws.{places-count, place-at}
 use Rattle.bus.proofs.Rows.{each-place-all, all-each-place, values-length, values-at, values-ext, row-length, row-at, row-ext}
 
 -- ---- the rows of a state are as long as the code's arrays
@@ -187,12 +188,7 @@ contention-form c e = go (c .begun) (c .tied) e
 
 -- station i has sixteen places
 pub places-length : (s : State) → Held s → (i : ℕ) → i < most-stations → length (placesAt (s .queues) i) ≡ places
-places-length s h i l =
-    length-take-le places (drop (places * i) (s .queues .packets)) (omega (arith, length-drop (places * i) (s .queues .packets), h .packets))
-
--- place m of station i is place 16 i + m of the row
-pub place-at : (qs : Queues) (i m : ℕ) → m < places → getD (placesAt qs i) m noPacket ≡ getD (qs .packets) (places * i + m) noPacket
-place-at qs i m h = getD-take places (drop (places * i) (qs .packets)) m noPacket h ∙ getD-drop (places * i) (qs .packets) m noPacket
+places-length s h i l = places-count (s .queues) i l (h .packets)
 
 -- where the places past a queue's end are zero, its packets are what stands at its places
 padded-place :

@@ -4,11 +4,13 @@
 use mathlib.Core.Path.{_≡_}
 use mathlib.Core.Logic.{_↔_}
 use mathlib.Core.Bool.{false}
+use mathlib.Core.List.{List}
 use Rattle.rules.specs.Bus.{nothing}
 use Rattle.rules.specs.Standing.{Standing}
 use Rattle.rules.specs.SetUp.{Request}
 use Rattle.rules.specs.Admission.{Arrival}
 use Rattle.rules.specs.Probe.{refusedAnswer}
+use Rattle.rules.specs.Engine.{machine, Call, reach}
 use Rattle.rules.specs.Demands.{Demand2, Promised}
 use Rattle.rules.proofs.Tests.{Whether}
 use Rattle.bus.specs.State.{State, meaning, form}
@@ -23,6 +25,10 @@ demand2-coded = Coded.demand2-coded
 
 pub promised-coded : Promised coded
 promised-coded = Coded.promised-coded
+
+-- after any set-up and any calls the code's state is the form of the machine's
+pub reached : (r : Request) (calls : List Call) → reach coded r calls ≡ form (reach machine r calls)
+reached = Coded.reached-coded
 
 -- ---- for any state lent, whatever it holds
 

@@ -4,11 +4,11 @@ use Prim.Native.Nat.{ℕ, zero, suc, _+_, _-_, _≤_, _<_}
 use mathlib.Core.Path.{_≡_, refl, sym, ap, ap₂, _∙_, subst}
 use mathlib.Core.Logic.{_⊎_, inl, inr}
 use mathlib.Core.Bool.{Bool, true, false, _&&_, cond}
-use mathlib.Core.List.{List, [], _∷_, map}
+use mathlib.Core.List.{List, _∷_, map}
 use native.Mathlib.Nat.{zero-add, add-zero, suc-add, add-suc}
 use native.Mathlib.Omega.{arith}
 use lib.Dec.{eqb}
-use lib.ListN.{length, getD, take, set, replicate, length-set, length-replicate, getD-replicate, List·getD-eq-default}
+use lib.ListN.{length, getD, take, set, replicate, length-set, length-replicate, getD-replicate}
 use lib.Seq.{ext-getD, length-take-le, getD-take, getD-set-same, getD-set-other}
 use borrow.Author.Tests.{eqb-true, eqb-false}
 use Rattle.rules.specs.Lists.{Among, at-head, in-tail}
@@ -61,12 +61,6 @@ each-place-end test i n h = ap (each-place test i) (rest-none i n h)
 -- ---- values
 
 module _ {X : Type 0} where
-  pub values-turn : (f : ℕ → X) (i n : ℕ) → i < n → valuesFrom f i (n - i) ≡ f i ∷ valuesFrom f (suc i) (n - suc i)
-  values-turn f i n h = ap (valuesFrom f i) (rest-suc i n h)
-
-  pub values-end : (f : ℕ → X) (i n : ℕ) → n ≤ i → valuesFrom f i (n - i) ≡ []
-  values-end f i n h = ap (valuesFrom f i) (rest-none i n h)
-
   pub values-length : (f : ℕ → X) (i k : ℕ) → length (valuesFrom f i k) ≡ k
   values-length f i zero = refl
   values-length f i (suc k) = ap suc (values-length f (suc i) k)
@@ -138,9 +132,6 @@ module _ {X : Type 0} where
   unfolding row
   row-at n f i d h = values-at f 0 n i d h ∙ ap f (zero-add i)
 
-  pub row-past : (n : ℕ) (f : ℕ → X) (i : ℕ) (d : X) → n ≤ i → getD (row n f) i d ≡ d
-  row-past n f i d h = List·getD-eq-default (row n f) d (omega (arith, row-length n f))
-
   -- a row is what stands at its places
   pub row-ext : (n : ℕ) (f : ℕ → X) (xs : List X) (d : X) → length xs ≡ n → ((i : ℕ) → i < n → getD xs i d ≡ f i) → xs ≡ row n f
   unfolding row
@@ -204,9 +195,6 @@ found test i (suc k) = go (test i) refl (found test (suc i) k)
 
 pub first-place-le : (test : ℕ → Bool) (i n : ℕ) → i ≤ n → firstPlace test i (n - i) ≤ n
 first-place-le test i n h = omega (arith, found test i (n - i) .to)
-
-pub first-place-ge : (test : ℕ → Bool) (i k : ℕ) → i ≤ firstPlace test i k
-first-place-ge test i k = found test i k .from
 
 pub first-place-holds : (test : ℕ → Bool) (i n : ℕ) → i ≤ n → firstPlace test i (n - i) < n → test (firstPlace test i (n - i)) ≡ true
 first-place-holds test i n h l = found test i (n - i) .holds (omega arith)
