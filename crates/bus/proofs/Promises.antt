@@ -30,7 +30,8 @@ promised-coded = Coded.promised-coded
 pub reached : (r : Request) (calls : List Call) → reach coded r calls ≡ form (reach machine r calls)
 reached = Coded.reached-coded
 
--- ---- for any state lent, whatever it holds
+-- ---- for any state lent, whatever it holds. `Held s` says that its rows have the lengths of the code's arrays, as those of every state in
+-- the code have.
 
 -- a state stands exactly when it is the form of a bus that keeps the standing conditions of paper 01
 pub stands-exactly : (s : State) → Held s → Whether (Standing (meaning s) × (form (meaning s) ≡ s)) (standing s)
