@@ -29,7 +29,7 @@ ghost use Rattle.bus.specs.State.{form, noContention, queueAt};
 ghost use Rattle.bus.specs.Coded.{standing, stepResult};
 ghost use Rattle.bus.specs.Parts.{Sent, transmitsAt, nextTransmitter, answerTo, collidedAt, unheardAt, wonAt, roundAfter, wonRound, splitAt, onward, segmentWith, noContenders, contenderAt, probed, withQueue, queueForm, stays, openOf};
 
-// 'event 1 (0 idle, 1 collision, 2 success)'
+// The events as numbers.
 pub const IDLE: u32 = 0;
 
 pub const COLLISION: u32 = 1;
