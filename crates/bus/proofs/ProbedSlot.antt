@@ -23,7 +23,7 @@ use Rattle.rules.specs.Probe.{contending, contenders, transmits, transmitters, 
 use Rattle.rules.proofs.Laws.{and-true, true-and, count-some, count-le, total-among}
 use Rattle.bus.specs.State.{Packet, Address, Capability, Contention, Round, Queues, State, noContender, noRound, noContention, nobody, queueAt, offerOf, stationWith, stationAt, valuesFrom, stationsOf, lastOf, tieOf, contentionOf, meaning, form, contender-padded, no-station, round-padded, no-window, contention-padded}
 use Rattle.bus.specs.Coded.{Stepped, answerForm, stepResult}
-use Rattle.bus.specs.Parts.{Probed, Sent, stays, queueForm, withQueue, firstPlace, noContenders, contenderAt, transmitsAt, nextTransmitter, openOf, answerTo, segmentWith, onward, splitAt, collidedAt, unheardAt, roundAfter, wonAt, probed}
+use Rattle.bus.specs.Parts.{Probed, Sent, stays, queueForm, withQueue, firstPlace, noContenders, contenderAt, transmitsAt, nextTransmitter, openOf, answerTo, segmentWith, onward, splitBy, splitAt, collidedAt, unheardAt, roundAfter, wonAt, probed}
 use Rattle.bus.proofs.Rows.{values-map, values-same, row-length, row-at, among-values, first-place-le}
 use Rattle.bus.proofs.Form.{Held, Padded, parts-padded, to-form}
 use Rattle.bus.proofs.QueueLaws.{kept-length}
@@ -152,14 +152,7 @@ module _ (s : State) where
   abbrev now : Contention
   now = s .segment .contention
 
-  -- what a collision makes of the contention, by its window's size and its phase
-  abbrev split-by : Bool → Bool → Contention
-  split-by large tied =
-      cond
-      large
-      (record { begun = true; window = leftHalf (now .window); tied = tied; tie = now .tie })
-      (record { begun = true; window = firstWindow (s .segment .settings .a); tied = true; tie = cond tied (now .tie) (now .window .start) })
-
+  -- what a collision makes of the contention is what the machine makes of it
   split-is : contentionOf (splitAt (s .segment)) ≡ some (split (meaning s) (under-way s))
   split-is = go (leb 2 (now .window .size)) (now .tied)
     where
@@ -168,7 +161,7 @@ module _ (s : State) where
 
       go :
           (large tied : Bool)
-          → contentionOf (split-by large tied)
+          → contentionOf (splitBy (s .segment) large tied)
           ≡ some
           (cond
           large
@@ -185,14 +178,14 @@ module _ (s : State) where
   split-padded : Lent s → contention-padded (splitAt (s .segment)) ≡ true
   split-padded r = go (leb 2 (now .window .size))
     where
-      go : (large : Bool) → contention-padded (split-by large (now .tied)) ≡ true
+      go : (large : Bool) → contention-padded (splitBy (s .segment) large (now .tied)) ≡ true
       go true = tie-padded r
       go false = refl
 
 -- ---- the contention ends
 
-no-contender : (j : ℕ) → j < most-stations → getD noContenders j noContender ≡ noContender
-no-contender j l = row-at most-stations (λ i. noContender) j noContender l
+nobody-contends : (j : ℕ) → j < most-stations → getD noContenders j noContender ≡ noContender
+nobody-contends j l = row-at most-stations (λ i. noContender) j noContender l
 
 -- the round after a success
 last-is : (d : Discipline) (c : Capability) (x : Probe.Contender) → c .0 ≡ x .capability → lastOf (roundAfter d c) ≡ lastWinner d x
@@ -232,7 +225,7 @@ module _ (s : State) (r : Lent s) where
       record {
         discipline = r .zeros .discipline;
         queues = r .zeros .queues;
-        contenders = λ j l. ap contender-padded (no-contender j l);
+        contenders = λ j l. ap contender-padded (nobody-contends j l);
         past-N = nobody-past;
         round = z;
         contention = refl;
@@ -244,7 +237,7 @@ module _ (s : State) (r : Lent s) where
           let none-there = eqb (who .address .0) 0 && eqb (who .capability .0) 0 && eqb (getD (s .queues .lengths) i 0) 0 in
           true-and
           (and-true none-there (not (getD (s .segment .contenders) i noContender .contends)) (r .zeros .past-N i m l) .0)
-          (ap (λ c. not (c .contends)) (no-contender i l))
+          (ap (λ c. not (c .contends)) (nobody-contends i l))
 
   -- without a winner: the stations withdraw
   unwon-is : ended s (s .segment .clock .0 + 1) (s .segment .sent) noRound ≡ form (unwon (meaning s))
@@ -269,7 +262,7 @@ module _ (s : State) (r : Lent s) where
             address = stationAt s j .address;
             capability = stationAt s j .capability;
             queue = stationAt s j .queue;
-            offer = offerOf (no-contender j l i);
+            offer = offerOf (nobody-contends j l i);
           }
 
       stations : stationsOf next ≡ map withdrawn (stationsOf s)
@@ -320,7 +313,7 @@ module _ (s : State) (r : Lent s) where
           address = stationAt s j .address;
           capability = stationAt s j .capability;
           queue = (go (eqb j i) refl ∙ sym (ap (λ t. cond t (staying j) (queueAt (s .queues) j)) (own-address s (r .stands) i j here l))) k;
-          offer = offerOf (no-contender j (omega arith) k);
+          offer = offerOf (nobody-contends j (omega arith) k);
         }
       where
         go : (t : Bool) → eqb j i ≡ t → cond t (staying i) (queueAt (s .queues) j) ≡ cond t (staying j) (queueAt (s .queues) j)

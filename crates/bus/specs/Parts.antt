@@ -9,7 +9,7 @@ use Rattle.window.specs.declared.Side.{Side}
 use Rattle.window.specs.declared.Side.the-variants.{Left, Right}
 use Rattle.window.specs.Splitting.{firstWindow, leftHalf, movedRight, placed}
 use Rattle.rules.specs.Lists.{each-of, some-of, has, total, distinct}
-use Rattle.rules.specs.Bus.{places, Discipline, PRI, RTDG, RTVC, late}
+use Rattle.rules.specs.Bus.{places, Discipline, PRI, RTDG, RTVC, late, numbersIn}
 use Rattle.rules.specs.SetUp.{Asked, disciplineOf}
 use Rattle.rules.specs.Standing.{value-fits, length-fits, rising, same-packet}
 use Rattle.rules.specs.Begin.{sits-out, choice}
@@ -181,7 +181,7 @@ placeSound g qs i = cond (ltb i (g .settings .n)) (stationSound g qs i) (nobodyA
 -- the packets' numbers in the k queues from i on
 abbrev pub numbersFrom : Queues → ℕ → ℕ → List ℕ
 numbersFrom qs i zero = []
-numbersFrom qs i (suc k) = map (λ p. p .number) (queueAt qs i) ++ numbersFrom qs (suc i) k
+numbersFrom qs i (suc k) = numbersIn (queueAt qs i) ++ numbersFrom qs (suc i) k
 
 -- the places of stations, the counts, and 'none twice over all queues'
 abbrev pub queuesSound : Segment → Queues → Bool
@@ -291,18 +291,21 @@ segmentWith g clock sent round contention contenders =
 abbrev pub onward : Segment → Contention → Segment
 onward g c = segmentWith g (g .clock .0 + 1) (g .sent) (g .round) c (g .contenders)
 
--- what a collision makes of the contention
-abbrev pub splitAt : Segment → Contention
-splitAt g =
+-- what a collision makes of the contention, by whether its window has size 2 or more and whether it is in the tie phase
+abbrev pub splitBy : Segment → Bool → Bool → Contention
+splitBy g large tied =
     cond
-    (leb 2 (g .contention .window .size))
-    (record { begun = true; window = leftHalf (g .contention .window); tied = g .contention .tied; tie = g .contention .tie })
+    large
+    (record { begun = true; window = leftHalf (g .contention .window); tied = tied; tie = g .contention .tie })
     (record {
       begun = true;
       window = firstWindow (g .settings .a);
       tied = true;
-      tie = cond (g .contention .tied) (g .contention .tie) (g .contention .window .start);
+      tie = cond tied (g .contention .tie) (g .contention .window .start);
     })
+
+abbrev pub splitAt : Segment → Contention
+splitAt g = splitBy g (leb 2 (g .contention .window .size)) (g .contention .tied)
 
 -- two or more transmit
 abbrev pub collidedAt : Segment → ℕ → Probed

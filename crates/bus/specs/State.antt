@@ -215,10 +215,11 @@ each-place test i (suc k) = test i && each-place test (suc i) k
 abbrev pub round-padded : Round → Bool
 round-padded r = r .won || eqb (r .last .0) 0
 
--- 'the tie value outside the tie phase, the window .. between contentions'
+-- no window
 abbrev pub no-window : Window → Bool
 no-window w = eqb (w .start) 0 && eqb (w .size) 0 && sameSide (w .side) Left
 
+-- 'the tie value outside the tie phase, the window .. between contentions'
 abbrev pub contention-padded : Contention → Bool
 contention-padded c = (c .begun || (no-window (c .window) && not (c .tied))) && (c .tied || eqb (c .tie) 0)
 
