@@ -2,8 +2,15 @@
 use Prim.Native.Nat.{ℕ}
 use mathlib.Core.Path.{_≡_}
 use Rattle.window.proofs.Unique.{unique}
-use Rattle.bus.specs.State.{State, Settings, Address}
-use Rattle.bus.specs.Coded.{Row, SetUp, Admission, Stepped, Totals, requestOf, arrivalOf, codedSetUp, codedAdmit, codedStep, setUpResult, admissionResult, stepResult, totalsOf}
+use Rattle.rules.specs.Bus.{nothing}
+use Rattle.bus.specs.State.{State, Settings, Address, form}
+use Rattle.bus.specs.Coded.{Row, SetUp, Admission, Stepped, Totals, settingsRefusal, requestOf, arrivalOf, codedSetUp, codedAdmit, codedStep, setUpResult, admissionResult, stepResult, totalsOf}
+
+pub all-zero-unique : (r r′ : State) → r ≡ form nothing → r′ ≡ form nothing → r ≡ r′
+all-zero-unique r r′ = unique
+
+pub settings-refusal-unique : (settings : Settings) (r r′ : ℕ) → r ≡ settingsRefusal settings → r′ ≡ settingsRefusal settings → r ≡ r′
+settings-refusal-unique settings r r′ = unique
 
 pub set-up-unique :
     (settings : Settings) (row : Row) (r r′ : SetUp) → r ≡ setUpResult (codedSetUp (requestOf settings row))

@@ -5,19 +5,19 @@ use Prim.Native.Nat.{ℕ}
 use mathlib.Core.Bool.{Bool, not, _&&_, cond}
 use mathlib.Core.List.{List, map}
 use lib.Dec.{eqb}
-use lib.ListN.{take}
-use Rattle.rules.specs.Lists.{bit}
-use Rattle.rules.specs.Bus.{waiting}
+use lib.ListN.{take, replicate}
+use Rattle.rules.specs.Lists.{bit, firstOf}
+use Rattle.rules.specs.Bus.{most-stations, waiting}
 use Rattle.rules.specs.declared.Verdict.{Verdict}
 use Rattle.rules.specs.declared.Admitted.{Admitted}
-use Rattle.rules.specs.SetUp.{Asked, Request, setUp}
+use Rattle.rules.specs.SetUp.{Asked, Request, fine, settingsTests, setUp}
 use Rattle.rules.specs.Standing.{stands}
 use Rattle.rules.specs.Admission.{Arrival, admit}
 use Rattle.rules.specs.Probe as Probe
 use Rattle.rules.specs.Probe.{refusedAnswer}
 use Rattle.rules.specs.Step.{step}
 use Rattle.rules.specs.Engine.{Engine}
-use Rattle.bus.specs.State.{Address, Settings, Listed, State, meaning, form, padded}
+use Rattle.bus.specs.State.{Address, Settings, Listed, State, nobody, meaning, form, padded}
 pub use Rattle.bus.specs.declared.Row.{Row}
 pub use Rattle.bus.specs.declared.SetUp.{SetUp}
 pub use Rattle.bus.specs.declared.Admission.{Admission}
@@ -39,6 +39,10 @@ requestWith g row = record { discipline = g .discipline; D = g .d; A = g .a; q =
 
 abbrev pub requestOf : Settings → Row → Request
 requestOf g r = requestWith g (map askedOf (take (r .length) (r .stations)))
+
+-- 2 to 6, 'as the set-up is read': whatever the stations are, as long as there are enough of them
+abbrev pub settingsRefusal : Settings → ℕ
+settingsRefusal g = firstOf fine (settingsTests (requestWith g (replicate most-stations (askedOf nobody)))) .refusal
 
 abbrev pub arrivalOf : Address → ℕ → ℕ → Arrival
 arrivalOf address value length = record { address = address .0; value = value; length = length }

@@ -1,8 +1,10 @@
 // The engine: the state of a bus segment, and the calls on it. Every call takes any input; bad input gets its number from the
 // table of paper 01, and the state comes back as lent.
 ghost use mathlib.Core.Path.{_≡_};
+ghost use Rattle.rules.specs.Bus.{nothing};
 ghost use Rattle.rules.specs.Probe.{refusedAnswer};
-ghost use Rattle.bus.specs.Coded.{codedSetUp, codedAdmit, codedStep, setUpResult, admissionResult, stepResult, requestOf, arrivalOf, answerForm, totalsOf};
+ghost use Rattle.bus.specs.State.{form};
+ghost use Rattle.bus.specs.Coded.{settingsRefusal, codedSetUp, codedAdmit, codedStep, setUpResult, admissionResult, stepResult, requestOf, arrivalOf, answerForm, totalsOf};
 use rules::Admitted;
 use rules::Packet;
 use rules::Verdict;
@@ -178,6 +180,22 @@ pub struct Totals {
     pub waiting: u64,
 }
 
+// 'an all-zero state', 'which refusal 1 catches'
+pub fn all_zero() -> State
+    ensures { λ r. ⌜ r ≡ form nothing ⌝ }
+{
+    let nobody = [zeros::NOBODY; 64];
+    stations::fresh(zeros::NO_SETTINGS, nobody)
+}
+
+// 2 to 6 of a set-up's numbers, before its stations are known; 0 for none.
+pub fn settings_refusal(settings: Settings) -> u32
+    ensures { λ r. ⌜ r ≡ settingsRefusal settings ⌝ }
+{
+    let verdict = stations::settings_verdict(settings, stations::MOST_STATIONS);
+    verdict.refusal
+}
+
 // 'Set-up tries 2 to 6, then the stations in turn, each 7 to 10. A refused set-up hands back its number and an all-zero state.'
 pub fn set_up(settings: Settings, row: Row) -> SetUp
     ensures { λ r. ⌜ r ≡ setUpResult (codedSetUp (requestOf settings row)) ⌝ }
@@ -186,15 +204,7 @@ pub fn set_up(settings: Settings, row: Row) -> SetUp
     let length = row.length;
     let verdict = stations::verdict(settings, stations, length);
     if verdict.refusal != 0 {
-        let none = Settings {
-            discipline: 0,
-            d: 0,
-            a: 0,
-            q: 0,
-            n: 0,
-        };
-        let nobody = [zeros::NOBODY; 64];
-        let state = stations::fresh(none, nobody);
+        let state = all_zero();
         return SetUp { verdict, state };
     }
     let n = settings.n;

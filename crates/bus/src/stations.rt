@@ -26,7 +26,7 @@ ghost use Rattle.bus.specs.Coded.{askedOf, requestWith};
 ghost use Rattle.bus.specs.Parts.{numberOf, shared, firstPlace, freshState};
 
 // 'stations N: 1 to 64'
-const MOST_STATIONS: usize = 64;
+pub const MOST_STATIONS: usize = 64;
 
 // 'parameter space D', 'address space A: 2 to 65,536'
 const LEAST_SPACE: u32 = 2;
@@ -80,7 +80,7 @@ fn fault(refusal: u32, station: usize) -> Verdict
 }
 
 // 2 to 6, of such a row.
-fn settings_verdict(settings: Settings, count: usize) -> Verdict
+pub fn settings_verdict(settings: Settings, count: usize) -> Verdict
     ensures { λ r. ⌜ ((row : List Asked) → length row ≡ min count most-stations → r ≡ firstOf fine (settingsTests (requestWith settings row))) ⌝ }
 {
     if 2 < settings.discipline {

@@ -5,9 +5,19 @@ use crate::Contender;
 use crate::Contention;
 use crate::Listed;
 use crate::Round;
+use crate::Settings;
 use rules::Packet;
 use window::Side;
 use window::Window;
+
+// No set-up.
+pub const NO_SETTINGS: Settings = Settings {
+    discipline: 0,
+    d: 0,
+    a: 0,
+    q: 0,
+    n: 0,
+};
 
 // A place that no station fills.
 pub const NOBODY: Listed = Listed {

@@ -5,11 +5,9 @@ use mathlib.Core.List.{map}
 use lib.ListN.{take}
 use borrow.Author.Tests.{eq-eqb, ne-eqb}
 use Rattle.rules.specs.declared.Verdict.{Verdict}
-use Rattle.bus.specs.State.{nobody}
 use Rattle.bus.specs.Coded.{askedOf, requestOf}
 use Rattle.bus.specs.Parts.{freshState}
-use Rattle.bus.proofs.Rows.{row-replicate}
-use Rattle.bus.proofs.SettingUp.{set-up-answer, nothing-form, set-up-pass, fresh-form}
+use Rattle.bus.proofs.SettingUp.{set-up-answer, set-up-pass, fresh-form}
 use borrow.Author.Needs.{needs}
 use Rattle.bus.proofs.set_up.Statement.{statement}
 use Rattle.bus.proofs.set_up.Tie as tie
@@ -17,8 +15,8 @@ use Rattle.bus.proofs.set_up.Tie as tie
 verdict-requires : tie.Need-verdict-requires
 verdict-requires c κs = search needs
 
-fresh-requires : tie.Need-fresh-requires
-fresh-requires c κs = search needs
+all-zero-requires : tie.Need-all-zero-requires
+all-zero-requires c κs = search needs
 
 returns : tie.Need-returns
 returns c =
@@ -31,7 +29,7 @@ returns c =
     false
     (one .before .before .verdict .ensures)
     (ne-eqb _ _ (one .if1 .taken))
-    (c .fresh .ensures ∙ ap (freshState _) (row-replicate 64 nobody) ∙ nothing-form)
+    (c .all-zero .ensures)
 
 up-to-requires : tie.Need-up-to-requires
 up-to-requires c κs =
@@ -43,8 +41,8 @@ up-to-requires c κs =
     (ap (λ (v : Verdict). v .refusal) (sym (c .before .before .verdict .ensures)) ∙ c .if1 .left)
     .few
 
-fresh-requires-2 : tie.Need-fresh-requires-2
-fresh-requires-2 c κs = search needs
+fresh-requires : tie.Need-fresh-requires
+fresh-requires c κs = search needs
 
 returns-2 : tie.Need-returns-2
 returns-2 c =
@@ -60,7 +58,7 @@ returns-2 c =
     true
     e
     (eq-eqb _ _ (one .if1 .left))
-    (c .fresh2 .ensures
+    (c .fresh .ensures
     ∙ ap (freshState g) (c .before .up-to .ensures)
     ∙ sym
     (fresh-form
@@ -72,4 +70,4 @@ returns-2 c =
 pub set-up-spec : {M : Type 1} → statement M
 set-up-spec =
     tie.close
-    (tie.spec verdict-requires fresh-requires returns up-to-requires fresh-requires-2 returns-2)
+    (tie.spec verdict-requires all-zero-requires returns up-to-requires fresh-requires returns-2)

@@ -1,0 +1,24 @@
+use borrow.Author.Needs.{needs}
+use Rattle.scenario.proofs.fields.one.Statement.{statement}
+use Rattle.scenario.proofs.fields.one.Tie as tie
+use Rattle.scenario.proofs.fields.one.Reads as reads
+use Rattle.scenario.proofs.fields.one.Lts as lts
+
+-- src/fields.rt:12:23
+shared-slice-read-result : tie.Need-shared-slice-read-result
+shared-slice-read-result c = search needs
+
+-- src/fields.rt:12:23
+cast-result : tie.Need-cast-result
+cast-result c = ?
+
+-- src/fields.rt:8:1
+returns : tie.Need-returns
+returns c = ?
+
+-- src/fields.rt:8:1
+returns-2 : tie.Need-returns-2
+returns-2 c = ?
+
+pub one-spec : {M : Type 1} → statement M
+one-spec = tie.close (tie.spec shared-slice-read-result cast-result returns returns-2)

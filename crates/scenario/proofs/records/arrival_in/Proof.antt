@@ -1,0 +1,31 @@
+use borrow.Author.Needs.{needs}
+use Rattle.scenario.proofs.records.arrival_in.Statement.{statement}
+use Rattle.scenario.proofs.records.arrival_in.Tie as tie
+use Rattle.scenario.proofs.records.arrival_in.Reads as reads
+use Rattle.scenario.proofs.records.arrival_in.Lts as lts
+use Rattle.scenario.proofs.fields.four.Reads as four-reads
+use Rattle.scenario.proofs.fields.two.Reads as two-reads
+
+-- src/records.rt:67:20
+four-requires : tie.Need-four-requires
+four-requires c κs = search needs
+
+-- src/records.rt:68:26
+two-requires : tie.Need-two-requires
+two-requires c κs = search needs
+
+-- src/records.rt:69:16
+four-requires-2 : tie.Need-four-requires-2
+four-requires-2 c κs = search needs
+
+-- src/records.rt:70:17
+two-requires-2 : tie.Need-two-requires-2
+two-requires-2 c κs = search needs
+
+-- src/records.rt:63:1
+returns : tie.Need-returns
+returns c = ?
+
+pub arrival-in-spec : {M : Type 1} → statement M
+arrival-in-spec =
+    tie.close (tie.spec four-requires two-requires four-requires-2 two-requires-2 returns)
