@@ -35,14 +35,14 @@ use Rattle.bus.proofs.Form.{Held, form-meaning, Fits, standing-fits, no
 -- ---- demand 2
 
 -- a call on the form of a bus is the machine's call on the bus
-coded-admit : (b : Bus) → Fits b → (a : Arrival) → codedAdmit (form b) a ≡ (admit b a .0, form (admit b a .1))
+pub coded-admit : (b : Bus) → Fits b → (a : Arrival) → codedAdmit (form b) a ≡ (admit b a .0, form (admit b a .1))
 coded-admit b fits a =
     ap₂
     (λ t m. cond t (admit m a .0, form (admit m a .1)) (record { refusal = 1; number = 0 }, form b))
     (padded-form b fits)
     (meaning-form b fits)
 
-coded-step : (b : Bus) → Fits b → codedStep (form b) ≡ (step b .0, form (step b .1))
+pub coded-step : (b : Bus) → Fits b → codedStep (form b) ≡ (step b .0, form (step b .1))
 coded-step b fits =
     ap₂ (λ t m. cond t (step m .0, form (step m .1)) (refusedAnswer 1, form b)) (padded-form b fits) (meaning-form b fits)
 

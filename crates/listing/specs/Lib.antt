@@ -1,0 +1,4 @@
+pub mod Text
+pub mod Run
+pub mod Turns
+pub mod Parts

@@ -1,0 +1,65 @@
+-- The whole run, from the bytes of a scenario to the bytes of its listing (paper 01, 'The scenario and its listing'). Assumes nothing.
+use Prim.Native.Nat.{ℕ, zero, suc}
+use mathlib.Core.Bool.{Bool, cond}
+use mathlib.Core.List.{List, [], _∷_, _++_}
+use lib.Dec.{leb, eqb}
+use Rattle.rules.specs.Bus.{Bus, waiting}
+use Rattle.rules.specs.SetUp.{setUp}
+use Rattle.rules.specs.Admission as Rules
+use Rattle.rules.specs.Admission.{admit}
+use Rattle.rules.specs.Step.{step}
+use Rattle.bus.specs.Coded.{arrivalOf}
+use Rattle.scenario.specs.declared.Arrival.{Arrival}
+use Rattle.scenario.specs.Reading.{Reading, refused, accepted, reading}
+use Rattle.listing.specs.Text.{refusedText, arrivalText, endText, droppedText, probedText}
+
+-- what an arrival asks for
+abbrev pub asks : Arrival → Rules.Arrival
+asks a = arrivalOf (a .address) (a .value) (a .length)
+
+-- 'whose time is not above the clock'
+abbrev pub due : ℕ → Arrival → Bool
+due clock a = leb (a .time .0) clock
+
+-- 'R slot address number (the clock, the refusal) for a refused arrival'; nothing for an accepted one
+abbrev pub refusalText : ℕ → Arrival → ℕ → List ℕ
+refusalText clock a refusal = cond (eqb refusal 0) [] (arrivalText clock (a .address .0) refusal)
+
+-- what the arrivals that are due leave: the text, the bus, and the arrivals that are not yet due
+pub record Left : Type 0 where
+  pub text : List ℕ
+  pub bus : Bus
+  pub arrivals : List Arrival
+
+abbrev pub after : List ℕ → Left → Left
+after text x = record { text = text ++ x .text; bus = x .bus; arrivals = x .arrivals }
+
+-- 'it admits, in file order, the arrivals whose time is not above the clock'
+abbrev pub admitDue : Bus → List Arrival → Left
+admitDue b [] = record { text = []; bus = b; arrivals = [] }
+admitDue b (a ∷ later) =
+    cond
+    (due (b .clock) a)
+    (after (refusalText (b .clock) a (admit b (asks a) .0 .refusal)) (admitDue (admit b (asks a) .1) later))
+    (record { text = []; bus = b; arrivals = a ∷ later })
+
+-- 'Last: END clock admitted sent lost waiting'
+abbrev pub closingText : Bus → List ℕ
+closingText b = endText (b .clock) (b .admitted) (b .sent) (b .lost) (waiting (b .stations))
+
+-- 'Before each step it admits ..'; 'Arrivals the run never reaches are not admitted.'
+abbrev pub runText : ℕ → Bus → List Arrival → List ℕ
+runText zero b arrivals = closingText b
+runText (suc steps) b arrivals =
+    let x = admitDue b arrivals in
+    let r = step (x .bus) in
+    x .text ++ (droppedText (r .0) ++ (probedText (r .0) ++ runText steps (r .1) (x .arrivals)))
+
+-- 'A refused scenario prints only REFUSED number offset'
+abbrev pub listingOf : Reading → List ℕ
+listingOf (refused number offset) = refusedText number offset
+listingOf (accepted r arrivals steps) = runText steps (setUp r .1) arrivals
+
+-- the listing of a scenario
+abbrev pub listing : List ℕ → List ℕ
+listing input = listingOf (reading input)

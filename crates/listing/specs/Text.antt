@@ -1,0 +1,113 @@
+-- The lines of a listing (paper 01, 'The scenario and its listing') as bytes of ASCII. 'Fields are decimal, one space apart, each line closed
+-- by one newline.' Assumes nothing.
+use Prim.Native.Nat.{ℕ, zero, suc, _+_, _-_, _/_, _%_}
+use mathlib.Core.Bool.{Bool, cond}
+use mathlib.Core.List.{List, [], _∷_, _++_}
+use lib.Dec.{ltb, eqb}
+use lib.ListN.{length, take, replicate}
+use Rattle.rules.specs.Probe.{Answer}
+pub use Rattle.listing.specs.declared.Line.{Line}
+
+-- ---- numbers
+
+-- the ASCII code of a digit
+abbrev pub digit : ℕ → ℕ
+digit d = 48 + d
+
+-- a number in decimal, its last digit last; each turn takes off a digit, so that as many turns as the number says are enough
+abbrev pub decimalIn : ℕ → ℕ → List ℕ
+decimalIn zero n = []
+decimalIn (suc turns) n = cond (ltb n 10) (digit n ∷ []) (decimalIn turns (n / 10) ++ (digit (n % 10) ∷ []))
+
+unfoldable pub decimal : ℕ → List ℕ
+decimal n = decimalIn (suc n) n
+
+-- ---- fields and lines
+
+abbrev pub space : ℕ
+space = 32
+
+abbrev pub newline : ℕ
+newline = 10
+
+-- fields, each after one space
+abbrev pub fields : List ℕ → List ℕ
+fields [] = []
+fields (n ∷ ns) = (space ∷ decimal n) ++ fields ns
+
+-- 'END', 'R', 'D', 'REFUSED', and a line that opens with such a word
+abbrev pub END : List ℕ
+END = 69 ∷ 78 ∷ 68 ∷ []
+
+abbrev pub REFUSED : List ℕ
+REFUSED = 82 ∷ 69 ∷ 70 ∷ 85 ∷ 83 ∷ 69 ∷ 68 ∷ []
+
+abbrev pub R : List ℕ
+R = 82 ∷ []
+
+abbrev pub D : List ℕ
+D = 68 ∷ []
+
+abbrev pub wordLine : List ℕ → List ℕ → List ℕ
+wordLine word ns = (word ++ fields ns) ++ (newline ∷ [])
+
+-- 'REFUSED number offset'
+abbrev pub refusedText : ℕ → ℕ → List ℕ
+refusedText number offset = wordLine REFUSED (number ∷ offset ∷ [])
+
+-- 'R slot address number (the clock, the refusal) for a refused arrival'
+abbrev pub arrivalText : ℕ → ℕ → ℕ → List ℕ
+arrivalText slot address number = wordLine R (slot ∷ address ∷ number ∷ [])
+
+-- 'D count'
+abbrev pub dropsText : ℕ → List ℕ
+dropsText count = wordLine D (count ∷ [])
+
+-- 'END clock admitted sent lost waiting'
+abbrev pub endText : ℕ → ℕ → ℕ → ℕ → ℕ → List ℕ
+endText clock admitted sent lost waiting = wordLine END (clock ∷ admitted ∷ sent ∷ lost ∷ waiting ∷ [])
+
+-- 'phase P or T': the parameter phase is 0
+abbrev pub phaseLetter : ℕ → ℕ
+phaseLetter phase = cond (eqb phase 0) 80 84
+
+-- 'event I, C, or S': idle is 0, a collision 1, a success 2
+abbrev pub eventLetter : ℕ → ℕ
+eventLetter event = cond (eqb event 0) 73 (cond (eqb event 1) 67 83)
+
+-- 'S with address, packet number, length'
+abbrev pub winnerFields : ℕ → List ℕ → List ℕ
+winnerFields event winner = cond (ltb event 2) [] (fields winner)
+
+-- 'slot phase start size event'
+abbrev pub probeText : ℕ → ℕ → ℕ → ℕ → ℕ → List ℕ → List ℕ
+probeText slot phase start size event winner =
+    (((((decimal slot ++ (space ∷ phaseLetter phase ∷ [])) ++ fields (start ∷ size ∷ [])) ++ (space ∷ eventLetter event ∷ []))
+    ++ winnerFields event winner)
+    ++ (newline ∷ []))
+
+-- 'D count if packets were dropped'
+abbrev pub droppedText : Answer → List ℕ
+droppedText a = cond (eqb (a .drops) 0) [] (dropsText (a .drops))
+
+-- 'slot phase start size event, ..'; a refused step has no line
+abbrev pub probedText : Answer → List ℕ
+probedText a =
+    cond
+    (eqb (a .refusal) 0)
+    (probeText (a .slot) (a .phase) (a .start) (a .size) (a .event) (a .address ∷ a .number ∷ a .length ∷ []))
+    []
+
+-- ---- a line as the code holds it
+
+-- the places of a line
+abbrev pub most-text : ℕ
+most-text = 128
+
+-- the line with this text: its bytes, zeros after them, and how many they are
+abbrev pub lineOf : List ℕ → Line
+lineOf text = record { bytes = text ++ replicate (most-text - length text) 0; length = length text }
+
+-- the text of a line
+abbrev pub textOf : Line → List ℕ
+textOf l = take (l .length) (l .bytes)
