@@ -1,0 +1,351 @@
+//! Plays a script of calls on one state and writes each answer and the state.
+
+use std::io::Write;
+
+use crate::admission::admit;
+use crate::lines::Lines;
+use crate::set_up::set_up;
+use crate::state::{Contender, Packet, Settings, Side, State, Station, PLACES, STATIONS};
+use crate::step::{step, Answer, Event};
+use crate::totals::totals;
+
+/// "its first 65,536 bytes are read".
+pub const LONGEST_SCRIPT: usize = 65_536;
+
+/// Numbers from here on read as the largest of 64 bits.
+const READS_AS_LARGEST: u64 = 18_446_744_073_709_551_610;
+
+/// Plays a whole script; "At the script's end the state is written once more".
+pub fn drive<W: Write>(script: &[u8], lines: &mut Lines<W>) {
+    let mut state = State::ZERO;
+    let mut script = Script {
+        bytes: &script[..script.len().min(LONGEST_SCRIPT)],
+        at: 0,
+    };
+    while let Some(letter) = script.letter() {
+        match letter {
+            b'U' => play_set_up(&mut state, &mut script, lines),
+            b'A' => play_admission(&mut state, &mut script, lines),
+            b'S' => play_step(&mut state, lines),
+            b'T' => play_totals(&state, lines),
+            b'E' => play_change(&mut state, &mut script),
+            _ => write_state(&state, lines),
+        }
+    }
+    write_state(&state, lines);
+}
+
+/// A script and how far it has been read.
+struct Script<'a> {
+    bytes: &'a [u8],
+    at: usize,
+}
+
+impl Script<'_> {
+    fn byte(&mut self) -> Option<u8> {
+        let byte = *self.bytes.get(self.at)?;
+        self.at += 1;
+        Some(byte)
+    }
+
+    /// "every byte is passed over until a command's letter; `#` passes over the rest of its line".
+    fn letter(&mut self) -> Option<u8> {
+        loop {
+            match self.byte()? {
+                b'#' => self.pass_line(),
+                letter @ (b'U' | b'A' | b'S' | b'T' | b'E' | b'P') => return Some(letter),
+                _ => {}
+            }
+        }
+    }
+
+    fn pass_line(&mut self) {
+        while self.byte().is_some_and(|byte| byte != b'\n') {}
+    }
+
+    /// "bytes that are no digit are passed over, then its digits are read, decimal".
+    fn number(&mut self) -> u64 {
+        while self.digit().is_none() && self.at < self.bytes.len() {
+            self.at += 1;
+        }
+        let mut number: u64 = 0;
+        while let Some(digit) = self.digit() {
+            number = number.saturating_mul(10).saturating_add(digit);
+            self.at += 1;
+        }
+        if number >= READS_AS_LARGEST {
+            u64::MAX
+        } else {
+            number
+        }
+    }
+
+    /// The digit that stands next, if one does.
+    fn digit(&self) -> Option<u64> {
+        let byte = *self.bytes.get(self.at)?;
+        byte.is_ascii_digit().then(|| u64::from(byte - b'0'))
+    }
+
+    /// A number stored in 32 bits.
+    fn number32(&mut self) -> u32 {
+        self.number() as u32
+    }
+}
+
+/// `U`: "set-up, with a row of 64 places of which the first `length` are filled".
+fn play_set_up<W: Write>(state: &mut State, script: &mut Script, lines: &mut Lines<W>) {
+    let settings = Settings {
+        discipline: script.number32(),
+        d: script.number32(),
+        a: script.number32(),
+        q: script.number32(),
+        n: script.number(),
+    };
+    let filled = at_most_64(script.number());
+    let pairs = at_most_64(script.number());
+    let mut row = [Station::ZERO; STATIONS];
+    for station in &mut row[..pairs] {
+        station.address = script.number32();
+        station.capability = script.number32();
+    }
+    let (passed, fresh) = set_up(settings, &row[..filled]);
+    *state = fresh;
+    let (refusal, station) = match passed {
+        Ok(()) => (0, 0),
+        Err(refused) => (refused.refusal.number(), refused.station),
+    };
+    lines
+        .word("U")
+        .number(refusal)
+        .number(station as u64)
+        .close();
+}
+
+/// "k above 64 counts as 64, and `length` above 64 as 64".
+fn at_most_64(number: u64) -> usize {
+    number.min(STATIONS as u64) as usize
+}
+
+/// `A`: admission.
+fn play_admission<W: Write>(state: &mut State, script: &mut Script, lines: &mut Lines<W>) {
+    let address = script.number32();
+    let value = script.number32();
+    let length = script.number32();
+    let (refusal, number) = match admit(state, address, value, length) {
+        Ok(number) => (0, number),
+        Err(refusal) => (refusal.number(), 0),
+    };
+    lines.word("A").number(refusal).number(number).close();
+}
+
+/// `S`: step; "zero in the answer's other fields" for a refusal.
+fn play_step<W: Write>(state: &mut State, lines: &mut Lines<W>) {
+    lines.word("S");
+    match step(state) {
+        Ok(answer) => write_answer(&answer, lines),
+        Err(refusal) => lines.number(refusal.number()).numbers(&[0; 10]).close(),
+    }
+}
+
+/// The fields of a step that was not refused.
+fn write_answer<W: Write>(answer: &Answer, lines: &mut Lines<W>) {
+    let (event, address, number, length) = match answer.event {
+        Event::Idle => (0, 0, 0, 0),
+        Event::Collision => (1, 0, 0, 0),
+        Event::Success {
+            address,
+            number,
+            length,
+        } => (2, u64::from(address), number, u64::from(length)),
+    };
+    lines
+        .number(0u64)
+        .number(answer.drops)
+        .number(answer.slot)
+        .number(answer.tied)
+        .number(answer.start)
+        .number(answer.size)
+        .numbers(&[event, address, number, length])
+        .number(answer.ended)
+        .close();
+}
+
+/// `T`: "the closing numbers of a state that stands; any other is refused with 1, and zeros".
+fn play_totals<W: Write>(state: &State, lines: &mut Lines<W>) {
+    lines.word("T");
+    match totals(state) {
+        Ok(totals) => lines
+            .number(0u64)
+            .number(totals.clock)
+            .number(totals.admitted)
+            .number(totals.sent)
+            .number(totals.lost)
+            .number(totals.waiting)
+            .close(),
+        Err(refusal) => lines.number(refusal.number()).numbers(&[0; 5]).close(),
+    }
+}
+
+/// `E`: "the state with one field changed".
+fn play_change(state: &mut State, script: &mut Script) {
+    let field = script.number();
+    let index = script.number();
+    let value = script.number();
+    let place = (index % STATIONS as u64) as usize;
+    match field {
+        1..=5 => change_settings(&mut state.settings, field, value),
+        6 => state.stations[place].address = value as u32,
+        7 => state.stations[place].capability = value as u32,
+        8..=13 => change_counts(state, field, value),
+        14..=19 => change_contention(state, field, value),
+        20..=24 => change_contender(&mut state.contenders[place], field, value),
+        25 => state.waiting[place] = value,
+        26..=28 => {
+            let packet = &mut state.packets[(index % PLACES as u64) as usize];
+            change_packet(packet, field - 26, value);
+        }
+        _ => {}
+    }
+}
+
+/// Fields 1 to 5.
+fn change_settings(settings: &mut Settings, field: u64, value: u64) {
+    match field {
+        1 => settings.discipline = value as u32,
+        2 => settings.d = value as u32,
+        3 => settings.a = value as u32,
+        4 => settings.q = value as u32,
+        _ => settings.n = value,
+    }
+}
+
+/// Fields 8 to 13: clock, counts and round.
+fn change_counts(state: &mut State, field: u64, value: u64) {
+    match field {
+        8 => state.clock = value as u32,
+        9 => state.admitted = value,
+        10 => state.sent = value,
+        11 => state.lost = value,
+        12 => state.won = yes(value),
+        _ => state.last = value as u32,
+    }
+}
+
+/// Fields 14 to 19.
+fn change_contention(state: &mut State, field: u64, value: u64) {
+    let contention = &mut state.contention;
+    match field {
+        14 => contention.begun = yes(value),
+        15 => contention.window.start = value,
+        16 => contention.window.size = value,
+        17 => contention.window.side = side(value),
+        18 => contention.tied = yes(value),
+        _ => contention.tie = value,
+    }
+}
+
+/// Fields 20 to 24.
+fn change_contender(contender: &mut Contender, field: u64, value: u64) {
+    match field {
+        20 => contender.contends = yes(value),
+        21 => contender.parameter = value,
+        _ => change_packet(&mut contender.packet, field - 22, value),
+    }
+}
+
+/// A packet's number, value or length.
+fn change_packet(packet: &mut Packet, field: u64, value: u64) {
+    match field {
+        0 => packet.number = value,
+        1 => packet.value = value as u32,
+        _ => packet.length = value as u32,
+    }
+}
+
+/// "modulo 2 where it is a yes or no (1 is yes)".
+fn yes(value: u64) -> bool {
+    value % 2 == 1
+}
+
+/// "a side (0 left, 1 right)".
+fn side(value: u64) -> Side {
+    if yes(value) {
+        Side::Right
+    } else {
+        Side::Left
+    }
+}
+
+/// Writes a state.
+fn write_state<W: Write>(state: &State, lines: &mut Lines<W>) {
+    write_single_fields(state, lines);
+    for (place, station) in state.stations.iter().enumerate() {
+        let fields = [u64::from(station.address), u64::from(station.capability)];
+        write_place("station", place, &fields, lines);
+    }
+    for (place, contender) in state.contenders.iter().enumerate() {
+        let [number, value, length] = packet_fields(&contender.packet);
+        let contends = u64::from(contender.contends);
+        let fields = [contends, contender.parameter, number, value, length];
+        write_place("contender", place, &fields, lines);
+    }
+    for (place, &waiting) in state.waiting.iter().enumerate() {
+        write_place("queue", place, &[waiting], lines);
+    }
+    for (place, packet) in state.packets.iter().enumerate() {
+        write_place("packet", place, &packet_fields(packet), lines);
+    }
+    lines.word("end").close();
+}
+
+/// The five lines that are always written.
+fn write_single_fields<W: Write>(state: &State, lines: &mut Lines<W>) {
+    let settings = &state.settings;
+    lines
+        .word("settings")
+        .number(settings.discipline)
+        .number(settings.d)
+        .number(settings.a)
+        .number(settings.q)
+        .number(settings.n)
+        .close();
+    lines.word("clock").number(state.clock).close();
+    lines
+        .word("counts")
+        .numbers(&[state.admitted, state.sent, state.lost])
+        .close();
+    lines
+        .word("round")
+        .number(state.won)
+        .number(state.last)
+        .close();
+    let contention = &state.contention;
+    lines
+        .word("contention")
+        .number(contention.begun)
+        .number(contention.window.start)
+        .number(contention.window.size)
+        .number(contention.window.side == Side::Right)
+        .number(contention.tied)
+        .number(contention.tie)
+        .close();
+}
+
+fn packet_fields(packet: &Packet) -> [u64; 3] {
+    [
+        packet.number,
+        u64::from(packet.value),
+        u64::from(packet.length),
+    ]
+}
+
+/// A line "for each place ... where not all of its numbers after the place are zero".
+fn write_place<W: Write>(word: &str, place: usize, fields: &[u64], lines: &mut Lines<W>) {
+    if fields.iter().any(|&field| field != 0) {
+        lines
+            .word(word)
+            .number(place as u64)
+            .numbers(fields)
+            .close();
+    }
+}

@@ -1,0 +1,99 @@
+//! The worked example and the lines of a listing.
+
+use crate::worlds::{
+    arrival_record, bytes_of, listing_of, run_record, set_up_record, station_record,
+};
+
+const INPUT: &str = "
+0E00 0100 00 04000000 08000000 0100 03
+0600 0200 0100 0000  0600 0200 0500 0000
+0600 0200 0600 0000
+0E00 0300 00000000 0500 02000000 0300
+0E00 0300 00000000 0600 02000000 0100
+0E00 0300 00000000 0100 03000000 0200
+0400 0400 0E00
+";
+
+const OUTPUT: &str = "\
+0 P 0 4 C
+1 P 0 2 I
+2 P 2 2 C
+3 P 2 1 C
+4 T 0 8 C
+5 T 0 4 I
+6 T 4 4 C
+7 T 4 2 S 5 1 3
+10 P 0 4 C
+11 P 0 2 I
+12 P 2 2 C
+13 P 2 1 S 6 2 1
+14 P 0 4 S 1 3 2
+16 P 0 4 I
+END 17 3 3 0 0
+";
+
+#[test]
+fn the_worked_example() {
+    assert_eq!(listing_of(&bytes_of(INPUT)), OUTPUT);
+}
+
+#[test]
+fn no_steps_admit_nothing() {
+    let input = [
+        set_up_record(0, 4, 8, 1, 1),
+        station_record(1, 0),
+        arrival_record(0, 1, 0, 1),
+        run_record(0),
+    ]
+    .concat();
+    assert_eq!(listing_of(&input), "END 0 0 0 0 0\n");
+}
+
+#[test]
+fn refused_arrivals_and_drops_are_listed() {
+    let input = [
+        set_up_record(1, 2, 8, 1, 2),
+        station_record(1, 0),
+        station_record(2, 0),
+        arrival_record(0, 1, 0, 1),
+        arrival_record(0, 2, 1, 1),
+        arrival_record(0, 3, 1, 1),
+        arrival_record(3, 1, 2, 1),
+        arrival_record(99, 1, 200, 1),
+        run_record(4),
+    ]
+    .concat();
+    let expected =
+        "R 0 3 11\n0 P 0 2 C\n1 P 0 1 I\n2 P 1 1 I\nR 3 1 14\nD 2\n3 P 0 2 I\nEND 4 2 0 2 0\n";
+    assert_eq!(listing_of(&input), expected);
+}
+
+#[test]
+fn a_newcomer_does_not_join_midway() {
+    let input = [
+        set_up_record(0, 4, 8, 1, 3),
+        station_record(1, 0),
+        station_record(2, 0),
+        station_record(3, 0),
+        arrival_record(0, 1, 2, 1),
+        arrival_record(0, 2, 3, 1),
+        arrival_record(1, 3, 0, 1),
+        run_record(5),
+    ]
+    .concat();
+    let expected = "0 P 0 4 C\n1 P 0 2 I\n2 P 2 2 C\n3 P 2 1 S 1 1 1\n4 P 0 4 C\nEND 5 3 1 0 2\n";
+    assert_eq!(listing_of(&input), expected);
+}
+
+#[test]
+fn the_longest_run_ends() {
+    let input = [
+        set_up_record(0, 2, 2, 1, 1),
+        station_record(0, 0),
+        run_record(65_535),
+    ]
+    .concat();
+    let listing = listing_of(&input);
+    assert_eq!(listing.lines().count(), 65_536);
+    assert!(listing.ends_with("65534 P 0 2 I\nEND 65535 0 0 0 0\n"));
+}
