@@ -1,3 +1,6 @@
+-- `out_of_place` meets its contract: each case of the record computes. Assumes nothing.
+use mathlib.Core.Path.{sym, ap}
+use Rattle.scenario.specs.Format.{Record, said, outOfPlace}
 use borrow.Author.Needs.{needs}
 use Rattle.scenario.proofs.out_of_place.Statement.{statement}
 use Rattle.scenario.proofs.out_of_place.Tie as tie
@@ -26,23 +29,23 @@ enum-told-4 c = search needs
 
 -- src/lib.rt:101:1
 returns : tie.Need-returns
-returns c = ?
+returns c = sym (ap (λ (r : Record). outOfPlace (said r)) (c .before .found .given .1))
 
 -- src/lib.rt:101:1
 returns-2 : tie.Need-returns-2
-returns-2 c = ?
+returns-2 c = sym (ap (λ (r : Record). outOfPlace (said r)) (c .enum-told .given .1))
 
 -- src/lib.rt:101:1
 returns-3 : tie.Need-returns-3
-returns-3 c = ?
+returns-3 c = sym (ap (λ (r : Record). outOfPlace (said r)) (c .enum-told2 .given .1))
 
 -- src/lib.rt:101:1
 returns-4 : tie.Need-returns-4
-returns-4 c = ?
+returns-4 c = sym (ap (λ (r : Record). outOfPlace (said r)) (c .enum-told3 .given .1))
 
 -- src/lib.rt:101:1
 returns-5 : tie.Need-returns-5
-returns-5 c = ?
+returns-5 c = sym (ap (λ (r : Record). outOfPlace (said r)) (c .enum-told4 .given .1))
 
 pub out-of-place-spec : {M : Type 1} → statement M
 out-of-place-spec =

@@ -1,3 +1,11 @@
+-- `record_at` meets its contract: the record is that of the rest of the input, of which past the end nothing is left. Assumes nothing.
+use Prim.Native.Nat.{ℕ, _≤_}
+use mathlib.Core.Path.{sym, ap, _∙_}
+use native.Mathlib.Omega.{arith}
+use lib.ListN.{length, take, drop, length-drop, drop-of-length-le}
+use lib.Seq.{take-length}
+use denote.Ref.{now}
+use Rattle.scenario.specs.Format.{readRecord}
 use borrow.Author.Needs.{needs}
 use Rattle.scenario.proofs.record_at.Statement.{statement}
 use Rattle.scenario.proofs.record_at.Tie as tie
@@ -23,11 +31,17 @@ read-record-requires c κs = search needs
 
 -- src/lib.rt:90:1
 returns : tie.Need-returns
-returns c = ?
+returns c = 
+    let input = now (c .before .before .before .before .args .input) in
+    let at = c .before .before .before .before .args .at in
+    c .read-record .ensures
+    ∙ ap readRecord (ap (λ (k : ℕ). take k (drop at input)) (sym (length-drop at input)) ∙ take-length (drop at input))
 
 -- src/lib.rt:90:1
 returns-2 : tie.Need-returns-2
-returns-2 c = ?
+returns-2 c = 
+    let h : length (now (c .before .before .args .input)) ≤ c .before .before .args .at = omega arith in
+    ap readRecord (sym (drop-of-length-le _ h))
 
 pub record-at-spec : {M : Type 1} → statement M
 record-at-spec =

@@ -1,3 +1,6 @@
+-- `fields::four` meets its contract: the number is made of its two halves. Assumes nothing.
+use denote.Ref.{now}
+use Rattle.scenario.proofs.Numbers.{halves}
 use borrow.Author.Needs.{needs}
 use Rattle.scenario.proofs.fields.four.Statement.{statement}
 use Rattle.scenario.proofs.fields.four.Tie as tie
@@ -27,7 +30,10 @@ add-result c = search needs
 
 -- src/fields.rt:25:1
 returns : tie.Need-returns
-returns c = ?
+returns c = 
+    let s = now (c .before .before .before .args .s) in
+    let at = c .before .before .before .args .at in
+    cc (c .before .two .ensures .1, c .two2 .ensures .1, halves 2 at s)
 
 pub four-spec : {M : Type 1} → statement M
 four-spec = tie.close (tie.spec two-requires add-two two-requires-2 mul-result add-result returns)

@@ -1,3 +1,7 @@
+-- `fields::two` meets its contract: the number is made of the two bytes. Assumes nothing.
+use Prim.Native.Nat.{_+_}
+use denote.Ref.{now}
+use Rattle.scenario.proofs.Numbers.{byte-at, halves}
 use borrow.Author.Needs.{needs}
 use Rattle.scenario.proofs.fields.two.Statement.{statement}
 use Rattle.scenario.proofs.fields.two.Tie as tie
@@ -27,7 +31,12 @@ add-result c = search needs
 
 -- src/fields.rt:16:1
 returns : tie.Need-returns
-returns c = ?
+returns c = 
+    let s = now (c .before .before .before .args .s) in
+    let at = c .before .before .before .args .at in (
+      search needs,
+      cc (c .before .one .ensures .1, c .one2 .ensures .1, halves 1 at s, byte-at s at, byte-at s (at + 1)),
+    )
 
 pub two-spec : {M : Type 1} → statement M
 two-spec = tie.close (tie.spec one-requires add-one one-requires-2 mul-result add-result returns)

@@ -1,3 +1,8 @@
+-- `arrival_in` meets its contract: each field is read at its offset. Assumes nothing.
+use mathlib.Core.List.{[], _∷_}
+use denote.Ref.{now}
+use Rattle.scenario.specs.Format.{arrivalKind}
+use Rattle.scenario.proofs.RecordLaws.{said-by}
 use borrow.Author.Needs.{needs}
 use Rattle.scenario.proofs.records.arrival_in.Statement.{statement}
 use Rattle.scenario.proofs.records.arrival_in.Tie as tie
@@ -24,7 +29,9 @@ two-requires-2 c κs = search needs
 
 -- src/records.rt:63:1
 returns : tie.Need-returns
-returns c = ?
+returns c = 
+    said-by arrivalKind (now (c .before .before .before .before .before .args .body)) _
+    (λ i. c .before .before .before .four .ensures i ∷ c .before .before .two .ensures .1 i ∷ c .before .four2 .ensures i ∷ c .two2 .ensures .1 i ∷ [])
 
 pub arrival-in-spec : {M : Type 1} → statement M
 arrival-in-spec =

@@ -1,3 +1,9 @@
+-- `body_in` meets its contract: each arm reads the body by its kind. Assumes nothing.
+use Prim.Native.Nat.{ℕ}
+use mathlib.Core.Path.{sym, ap, _∙_}
+use borrow.Author.Tests.{ne-eqb}
+use denote.Ref.{now}
+use Rattle.scenario.specs.Parts.{saidByKind}
 use borrow.Author.Needs.{needs}
 use Rattle.scenario.proofs.records.body_in.Statement.{statement}
 use Rattle.scenario.proofs.records.body_in.Tie as tie
@@ -26,19 +32,24 @@ run-in-requires c κs = search needs
 
 -- src/records.rt:82:1
 returns : tie.Need-returns
-returns c = ?
+returns c = 
+    c .set-up-in .ensures ∙ sym (ap (λ (k : ℕ). saidByKind k (now (c .before .before .before .args .body))) (c .before .match .keys1))
 
 -- src/records.rt:82:1
 returns-2 : tie.Need-returns-2
-returns-2 c = ?
+returns-2 c = 
+    c .station-in .ensures ∙ sym (ap (λ (k : ℕ). saidByKind k (now (c .before .before .before .args .body))) (c .before .match .keys2))
 
 -- src/records.rt:82:1
 returns-3 : tie.Need-returns-3
-returns-3 c = ?
+returns-3 c = 
+    c .arrival-in .ensures ∙ sym (ap (λ (k : ℕ). saidByKind k (now (c .before .before .before .args .body))) (c .before .match .keys3))
 
 -- src/records.rt:82:1
 returns-4 : tie.Need-returns-4
-returns-4 c = ?
+returns-4 c = 
+    let no = c .before .match .rest in
+    c .run-in .ensures ∙ sym (simp (ne-eqb _ _ (no .0 .0 .1), ne-eqb _ _ (no .0 .1), ne-eqb _ _ (no .1)))
 
 pub body-in-spec : {M : Type 1} → statement M
 body-in-spec =

@@ -1,3 +1,10 @@
+-- `set_up_in` meets its contract: each field is read at its offset. Assumes nothing.
+use mathlib.Core.Path.{sym, _∙_}
+use mathlib.Core.List.{[], _∷_}
+use denote.Ref.{now}
+use Rattle.scenario.specs.Format.{setUpKind}
+use Rattle.scenario.proofs.Numbers.{byte-at}
+use Rattle.scenario.proofs.RecordLaws.{said-by}
 use borrow.Author.Needs.{needs}
 use Rattle.scenario.proofs.records.set_up_in.Statement.{statement}
 use Rattle.scenario.proofs.records.set_up_in.Tie as tie
@@ -33,7 +40,15 @@ cast-t7 c = search needs
 
 -- src/records.rt:40:1
 returns : tie.Need-returns
-returns c = ?
+returns c = 
+    said-by setUpKind (now (c .before .before .before .before .before .before .args .body)) _
+    (λ i.
+    (c .before .before .before .before .one .ensures .1 ∙ sym (byte-at (now (c .before .before .before .before .before .before .args .body)) 0)) i
+    ∷ c .before .before .before .four .ensures i
+    ∷ c .before .before .four2 .ensures i
+    ∷ c .before .two .ensures .1 i
+    ∷ (c .one2 .ensures .1 ∙ sym (byte-at (now (c .before .before .before .before .before .before .args .body)) 11)) i
+    ∷ [])
 
 pub set-up-in-spec : {M : Type 1} → statement M
 set-up-in-spec =

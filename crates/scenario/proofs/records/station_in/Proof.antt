@@ -1,3 +1,8 @@
+-- `station_in` meets its contract: each field is read at its offset. Assumes nothing.
+use mathlib.Core.List.{[], _∷_}
+use denote.Ref.{now}
+use Rattle.scenario.specs.Format.{stationKind}
+use Rattle.scenario.proofs.RecordLaws.{said-by}
 use borrow.Author.Needs.{needs}
 use Rattle.scenario.proofs.records.station_in.Statement.{statement}
 use Rattle.scenario.proofs.records.station_in.Tie as tie
@@ -15,7 +20,8 @@ two-requires-2 c κs = search needs
 
 -- src/records.rt:53:1
 returns : tie.Need-returns
-returns c = ?
+returns c = 
+    said-by stationKind (now (c .before .before .before .args .body)) _ (λ i. c .before .two .ensures .1 i ∷ c .two2 .ensures .1 i ∷ [])
 
 pub station-in-spec : {M : Type 1} → statement M
 station-in-spec = tie.close (tie.spec two-requires two-requires-2 returns)
