@@ -1,6 +1,6 @@
 -- Laws of little-endian numbers at an offset of bytes, for the proofs of this crate. Assumes nothing.
 use Prim.Native.Nat.{ℕ, zero, suc, _+_, _*_, _^_}
-use mathlib.Core.Path.{_≡_, refl, sym, ap, _∙_}
+use mathlib.Core.Path.{_≡_, refl, ap, _∙_}
 use mathlib.Core.List.{List, [], _∷_}
 use native.Mathlib.Nat.{zero-add, suc-add, mul-zero, mul-assoc, pow-succ'}
 use native.Mathlib.Omega.{arith}

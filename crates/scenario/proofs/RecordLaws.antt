@@ -38,7 +38,7 @@ by-rows P (row ∷ rows) each kind long e =
     go false p u q later h = later h
 
 -- What holds of the four kinds with their lengths holds of every known one.
-pub by-kind :
+by-kind :
     (P : ℕ → ℕ → Type 0) → P 1 14 → P 2 6 → P 3 14 → P 4 4 → (kind long : ℕ) → isKind kind long ≡ true → P kind long
 by-kind P a b c d = by-rows P kinds (a, (b, (c, (d, tt))))
 
