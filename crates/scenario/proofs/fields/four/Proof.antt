@@ -1,33 +1,30 @@
+-- `fields::four` meets its contract: the number is made of its two halves. Assumes nothing.
 use borrow.Author.Needs.{needs}
+use denote.Ref.{now}
+use Rattle.scenario.proofs.Numbers.{halves}
 use Rattle.scenario.proofs.fields.four.Statement.{statement}
 use Rattle.scenario.proofs.fields.four.Tie as tie
-use Rattle.scenario.proofs.fields.four.Reads as reads
-use Rattle.scenario.proofs.fields.four.Lts as lts
-use Rattle.scenario.proofs.fields.two.Reads as two-reads
 
--- src/fields.rt:29:5
 two-requires : tie.Need-two-requires
 two-requires c κs = search needs
 
--- src/fields.rt:29:34
 add-two : tie.Need-add-two
 add-two c = search needs
 
--- src/fields.rt:29:27
 two-requires-2 : tie.Need-two-requires-2
 two-requires-2 c κs = search needs
 
--- src/fields.rt:29:18
 mul-result : tie.Need-mul-result
 mul-result c = search needs
 
--- src/fields.rt:29:5
 add-result : tie.Need-add-result
 add-result c = search needs
 
--- src/fields.rt:25:1
 returns : tie.Need-returns
-returns c = ?
+returns c =
+    let s = now (c .before .before .before .args .s) in
+    let at = c .before .before .before .args .at in
+    cc (c .before .two .ensures .1, c .two2 .ensures .1, halves 2 at s)
 
 pub four-spec : {M : Type 1} → statement M
 four-spec = tie.close (tie.spec two-requires add-two two-requires-2 mul-result add-result returns)

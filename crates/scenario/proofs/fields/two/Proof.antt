@@ -1,33 +1,33 @@
+-- `fields::two` meets its contract: the number is made of the two bytes. Assumes nothing.
+use Prim.Native.Nat.{_+_}
 use borrow.Author.Needs.{needs}
+use denote.Ref.{now}
+use Rattle.scenario.proofs.Numbers.{byte-at, halves}
 use Rattle.scenario.proofs.fields.two.Statement.{statement}
 use Rattle.scenario.proofs.fields.two.Tie as tie
-use Rattle.scenario.proofs.fields.two.Reads as reads
-use Rattle.scenario.proofs.fields.two.Lts as lts
-use Rattle.scenario.proofs.fields.one.Reads as one-reads
 
--- src/fields.rt:21:5
 one-requires : tie.Need-one-requires
 one-requires c κs = search needs
 
--- src/fields.rt:21:31
 add-one : tie.Need-add-one
 add-one c = search needs
 
--- src/fields.rt:21:24
 one-requires-2 : tie.Need-one-requires-2
 one-requires-2 c κs = search needs
 
--- src/fields.rt:21:18
 mul-result : tie.Need-mul-result
 mul-result c = search needs
 
--- src/fields.rt:21:5
 add-result : tie.Need-add-result
 add-result c = search needs
 
--- src/fields.rt:16:1
 returns : tie.Need-returns
-returns c = ?
+returns c =
+    let s = now (c .before .before .before .args .s) in
+    let at = c .before .before .before .args .at in (
+      search needs,
+      cc (c .before .one .ensures .1, c .one2 .ensures .1, halves 1 at s, byte-at s at, byte-at s (at + 1)),
+    )
 
 pub two-spec : {M : Type 1} → statement M
 two-spec = tie.close (tie.spec one-requires add-one one-requires-2 mul-result add-result returns)

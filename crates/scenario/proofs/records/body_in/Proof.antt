@@ -1,44 +1,34 @@
+-- `body_in` meets its contract: each arm reads the body by its kind. Assumes nothing.
 use borrow.Author.Needs.{needs}
+use borrow.Author.Tests.{ne-eqb}
 use Rattle.scenario.proofs.records.body_in.Statement.{statement}
 use Rattle.scenario.proofs.records.body_in.Tie as tie
-use Rattle.scenario.proofs.records.body_in.Reads as reads
-use Rattle.scenario.proofs.records.body_in.Lts as lts
-use Rattle.scenario.proofs.records.arrival_in.Reads as arrival-in-reads
-use Rattle.scenario.proofs.records.run_in.Reads as run-in-reads
-use Rattle.scenario.proofs.records.set_up_in.Reads as set-up-in-reads
-use Rattle.scenario.proofs.records.station_in.Reads as station-in-reads
 
--- src/records.rt:86:19
 set-up-in-requires : tie.Need-set-up-in-requires
 set-up-in-requires c κs = search needs
 
--- src/records.rt:87:20
 station-in-requires : tie.Need-station-in-requires
 station-in-requires c κs = search needs
 
--- src/records.rt:88:20
 arrival-in-requires : tie.Need-arrival-in-requires
 arrival-in-requires c κs = search needs
 
--- src/records.rt:89:14
 run-in-requires : tie.Need-run-in-requires
 run-in-requires c κs = search needs
 
--- src/records.rt:82:1
 returns : tie.Need-returns
-returns c = ?
+returns c = simp (c .before .match .keys1) (c .set-up-in .ensures)
 
--- src/records.rt:82:1
 returns-2 : tie.Need-returns-2
-returns-2 c = ?
+returns-2 c = simp (c .before .match .keys2) (c .station-in .ensures)
 
--- src/records.rt:82:1
 returns-3 : tie.Need-returns-3
-returns-3 c = ?
+returns-3 c = simp (c .before .match .keys3) (c .arrival-in .ensures)
 
--- src/records.rt:82:1
 returns-4 : tie.Need-returns-4
-returns-4 c = ?
+returns-4 c =
+    let no = c .before .match .rest in
+    simp (ne-eqb _ _ (no .0 .0 .1), ne-eqb _ _ (no .0 .1), ne-eqb _ _ (no .1)) (c .run-in .ensures)
 
 pub body-in-spec : {M : Type 1} → statement M
 body-in-spec =
