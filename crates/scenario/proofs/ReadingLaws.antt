@@ -1,18 +1,26 @@
 -- The laws that the reader's proofs share: the bytes of a record, one turn of the arrivals and of the stations. Assumes nothing.
-use Prim.Native.Nat.{ℕ, zero, suc, _+_, _≤_}
-use mathlib.Core.Path.{_≡_, refl, sym, ap, subst, _∙_}
-use mathlib.Core.Bool.{Bool, true, false, _&&_, cond}
+use Prim.Native.Nat.{ℕ, zero, suc, _+_, _≤_, _<_}
+use mathlib.Core.Path.{_≡_, refl, sym, ap, ap₂, subst, _∙_}
+use mathlib.Core.Logic.{inl, inr}
+use mathlib.Core.Bool.{Bool, true, false, not, _&&_, cond}
 use mathlib.Core.Option.{some}
 use mathlib.Core.List.{List, [], _∷_}
 use native.Mathlib.Omega.{arith}
 use lib.Dec.{ltb, eqb}
 use lib.ListN.{length, drop, length-drop}
-use borrow.Author.Tests.{eqb-true, ltb-false}
-use Rattle.rules.specs.Lists.{each-of}
-use Rattle.rules.proofs.Laws.{and-true}
+use lib.Seq.{drop-drop}
+use denote.Enum.Declared.{tagOf}
+use types.Run.{OneOf}
+use borrow.Author.Tests.{eqb-true, eqb-false, ltb-true, ltb-false, eq-eqb, ne-eqb}
+use Rattle.rules.specs.Lists.{each-of, has}
+use Rattle.rules.proofs.Laws.{and-true, or-false}
+use Rattle.scenario.specs.declared.Record.the-variants as Is
+use Rattle.scenario.specs.Format.{Arrival, Record, said, outOfPlace}
 use Rattle.scenario.specs.Format.{Kind, Said, kinds, rowOf, refusedRecord, lengthIn, kindIn, saidBy, bodyIn, readBody, readRecord}
 use Rattle.scenario.specs.Reading.{EndingRead, set-up-bytes, station-bytes, arrival-bytes, run-bytes}
 use Rattle.scenario.specs.Reading.{arrivalFrom, refusedEnding, withArrival, runFrom, arrivalsFrom}
+use Rattle.scenario.specs.Parts.{runAt}
+use Rattle.scenario.proofs.Record.{the-type}
 
 -- ---- the bytes of a record
 
@@ -60,6 +68,37 @@ record-fits rest = go (ltb (length rest) 4)
     go true = omega arith
     go false = rows-fit rest (kindIn rest) (lengthIn rest) kinds refl
 
+-- and so ends within the input
+pub record-within :
+    (input : List ℕ) (at k : ℕ) → readRecord (drop at input) .kind ≡ k → 0 < bytesOf k → at + bytesOf k ≤ length input
+record-within input at k e some! =
+    let h : bytesOf k ≤ length (drop at input) = subst (λ n. bytesOf n ≤ length (drop at input)) e (record-fits (drop at input)) in
+    omega (arith, length-drop at input)
+
+-- ---- the variants of a record
+
+-- the place of a variant among the others is the kind of what it says
+kind-tag : (found : Record) → said found .kind ≡ tagOf the-type found
+kind-tag (Is.Refused n) = refl
+kind-tag (Is.SetUp g) = refl
+kind-tag (Is.Station s) = refl
+kind-tag (Is.Arrival a) = refl
+kind-tag (Is.Run steps) = refl
+
+-- a record that is one of the other variants is not of the kind
+pub other-kind :
+    (k : ℕ) (others : List ℕ) (found : Record) (x : Said) → said found ≡ x → has k others ≡ false → OneOf others (tagOf the-type found)
+    → ¬ (x .kind ≡ k)
+other-kind k others found x e none one s =
+    let tag : k ≡ tagOf the-type found = sym s ∙ ap (λ (y : Said). y .kind) (sym e) ∙ kind-tag found in
+    go others none one tag
+  where
+    go : (ks : List ℕ) → has k ks ≡ false → OneOf ks (tagOf the-type found) → k ≡ tagOf the-type found → ⊥
+    go [] none one tag = one
+    go (j ∷ []) none one tag = eqb-false k j (or-false (eqb k j) false none .0) (tag ∙ one)
+    go (j ∷ j′ ∷ ks) none (inl s) tag = eqb-false k j (or-false (eqb k j) (has k (j′ ∷ ks)) none .0) (tag ∙ s)
+    go (j ∷ j′ ∷ ks) none (inr later) tag = go (j′ ∷ ks) (or-false (eqb k j) (has k (j′ ∷ ks)) none .1) later tag
+
 -- ---- the arrivals
 
 -- one turn of the arrivals, by what the record says
@@ -74,3 +113,104 @@ arrivalsBy x turns previous offset rest =
     (arrivalFrom (x .values))
     (arrivalsFrom turns (arrivalFrom (x .values) .time .0) (offset + arrival-bytes) (drop arrival-bytes rest))))
     (runFrom x offset (length (drop run-bytes rest)))
+
+-- any number of turns above the bytes that are left is enough
+enough :
+    (turns turns′ previous offset : ℕ) (rest : List ℕ) → length rest < turns → length rest < turns′
+    → arrivalsFrom turns previous offset rest ≡ arrivalsFrom turns′ previous offset rest
+enough zero turns′ previous offset rest h h′ = absurd (omega arith)
+enough (suc turns) zero previous offset rest h h′ = absurd (omega arith)
+enough (suc turns) (suc turns′) previous offset rest h h′ =
+    go (eqb (x .kind) 3) refl (enough turns turns′ a (offset + arrival-bytes) (drop arrival-bytes rest))
+  where
+    x : Said
+    x = readRecord rest
+
+    a : ℕ
+    a = arrivalFrom (x .values) .time .0
+
+    later : ℕ → EndingRead
+    later k = arrivalsFrom k a (offset + arrival-bytes) (drop arrival-bytes rest)
+
+    by : Bool → EndingRead → EndingRead
+    by t more =
+        cond
+        t
+        (cond (ltb a previous) (refusedEnding 21 offset) (withArrival (arrivalFrom (x .values)) more))
+        (runFrom x offset (length (drop run-bytes rest)))
+
+    go :
+        (t : Bool) → eqb (x .kind) 3 ≡ t
+        → (length (drop arrival-bytes rest) < turns → length (drop arrival-bytes rest) < turns′ → later turns ≡ later turns′)
+        → by t (later turns) ≡ by t (later turns′)
+    go true e same =
+        let long : 16 ≤ length rest = record-within rest 0 3 (eqb-true (x .kind) 3 e) (omega arith) in
+        let left = length-drop arrival-bytes rest in
+        ap (by true) (same (omega arith) (omega arith))
+    go false e same = refl
+
+-- an arrival's record ends within the input
+pub arrival-within :
+    (input : List ℕ) (at : ℕ) (a : Arrival) → said (Is.Arrival a) ≡ readRecord (drop at input) → at + arrival-bytes ≤ length input
+arrival-within input at a e = record-within input at 3 (ap (λ (y : Said). y .kind) (sym e)) (omega arith)
+
+-- one turn where the record is an arrival; t is whether its time is below the previous one's
+pub arrival-turn :
+    (input : List ℕ) (at previous : ℕ) (a : Arrival) (t : Bool) → said (Is.Arrival a) ≡ readRecord (drop at input)
+    → t ≡ ltb (a .time .0) previous
+    → arrivalsFrom (suc (length input)) previous at (drop at input)
+    ≡ cond
+    t
+    (refusedEnding 21 at)
+    (withArrival a (arrivalsFrom (suc (length input)) (a .time .0) (at + arrival-bytes) (drop (at + arrival-bytes) input)))
+arrival-turn input at previous a t e late =
+    let within : at + 16 ≤ length input = arrival-within input at a e in
+    let left = length-drop (at + arrival-bytes) input in
+    ap (λ x. arrivalsBy x (length input) previous at (drop at input)) (sym e)
+    ∙ ap₂
+    (λ b rest. cond b (refusedEnding 21 at) (withArrival a (arrivalsFrom (length input) (a .time .0) (at + arrival-bytes) rest)))
+    (sym late)
+    (drop-drop arrival-bytes at input)
+    ∙ ap
+    (λ later. cond t (refusedEnding 21 at) (withArrival a later))
+    (enough (length input) (suc (length input)) (a .time .0) (at + arrival-bytes) (drop (at + arrival-bytes) input) (omega arith) (omega arith))
+
+-- and where it is none
+pub arrivals-over :
+    (input : List ℕ) (turns previous at : ℕ) → ¬ (readRecord (drop at input) .kind ≡ 3)
+    → arrivalsFrom (suc turns) previous at (drop at input) ≡ runAt input at
+arrivals-over input turns previous at e = rw (ne-eqb (readRecord (drop at input) .kind) 3 e)
+
+-- ---- the run
+
+-- where the record is no run
+pub run-other :
+    (input : List ℕ) (at : ℕ) → ¬ (readRecord (drop at input) .kind ≡ 4)
+    → runAt input at ≡ refusedEnding (outOfPlace (readRecord (drop at input))) at
+run-other input at e = rw (ne-eqb (readRecord (drop at input) .kind) 4 e)
+
+-- where it is one; t is whether bytes come after it
+pub run-here :
+    (input : List ℕ) (at steps : ℕ) (t : Bool) → said (Is.Run steps) ≡ readRecord (drop at input)
+    → t ≡ ltb (at + run-bytes) (length input)
+    → runAt input at
+    ≡ cond t (refusedEnding 20 (at + run-bytes)) (record { refusal = 0; offset = 0; arrivals = []; steps = steps })
+run-here input at steps t e more = ap (λ x. runFrom x at after) (sym e) ∙ ap (λ b. cond b last (refusedEnding 20 (at + run-bytes))) (none t more) ∙ swap t
+  where
+    after : ℕ
+    after = length (drop run-bytes (drop at input))
+
+    last : EndingRead
+    last = record { refusal = 0; offset = 0; arrivals = []; steps = steps }
+
+    none : (u : Bool) → u ≡ ltb (at + run-bytes) (length input) → eqb after 0 ≡ not u
+    none true l =
+        let h = ltb-true (at + run-bytes) (length input) (sym l) in
+        ne-eqb after 0 (λ z. omega (arith, length-drop run-bytes (drop at input), length-drop at input))
+    none false l =
+        let h = ltb-false (at + run-bytes) (length input) (sym l) in
+        eq-eqb after 0 (omega (arith, length-drop run-bytes (drop at input), length-drop at input))
+
+    swap : (u : Bool) → cond (not u) last (refusedEnding 20 (at + run-bytes)) ≡ cond u (refusedEnding 20 (at + run-bytes)) last
+    swap true = refl
+    swap false = refl
