@@ -1,23 +1,28 @@
 -- The laws that the reader's proofs share: the bytes of a record, one turn of the arrivals and of the stations. Assumes nothing.
-use Prim.Native.Nat.{ℕ, zero, suc, _+_, _≤_, _<_}
+use Prim.Native.Nat.{ℕ, zero, suc, _+_, _-_, _≤_, _<_}
 use mathlib.Core.Path.{_≡_, refl, sym, ap, ap₂, subst, _∙_}
 use mathlib.Core.Logic.{inl, inr}
 use mathlib.Core.Bool.{Bool, true, false, not, _&&_, cond}
 use mathlib.Core.Option.{some}
-use mathlib.Core.List.{List, [], _∷_}
+use mathlib.Core.List.{List, [], _∷_, _++_, map, map-append, append-nil}
+use native.Mathlib.Numerals.{add-one}
 use native.Mathlib.Omega.{arith}
 use lib.Dec.{ltb, eqb}
-use lib.ListN.{length, drop, length-drop}
-use lib.Seq.{drop-drop}
+use lib.ListN.{length, take, drop, set, length-drop}
+use lib.Seq.{drop-drop, append-snoc, take-suc-set}
 use denote.Enum.Declared.{tagOf}
 use types.Run.{OneOf}
 use borrow.Author.Tests.{eqb-true, eqb-false, ltb-true, ltb-false, eq-eqb, ne-eqb}
 use Rattle.rules.specs.Lists.{each-of, has}
 use Rattle.rules.proofs.Laws.{and-true, or-false}
+use Rattle.rules.specs.SetUp.{Asked}
+use Rattle.bus.specs.declared.Listed.{Listed}
+use Rattle.bus.specs.Coded.{askedOf}
 use Rattle.scenario.specs.declared.Record.the-variants as Is
 use Rattle.scenario.specs.Format.{Arrival, Record, said, outOfPlace}
 use Rattle.scenario.specs.Format.{Kind, Said, kinds, rowOf, refusedRecord, lengthIn, kindIn, saidBy, bodyIn, readBody, readRecord}
 use Rattle.scenario.specs.Reading.{EndingRead, set-up-bytes, station-bytes, arrival-bytes, run-bytes}
+use Rattle.scenario.specs.Reading.{askedFrom, StationsRead, withStation, stationsFrom, stationOffset}
 use Rattle.scenario.specs.Reading.{arrivalFrom, refusedEnding, withArrival, runFrom, arrivalsFrom}
 use Rattle.scenario.specs.Parts.{runAt}
 use Rattle.scenario.proofs.Record.{the-type}
@@ -98,6 +103,93 @@ other-kind k others found x e none one s =
     go (j ∷ []) none one tag = eqb-false k j (or-false (eqb k j) false none .0) (tag ∙ one)
     go (j ∷ j′ ∷ ks) none (inl s) tag = eqb-false k j (or-false (eqb k j) (has k (j′ ∷ ks)) none .0) (tag ∙ s)
     go (j ∷ j′ ∷ ks) none (inr later) tag = go (j′ ∷ ks) (or-false (eqb k j) (has k (j′ ∷ ks)) none .1) later tag
+
+-- ---- the stations
+
+-- one turn of the stations, by what the record says
+abbrev stationsBy : Said → ℕ → ℕ → List ℕ → StationsRead
+stationsBy x n offset rest =
+    cond
+    (eqb (x .kind) 2)
+    (withStation (askedFrom (x .values)) (stationsFrom n (offset + station-bytes) (drop station-bytes rest)))
+    (record { refusal = outOfPlace x; offset = offset; asked = [] })
+
+-- stations taken in front of those that are read after them
+abbrev pub withStations : List Asked → StationsRead → StationsRead
+withStations taken x = record { refusal = x .refusal; offset = x .offset; asked = taken ++ x .asked }
+
+-- the stations of a row of n, where the first i stand in the array and the others are yet to be read
+abbrev pub stationsAfter : List ℕ → List Listed → ℕ → ℕ → StationsRead
+stationsAfter input stations n i =
+    withStations (map askedOf (take i stations)) (stationsFrom (n - i) (stationOffset i) (drop (stationOffset i) input))
+
+-- one turn where the next record is a station, which is put into the array
+pub station-turn :
+    (input : List ℕ) (stations : List Listed) (n i : ℕ) (s : Listed) → i < n → i < length stations
+    → said (Is.Station s) ≡ readRecord (drop (stationOffset i) input)
+    → stationsAfter input stations n i ≡ stationsAfter input (set stations i s) n (i + 1)
+station-turn input stations n i s h l e =
+    ap (λ k. withStations before (stationsFrom k (stationOffset i) rest)) more
+    ∙ ap (λ x. withStations before (stationsBy x m (stationOffset i) rest)) (sym e)
+    ∙ ap₂ (λ o r. withStations before (withStation (askedOf s) (stationsFrom m o r))) next (drop-drop station-bytes (stationOffset i) input ∙ ap (λ o. drop o input) next)
+    ∙ ap
+    (λ asked. record { refusal = later .refusal; offset = later .offset; asked = asked })
+    (sym (append-snoc before (askedOf s) (later .asked)) ∙ ap (λ taken. taken ++ later .asked) (sym one-more))
+  where
+    before : List Asked
+    before = map askedOf (take i stations)
+
+    rest : List ℕ
+    rest = drop (stationOffset i) input
+
+    m : ℕ
+    m = n - (i + 1)
+
+    later : StationsRead
+    later = stationsFrom m (stationOffset (i + 1)) (drop (stationOffset (i + 1)) input)
+
+    more : n - i ≡ suc m
+    more = omega arith
+
+    next : stationOffset i + station-bytes ≡ stationOffset (i + 1)
+    next = omega arith
+
+    one-more : map askedOf (take (i + 1) (set stations i s)) ≡ before ++ (askedOf s ∷ [])
+    one-more =
+        ap (λ k. map askedOf (take k (set stations i s))) (add-one i)
+        ∙ ap (map askedOf) (take-suc-set stations i s l)
+        ∙ map-append askedOf (take i stations) (s ∷ [])
+
+-- where it is none
+pub station-other :
+    (input : List ℕ) (stations : List Listed) (n i : ℕ) → i < n → ¬ (readRecord (drop (stationOffset i) input) .kind ≡ 2)
+    → stationsAfter input stations n i
+    ≡ record {
+      refusal = outOfPlace (readRecord (drop (stationOffset i) input));
+      offset = stationOffset i;
+      asked = map askedOf (take i stations);
+    }
+station-other input stations n i h e =
+    let more : n - i ≡ suc (n - (i + 1)) = omega arith in
+    ap (λ k. withStations before (stationsFrom k (stationOffset i) (drop (stationOffset i) input))) more
+    ∙ simp (ne-eqb (x .kind) 2 e)
+    (ap (λ asked. record { refusal = outOfPlace x; offset = stationOffset i; asked = asked }) (append-nil before))
+  where
+    x : Said
+    x = readRecord (drop (stationOffset i) input)
+
+    before : List Asked
+    before = map askedOf (take i stations)
+
+-- and where all are read
+pub stations-end :
+    (input : List ℕ) (stations : List Listed) (n i : ℕ) → i ≤ n → n ≤ i
+    → stationsAfter input stations n i ≡ record { refusal = 0; offset = 0; asked = map askedOf (take n stations) }
+stations-end input stations n i h l =
+    let same : i ≡ n = omega arith in
+    let none : n - i ≡ 0 = omega arith in
+    ap (λ k. withStations (map askedOf (take i stations)) (stationsFrom k (stationOffset i) (drop (stationOffset i) input))) none
+    ∙ ap (λ asked. record { refusal = 0; offset = 0; asked = asked }) (append-nil (map askedOf (take i stations)) ∙ ap (λ k. map askedOf (take k stations)) same)
 
 -- ---- the arrivals
 
