@@ -5,7 +5,7 @@ use mathlib.Core.Bool.{Bool, true, false, cond}
 use mathlib.Core.List.{List, [], _∷_}
 use native.Mathlib.Omega.{arith}
 use lib.Dec.{ltb, eqb}
-use lib.ListN.{length, drop, length-drop}
+use lib.ListN.{length, drop}
 use lib.Seq.{drop-drop}
 use borrow.Author.Tests.{eqb-true, eq-eqb, ne-eqb}
 use Rattle.rules.specs.SetUp.{Request, setUpVerdict}
@@ -18,9 +18,9 @@ use Rattle.scenario.specs.Reading.{StationsRead, stationsFrom, EndingRea
 use Rattle.scenario.specs.Reading.{Reading, refused, accepted, stationOffset, readEnding, readArrivals, readStations}
 use Rattle.scenario.specs.Reading.{readSettings, readSetUp, reading}
 use Rattle.scenario.specs.Parts.{endingAt}
-use Rattle.scenario.proofs.ReadingLaws.{bytesOf, record-fits, arrivalsBy}
+use Rattle.scenario.proofs.ReadingLaws.{record-within, arrivalsBy}
 
--- From an offset of the input on there stand these arrivals, each in time after the one before it, and then the run: they are what some
+-- From an offset of the input on there stand these arrivals, none of a time below the one before it, and then the run: they are what some
 -- number of turns collects, after some previous time, with no refusal.
 pub record ArrivalsAt (input : List ℕ) (at : ℕ) (arrivals : List Arrival) : Type 0 where
   pub turns : ℕ
@@ -113,9 +113,7 @@ module _ {input : List ℕ} {at : ℕ} {arrivals : List Arrival} where
 
 -- an arrival's record ends within the input
 pub arrival-within : (input : List ℕ) (at : ℕ) → readRecord (drop at input) .kind ≡ 3 → at + 16 ≤ length input
-arrival-within input at e =
-    let h : 16 ≤ length (drop at input) = subst (λ k. bytesOf k ≤ length (drop at input)) e (record-fits (drop at input)) in
-    omega (arith, length-drop at input)
+arrival-within input at e = record-within input at 3 e (omega arith)
 
 -- ---- an accepted scenario
 

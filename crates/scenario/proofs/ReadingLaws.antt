@@ -1,4 +1,5 @@
--- The laws that the reader's proofs share: the bytes of a record, one turn of the arrivals and of the stations. Assumes nothing.
+-- The laws that the reader's proofs share: the bytes of a record, the variants that say its kind, one turn of the stations and of the arrivals,
+-- the run, what settings that pass tell, and what refuses. Assumes nothing.
 use Prim.Native.Nat.{ℕ, zero, suc, _+_, _-_, _≤_, _<_}
 use mathlib.Core.Path.{_≡_, refl, sym, ap, ap₂, subst, _∙_}
 use mathlib.Core.Logic.{inl, inr}
@@ -8,21 +9,26 @@ use mathlib.Core.List.{List, [], _∷_, _++_, map, map-append, append-nil}
 use native.Mathlib.Numerals.{add-one}
 use native.Mathlib.Omega.{arith}
 use lib.Dec.{ltb, eqb}
-use lib.ListN.{length, take, drop, set, length-drop}
+use lib.ListN.{length, take, drop, set, replicate, length-take, length-drop}
 use lib.Seq.{drop-drop, append-snoc, take-suc-set}
 use denote.Enum.Declared.{tagOf}
 use types.Run.{OneOf}
 use borrow.Author.Tests.{eqb-true, eqb-false, ltb-true, ltb-false, eq-eqb, ne-eqb}
-use Rattle.rules.specs.Lists.{each-of, has}
+use Rattle.rules.specs.Lists.{each-of, has, verdict, firstOf}
 use Rattle.rules.proofs.Laws.{and-true, or-false}
-use Rattle.rules.specs.SetUp.{Asked}
+use Rattle.rules.specs.declared.Verdict.{Verdict}
+use Rattle.rules.specs.Bus.{most-stations}
+use Rattle.rules.specs.SetUp.{Asked, Request, fine, settingsTests, stationTests, rowTests, setUpVerdict}
 use Rattle.bus.specs.declared.Listed.{Listed}
-use Rattle.bus.specs.Coded.{askedOf}
+use Rattle.bus.specs.declared.Settings.{Settings}
+use Rattle.bus.specs.State.{nobody}
+use Rattle.bus.specs.Coded.{askedOf, settingsRefusal}
+use Rattle.bus.proofs.SettingUp.{settings-pass}
 use Rattle.scenario.specs.declared.Record.the-variants as Is
 use Rattle.scenario.specs.Format.{Arrival, Record, said, outOfPlace}
 use Rattle.scenario.specs.Format.{Kind, Said, kinds, rowOf, refusedRecord, lengthIn, kindIn, saidBy, bodyIn, readBody, readRecord}
 use Rattle.scenario.specs.Reading.{EndingRead, set-up-bytes, station-bytes, arrival-bytes, run-bytes}
-use Rattle.scenario.specs.Reading.{askedFrom, StationsRead, withStation, stationsFrom, stationOffset}
+use Rattle.scenario.specs.Reading.{askedFrom, StationsRead, withStation, stationsFrom, stationOffset, Reading, refused}
 use Rattle.scenario.specs.Reading.{arrivalFrom, refusedEnding, withArrival, runFrom, arrivalsFrom}
 use Rattle.scenario.specs.Parts.{runAt}
 use Rattle.scenario.proofs.Record.{the-type}
@@ -66,7 +72,7 @@ rows-fit rest kind long (row ∷ rows) e =
     go false s later = later
 
 -- a record of a known kind has its bytes in the rest
-pub record-fits : (rest : List ℕ) → bytesOf (readRecord rest .kind) ≤ length rest
+record-fits : (rest : List ℕ) → bytesOf (readRecord rest .kind) ≤ length rest
 record-fits rest = go (ltb (length rest) 4)
   where
     go : (t : Bool) → bytesOf (cond t (refusedRecord 18) (readBody (rowOf (kindIn rest) (lengthIn rest) kinds) rest) .kind) ≤ length rest
@@ -131,7 +137,10 @@ pub station-turn :
 station-turn input stations n i s h l e =
     ap (λ k. withStations before (stationsFrom k (stationOffset i) rest)) more
     ∙ ap (λ x. withStations before (stationsBy x m (stationOffset i) rest)) (sym e)
-    ∙ ap₂ (λ o r. withStations before (withStation (askedOf s) (stationsFrom m o r))) next (drop-drop station-bytes (stationOffset i) input ∙ ap (λ o. drop o input) next)
+    ∙ ap₂
+    (λ o r. withStations before (withStation (askedOf s) (stationsFrom m o r)))
+    next
+    (drop-drop station-bytes (stationOffset i) input ∙ ap (λ o. drop o input) next)
     ∙ ap
     (λ asked. record { refusal = later .refusal; offset = later .offset; asked = asked })
     (sym (append-snoc before (askedOf s) (later .asked)) ∙ ap (λ taken. taken ++ later .asked) (sym one-more))
@@ -189,7 +198,9 @@ stations-end input stations n i h l =
     let same : i ≡ n = omega arith in
     let none : n - i ≡ 0 = omega arith in
     ap (λ k. withStations (map askedOf (take i stations)) (stationsFrom k (stationOffset i) (drop (stationOffset i) input))) none
-    ∙ ap (λ asked. record { refusal = 0; offset = 0; asked = asked }) (append-nil (map askedOf (take i stations)) ∙ ap (λ k. map askedOf (take k stations)) same)
+    ∙ ap
+    (λ asked. record { refusal = 0; offset = 0; asked = asked })
+    (append-nil (map askedOf (take i stations)) ∙ ap (λ k. map askedOf (take k stations)) same)
 
 -- ---- the arrivals
 
@@ -287,7 +298,8 @@ pub run-here :
     → t ≡ ltb (at + run-bytes) (length input)
     → runAt input at
     ≡ cond t (refusedEnding 20 (at + run-bytes)) (record { refusal = 0; offset = 0; arrivals = []; steps = steps })
-run-here input at steps t e more = ap (λ x. runFrom x at after) (sym e) ∙ ap (λ b. cond b last (refusedEnding 20 (at + run-bytes))) (none t more) ∙ swap t
+run-here input at steps t e more =
+    ap (λ x. runFrom x at after) (sym e) ∙ ap (λ b. cond b last (refusedEnding 20 (at + run-bytes))) (none t more) ∙ swap t
   where
     after : ℕ
     after = length (drop run-bytes (drop at input))
@@ -306,3 +318,63 @@ run-here input at steps t e more = ap (λ x. runFrom x at after) (sym e) ∙ ap 
     swap : (u : Bool) → cond (not u) last (refusedEnding 20 (at + run-bytes)) ≡ cond u (refusedEnding 20 (at + run-bytes)) last
     swap true = refl
     swap false = refl
+
+-- ---- the set-up
+
+-- settings that are not refused have no more than 64 stations
+pub few-stations : (g : Settings) → settingsRefusal g ≡ 0 → g .n ≤ 64
+few-stations g e = settings-pass g (replicate most-stations (askedOf nobody)) e .few
+
+-- each of these tests is about the station at place i
+abbrev About : ℕ → List (Verdict × Bool) → Type 0
+About i [] = Unit {0}
+About i (t ∷ ts) = (t .0 .station ≡ i) × About i ts
+
+-- the verdict is about one of m stations where the first tests are about such a one, and the others' verdict is
+tests-about :
+    (m i : ℕ) (ts us : List (Verdict × Bool)) → About i ts → i ≤ m → firstOf fine us .station ≤ m → firstOf fine (ts ++ us) .station ≤ m
+tests-about m i [] us a h l = l
+tests-about m i (t ∷ ts) us a h l = go (t .1) (tests-about m i ts us (a .1) h l)
+  where
+    go : (b : Bool) → firstOf fine (ts ++ us) .station ≤ m → verdict b (t .0) (firstOf fine (ts ++ us)) .station ≤ m
+    go true k = let e = a .0 in omega arith
+    go false k = k
+
+-- the verdict on the stations from place i on is about one of m, if these are that many at most
+row-about :
+    (r : Request) (m i : ℕ) (earlier later : List Asked) → i + length later ≤ m
+    → firstOf fine (rowTests r i earlier later) .station ≤ m
+row-about r m i earlier [] h = omega arith
+row-about r m i earlier (s ∷ later) h =
+    tests-about
+    m
+    i
+    (stationTests r i earlier s)
+    (rowTests r (suc i) (earlier ++ (s ∷ [])) later)
+    (refl, (refl, (refl, (refl, tt))))
+    (omega arith)
+    (row-about r m (suc i) (earlier ++ (s ∷ [])) later (omega arith))
+
+-- the verdict on a set-up is about one of its stations
+pub verdict-about : (r : Request) → setUpVerdict r .station ≤ r .N
+verdict-about r =
+    tests-about
+    (r .N)
+    0
+    (settingsTests r)
+    (rowTests r 0 [] (take (r .N) (r .row)))
+    (refl, (refl, (refl, (refl, (refl, tt)))))
+    (omega arith)
+    (row-about r (r .N) 0 [] (take (r .N) (r .row)) (omega (arith, length-take (r .N) (r .row))))
+
+-- ---- refusals
+
+-- a number that is not 0 refuses
+pub refused-by :
+    (n m offset at : ℕ) (x : Reading) → m ≡ n → at ≡ offset → ¬ (m ≡ 0) → refused m at ≡ cond (eqb n 0) x (refused n offset)
+refused-by n m offset at x e f h =
+    ap₂ refused e f ∙ ap (λ t. cond t x (refused n offset)) (sym (ne-eqb n 0 (λ z. h (e ∙ z))))
+
+-- and 0 does not
+pub not-refused : (n m offset : ℕ) (x : Reading) → m ≡ n → m ≡ 0 → cond (eqb n 0) x (refused n offset) ≡ x
+not-refused n m offset x e z = ap (λ t. cond t x (refused n offset)) (eq-eqb n 0 (sym e ∙ z))

@@ -14,10 +14,6 @@ use Rattle.scenario.specs.declared.Record.the-variants as Is
 use Rattle.scenario.proofs.ReadingLaws.{other-kind, arrival-within, arrival-turn, arrivals-over}
 use Rattle.scenario.proofs.pass_arrivals.Statement.{statement}
 use Rattle.scenario.proofs.pass_arrivals.Tie as tie
-use Rattle.scenario.proofs.pass_arrivals.Reads as reads
-use Rattle.scenario.proofs.pass_arrivals.Lts as lts
-use Rattle.scenario.proofs.before.Reads as before-reads
-use Rattle.scenario.proofs.record_at.Reads as record-at-reads
 
 abbrev Inv-loop : tie.InvT-loop
 Inv-loop input from at₀ previous₀ at previous =

@@ -8,16 +8,11 @@ use lib.ListN.{length, drop}
 use borrow.Author.Needs.{needs}
 use borrow.Author.Tests.{lt-ltb, le-ltb}
 use Rattle.scenario.specs.declared.Record.the-variants as Is
-use Rattle.scenario.specs.declared.Ending.{Ending}
-use Rattle.scenario.specs.Format.{said, outOfPlace, readRecord}
+use Rattle.scenario.specs.Format.{Said, said, outOfPlace, readRecord}
 use Rattle.scenario.specs.Parts.{endingForm}
 use Rattle.scenario.proofs.ReadingLaws.{other-kind, record-within, run-other, run-here}
 use Rattle.scenario.proofs.read_run.Statement.{statement}
 use Rattle.scenario.proofs.read_run.Tie as tie
-use Rattle.scenario.proofs.read_run.Reads as reads
-use Rattle.scenario.proofs.read_run.Lts as lts
-use Rattle.scenario.proofs.out_of_place.Reads as out-of-place-reads
-use Rattle.scenario.proofs.record_at.Reads as record-at-reads
 
 -- the record is the run that was found
 found-here :
@@ -50,7 +45,8 @@ returns c =
 add-after : tie.Need-add-after
 add-after c =
     let args = c .before .before .before .before .before .args in
-    let h : args .at + 6 ≤ length (args .input .now) = record-within (args .input .now) (args .at) 4 (ap (λ x. x .kind) (sym (found-here (c .before)))) (omega arith) in
+    let kind = ap (λ (x : Said). x .kind) (sym (found-here (c .before))) in
+    let h : args .at + 6 ≤ length (args .input .now) = record-within (args .input .now) (args .at) 4 kind (omega arith) in
     omega arith
 
 returns-2 : tie.Need-returns-2

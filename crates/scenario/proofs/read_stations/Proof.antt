@@ -1,6 +1,6 @@
 -- `read_stations` meets its contract. The loop's invariant: the stations are those in the array before i, and then those that are read from the
 -- record at i on. Assumes nothing.
-use Prim.Native.Nat.{_+_, _-_, _≤_}
+use Prim.Native.Nat.{_-_, _≤_}
 use mathlib.Core.Path.{_≡_, refl, sym, ap, _∙_}
 use mathlib.Core.List.{[], _∷_}
 use native.Mathlib.Nat.{sub-zero}
@@ -8,17 +8,11 @@ use native.Mathlib.Omega.{arith}
 use lib.ListN.{length, drop, length-set}
 use borrow.Author.Needs.{needs}
 use Rattle.bus.specs.Coded.{requestWith}
-use Rattle.scenario.specs.declared.Record.the-variants as Is
 use Rattle.scenario.specs.Format.{said, outOfPlace, readRecord}
 use Rattle.scenario.specs.Reading.{StationsRead, set-up-bytes, stationOffset, stationsFrom}
 use Rattle.scenario.proofs.ReadingLaws.{other-kind, stationsAfter, station-turn, station-other, stations-end}
 use Rattle.scenario.proofs.read_stations.Statement.{statement}
 use Rattle.scenario.proofs.read_stations.Tie as tie
-use Rattle.scenario.proofs.read_stations.Reads as reads
-use Rattle.scenario.proofs.read_stations.Lts as lts
-use Rattle.scenario.proofs.out_of_place.Reads as out-of-place-reads
-use Rattle.scenario.proofs.record_at.Reads as record-at-reads
-use Rattle.scenario.proofs.station_offset.Reads as station-offset-reads
 
 abbrev Inv-loop : tie.InvT-loop
 Inv-loop input n stations₀ i₀ stations i =

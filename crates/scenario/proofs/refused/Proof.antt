@@ -3,9 +3,6 @@ use mathlib.Core.Path.{ap}
 use borrow.Author.Needs.{needs}
 use Rattle.scenario.proofs.refused.Statement.{statement}
 use Rattle.scenario.proofs.refused.Tie as tie
-use Rattle.scenario.proofs.refused.Reads as reads
-use Rattle.scenario.proofs.refused.Lts as lts
-use Rattle.bus.proofs.all_zero.Reads as all-zero-reads
 
 all-zero-requires : tie.Need-all-zero-requires
 all-zero-requires c κs = search needs
