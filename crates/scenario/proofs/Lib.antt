@@ -1,3 +1,5 @@
 pub mod Numbers
 pub mod RecordLaws
 pub mod Unique
+pub mod ReadingLaws
+pub mod Arrivals

@@ -1,17 +1,15 @@
+-- `refused` meets its contract. Assumes nothing.
+use mathlib.Core.Path.{ap}
 use borrow.Author.Needs.{needs}
 use Rattle.scenario.proofs.refused.Statement.{statement}
 use Rattle.scenario.proofs.refused.Tie as tie
-use Rattle.scenario.proofs.refused.Reads as reads
-use Rattle.scenario.proofs.refused.Lts as lts
-use Rattle.bus.proofs.all_zero.Reads as all-zero-reads
 
--- src/lib.rt:205:9
 all-zero-requires : tie.Need-all-zero-requires
 all-zero-requires c κs = search needs
 
--- src/lib.rt:202:1
 returns : tie.Need-returns
-returns c = ?
+returns c =
+    ap (λ s. record { refusal = c .before .args .refusal; offset = c .before .args .offset; state = s; at = 0; steps = 0 }) (c .all-zero .ensures)
 
 pub refused-spec : {M : Type 1} → statement M
 refused-spec = tie.close (tie.spec all-zero-requires returns)

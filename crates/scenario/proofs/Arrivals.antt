@@ -1,0 +1,196 @@
+-- The arrivals that stand in a scenario's bytes from an offset on, for who takes them one by one. Assumes nothing.
+use Prim.Native.Nat.{ℕ, zero, suc, _+_, _≤_}
+use mathlib.Core.Path.{_≡_, refl, sym, ap, subst, _∙_}
+use mathlib.Core.Bool.{Bool, true, false, cond}
+use mathlib.Core.List.{List, [], _∷_}
+use native.Mathlib.Omega.{arith}
+use lib.Dec.{ltb, eqb}
+use lib.ListN.{length, drop}
+use lib.Seq.{drop-drop}
+use borrow.Author.Tests.{eqb-true, eq-eqb, ne-eqb}
+use Rattle.rules.specs.SetUp.{Request, setUpVerdict}
+use Rattle.rules.proofs.Laws.{clash}
+use Rattle.bus.specs.declared.Settings.{Settings}
+use Rattle.bus.specs.Coded.{requestWith, settingsRefusal}
+use Rattle.scenario.specs.Format.{Said, Arrival, readRecord, outOfPlace}
+use Rattle.scenario.specs.Reading.{most-bytes, set-up-bytes, arrival-bytes, run-bytes, settingsFrom, arrivalFrom, stepsFrom}
+use Rattle.scenario.specs.Reading.{StationsRead, stationsFrom, EndingRead, refusedEnding, withArrival, runFrom, arrivalsFrom}
+use Rattle.scenario.specs.Reading.{Reading, refused, accepted, stationOffset, readEnding, readArrivals, readStations}
+use Rattle.scenario.specs.Reading.{readSettings, readSetUp, reading}
+use Rattle.scenario.specs.Parts.{endingAt}
+use Rattle.scenario.proofs.ReadingLaws.{record-within, arrivalsBy}
+
+-- From an offset of the input on there stand these arrivals, none of a time below the one before it, and then the run: they are what some
+-- number of turns collects, after some previous time, with no refusal.
+pub record ArrivalsAt (input : List ℕ) (at : ℕ) (arrivals : List Arrival) : Type 0 where
+  pub turns : ℕ
+  pub previous : ℕ
+  pub fine : arrivalsFrom turns previous at (drop at input) .refusal ≡ 0
+  pub collected : arrivalsFrom turns previous at (drop at input) .arrivals ≡ arrivals
+
+-- what no turn refuses is, where the record says an arrival, that arrival and those after it
+taken :
+    (x : Said) (turns previous at : ℕ) (rest : List ℕ) → x .kind ≡ 3 → arrivalsBy x turns previous at rest .refusal ≡ 0
+    → arrivalsBy x turns previous at rest
+    ≡ withArrival
+    (arrivalFrom (x .values))
+    (arrivalsFrom turns (arrivalFrom (x .values) .time .0) (at + arrival-bytes) (drop arrival-bytes rest))
+taken x turns previous at rest e f = go (eqb (x .kind) 3) (ltb a previous) (eq-eqb (x .kind) 3 e) f
+  where
+    a : ℕ
+    a = arrivalFrom (x .values) .time .0
+
+    more : EndingRead
+    more = withArrival (arrivalFrom (x .values)) (arrivalsFrom turns a (at + arrival-bytes) (drop arrival-bytes rest))
+
+    run : EndingRead
+    run = runFrom x at (length (drop run-bytes rest))
+
+    go :
+        (t late : Bool) → t ≡ true → cond t (cond late (refusedEnding 21 at) more) run .refusal ≡ 0
+        → cond t (cond late (refusedEnding 21 at) more) run ≡ more
+    go true true k f = absurd (omega arith)
+    go true false k f = refl
+    go false late k f = clash k refl
+
+-- and where it says none, no arrivals
+ended : (x : Said) (turns previous at : ℕ) (rest : List ℕ) → ¬ (x .kind ≡ 3) → arrivalsBy x turns previous at rest .arrivals ≡ []
+ended x turns previous at rest e = simp (ne-eqb (x .kind) 3 e) (go (eqb (x .kind) 4) (eqb (length (drop run-bytes rest)) 0))
+  where
+    go :
+        (t u : Bool)
+        → cond
+        t
+        (cond u (record { refusal = 0; offset = 0; arrivals = []; steps = stepsFrom (x .values) }) (refusedEnding 20 (at + run-bytes)))
+        (refusedEnding (outOfPlace x) at)
+        .arrivals
+        ≡ []
+    go true true = refl
+    go true false = refl
+    go false u = refl
+
+module _ {input : List ℕ} {at : ℕ} {arrivals : List Arrival} where
+  -- where the record at an offset is an arrival, it is the first of those that stand there, and the others stand past its bytes
+  pub arrivals-here :
+      ArrivalsAt input at arrivals → readRecord (drop at input) .kind ≡ 3
+      → (later : List Arrival) × (arrivals ≡ arrivalFrom (readRecord (drop at input) .values) ∷ later) × ArrivalsAt input (at + 16) later
+  arrivals-here here e = go (here .turns) (here .fine) (here .collected)
+    where
+      x : Said
+      x = readRecord (drop at input)
+
+      a : ℕ
+      a = arrivalFrom (x .values) .time .0
+
+      go :
+          (turns : ℕ) → arrivalsFrom turns (here .previous) at (drop at input) .refusal ≡ 0
+          → arrivalsFrom turns (here .previous) at (drop at input) .arrivals ≡ arrivals
+          → (later : List Arrival) × (arrivals ≡ arrivalFrom (readRecord (drop at input) .values) ∷ later) × ArrivalsAt input (at + 16) later
+      go zero f c = absurd (omega arith)
+      go (suc turns) f c =
+          let turn = taken x turns (here .previous) at (drop at input) e f in
+          let past = ap (arrivalsFrom turns a (at + 16)) (drop-drop 16 at input) in (
+            arrivalsFrom turns a (at + 16) (drop 16 (drop at input)) .arrivals,
+            sym c ∙ ap (λ (x : EndingRead). x .arrivals) turn,
+            record {
+              turns = turns;
+              previous = a;
+              fine = ap (λ (x : EndingRead). x .refusal) (sym past) ∙ ap (λ (x : EndingRead). x .refusal) (sym turn) ∙ f;
+              collected = ap (λ (x : EndingRead). x .arrivals) (sym past);
+            },
+          )
+
+  -- where it is none, none stand there
+  pub arrivals-none : ArrivalsAt input at arrivals → ¬ (readRecord (drop at input) .kind ≡ 3) → arrivals ≡ []
+  arrivals-none here e = go (here .turns) (here .fine) (here .collected)
+    where
+      go :
+          (turns : ℕ) → arrivalsFrom turns (here .previous) at (drop at input) .refusal ≡ 0
+          → arrivalsFrom turns (here .previous) at (drop at input) .arrivals ≡ arrivals
+          → arrivals ≡ []
+      go zero f c = absurd (omega arith)
+      go (suc turns) f c = sym c ∙ ended (readRecord (drop at input)) turns (here .previous) at (drop at input) e
+
+-- an arrival's record ends within the input
+pub arrival-within : (input : List ℕ) (at : ℕ) → readRecord (drop at input) .kind ≡ 3 → at + 16 ≤ length input
+arrival-within input at e = record-within input at 3 e (omega arith)
+
+-- ---- an accepted scenario
+
+-- what a reading tells of arrivals: those of an accepted one stand from past its stations on
+Stand : List ℕ → Reading → Type 0
+Stand input (refused n offset) = Unit {0}
+Stand input (accepted r arrivals steps) = ArrivalsAt input (stationOffset (r .N)) arrivals
+
+-- what stands by a test, where else it is refused
+by-test : (input : List ℕ) (t : Bool) (x : Reading) (n offset : ℕ) → Stand input x → Stand input (cond t x (refused n offset))
+unfolding Stand
+by-test input true x n offset h = h
+by-test input false x n offset h = tt
+
+-- past its stations, with any request
+stand-ending : (input : List ℕ) (r : Request) → Stand input (readEnding r (endingAt input (stationOffset (r .N))))
+unfolding Stand
+stand-ending input r = go (eqb (x .refusal) 0) refl
+  where
+    x : EndingRead
+    x = endingAt input (stationOffset (r .N))
+
+    go : (t : Bool) → eqb (x .refusal) 0 ≡ t → Stand input (cond t (accepted r (x .arrivals) (x .steps)) (refused (x .refusal) (x .offset)))
+    go true e = record { turns = suc (length input); previous = 0; fine = eqb-true (x .refusal) 0 e; collected = refl }
+    go false e = tt
+
+-- with any settings
+stand-settings : (input : List ℕ) (g : Settings) → Stand input (readSettings g input)
+stand-settings input g =
+    by-test
+    input
+    (eqb (settingsRefusal g) 0)
+    (readStations g x input)
+    (settingsRefusal g)
+    0
+    (by-test
+    input
+    (eqb (x .refusal) 0)
+    (readArrivals r input)
+    (x .refusal)
+    (x .offset)
+    (by-test
+    input
+    (eqb (setUpVerdict r .refusal) 0)
+    (readEnding r (endingAt input (stationOffset (r .N))))
+    (setUpVerdict r .refusal)
+    (stationOffset (setUpVerdict r .station))
+    (stand-ending input r)))
+  where
+    x : StationsRead
+    x = stationsFrom (g .n) set-up-bytes (drop set-up-bytes input)
+
+    r : Request
+    r = requestWith g (x .asked)
+
+-- with any bytes
+stand : (input : List ℕ) → Stand input (reading input)
+unfolding Stand
+stand input = go (ltb most-bytes (length input))
+  where
+    x : Said
+    x = readRecord input
+
+    go : (t : Bool) → Stand input (cond t (refused 22 0) (readSetUp x input))
+    go true = tt
+    go false =
+        by-test
+        input
+        (eqb (x .kind) 1)
+        (readSettings (settingsFrom (x .values)) input)
+        (outOfPlace x)
+        0
+        (stand-settings input (settingsFrom (x .values)))
+
+-- the arrivals of an accepted scenario stand from past its stations on
+pub arrivals-first :
+    {input : List ℕ} {r : Request} {arrivals : List Arrival} {steps : ℕ} → reading input ≡ accepted r arrivals steps
+    → ArrivalsAt input (stationOffset (r .N)) arrivals
+unfolding Stand
+arrivals-first {input} e = subst (Stand input) e (stand input)
