@@ -1,0 +1,10 @@
+pub mod Lines
+pub mod Decimals
+pub mod TurnLaws
+pub mod Numbered
+pub mod Keeping
+pub mod Handed
+pub mod StepsFit
+pub mod NeverRefused
+pub mod Worked
+pub mod Unique

@@ -2,3 +2,4 @@ pub mod Text
 pub mod Run
 pub mod Turns
 pub mod Parts
+pub mod Worked

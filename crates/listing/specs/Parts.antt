@@ -11,8 +11,8 @@ abbrev pub Holds : Line → List ℕ → ℕ → Type 0
 Holds l text most = (l ≡ lineOf text) × (length text ≤ most)
 
 -- the second line is the first with more text, no more than so many bytes, if there is room for as many
-abbrev pub Adds : Line → Line → List ℕ → ℕ → Type 0
-Adds l r more most = (text : List ℕ) (k : ℕ) → Holds l text k → k + most ≤ most-text → Holds r (text ++ more) (k + most)
+pub record Adds (l r : Line) (more : List ℕ) (most : ℕ) : Type 0 where
+  pub holds : (text : List ℕ) (k : ℕ) → Holds l text k → k + most ≤ most-text → Holds r (text ++ more) (k + most)
 
 -- p is 10 ^ k for the k that has a number n below ten times it and, unless it is 1, not below it
 abbrev pub powerFor : ℕ → ℕ → Type 0

@@ -1,7 +1,7 @@
 -- The lines of a listing (paper 01, 'The scenario and its listing') as bytes of ASCII. 'Fields are decimal, one space apart, each line closed
 -- by one newline.' Assumes nothing.
 use Prim.Native.Nat.{ℕ, zero, suc, _+_, _-_, _/_, _%_}
-use mathlib.Core.Bool.{Bool, cond}
+use mathlib.Core.Bool.{cond}
 use mathlib.Core.List.{List, [], _∷_, _++_}
 use lib.Dec.{ltb, eqb}
 use lib.ListN.{length, take, replicate}

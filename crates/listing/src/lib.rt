@@ -2,13 +2,13 @@
 // input and any play.
 ghost use mathlib.Core.Path.{_≡_};
 ghost use Prim.Native.Nat.{_+_, _<_};
-ghost use mathlib.Core.Bool.{cond};
+ghost use mathlib.Core.Bool.{false};
 ghost use mathlib.Core.List.{[]};
-ghost use lib.Dec.{leb, eqb};
+ghost use lib.Dec.{leb};
 ghost use Rattle.bus.specs.Coded.{answerOf, codedAdmit, codedStep, totalsOf};
 ghost use Rattle.scenario.specs.Reading.{arrival-bytes};
 ghost use Rattle.listing.specs.Text.{lineOf, refusedText, arrivalText, endText, droppedText, probedText};
-ghost use Rattle.listing.specs.Run.{asks};
+ghost use Rattle.listing.specs.Run.{asks, refusalText};
 ghost use Rattle.listing.specs.Turns.{opened, admittedBy, steppedBy, closedBy, turn};
 use bus::Address;
 use bus::Answer;
@@ -161,13 +161,14 @@ fn is_due(time: Slot, clock: Slot) -> bool
 }
 
 // The line of an arrival that was refused, or an empty one.
-fn admitted_line(slot: Slot, address: Address, refusal: u32) -> Line
-    ensures { λ r. ⌜ r ≡ lineOf (cond (eqb refusal 0) [] (arrivalText (slot .0) (address .0) refusal)) ⌝ }
+fn admitted_line(clock: Slot, arrival: Arrival, refusal: u32) -> Line
+    ensures { λ r. ⌜ r ≡ lineOf (refusalText (clock .0) arrival refusal) ⌝ }
 {
     if refusal == 0 {
         return text::empty();
     }
-    arrival_line(slot, address, refusal)
+    let address = arrival.address;
+    arrival_line(clock, address, refusal)
 }
 
 // An arrival is admitted; the next record is at `after`.
@@ -181,7 +182,7 @@ fn admit_arrival(play: Play, arrival: Arrival, after: usize) -> Turn
     let address = arrival.address;
     let admission = bus::admit(state, address, arrival.value, arrival.length);
     let answer = admission.answer;
-    let line = admitted_line(clock, address, answer.refusal);
+    let line = admitted_line(clock, arrival, answer.refusal);
     let next = admission.state;
     let played = Play {
         state: next,

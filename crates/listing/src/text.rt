@@ -68,7 +68,7 @@ fn power_of(n: u64) -> u64
 
 // A number more, in decimal.
 pub fn number(line: Line, n: u64) -> Line
-    ensures { λ r. ⌜ Adds line r (decimal n) 20 ⌝ }
+    ensures { λ r. ⌜ Adds line r (decimal n) (length (decimal n)) ⌝ }
 {
     let mut next = line;
     let mut power = power_of(n);

@@ -1,0 +1,80 @@
+-- A number in decimal: its digits from the highest place down, and how many they are. Assumes nothing.
+use Prim.Native.Nat.{ℕ, zero, suc, _+_, _/_, _%_, _^_, _≤_, _<_}
+use mathlib.Core.Path.{_≡_, refl, sym, ap, ap₂, _∙_}
+use mathlib.Core.Logic.{_⊎_, inr, ⊎-elim}
+use mathlib.Core.Bool.{Bool, true, false, cond}
+use mathlib.Core.List.{List, [], _∷_, _++_}
+use native.Mathlib.Nat.{div-one, div-div-eq-div-mul, pow-suc, pow-succ', one-le-pow}
+use native.Mathlib.Omega.{arith}
+use borrow.Author.Tests.{lt-ltb, le-ltb}
+use lib.Dec.{ltb}
+use lib.ListN.{length, length-append}
+use Rattle.listing.specs.Text.{digit, decimalIn, decimal}
+use Rattle.listing.specs.Parts.{powerFor}
+
+-- ---- digits from the highest place down
+
+-- the digits of a number at the k lowest places, the highest first
+abbrev pub digits : ℕ → ℕ → List ℕ
+digits zero n = []
+digits (suc k) n = digit (n / 10 ^ k % 10) ∷ digits k n
+
+-- the power of ten at the highest of k places, or 0 where there is none
+abbrev pub top : ℕ → ℕ
+top zero = 0
+top (suc k) = 10 ^ k
+
+-- the power of ten a place down
+pub top-down : (k : ℕ) → 10 ^ k / 10 ≡ top k
+top-down zero = refl
+top-down (suc k) = omega (arith, pow-suc 10 k)
+
+-- the last digit joins those of a tenth
+digits-last : (k n : ℕ) → digits k (n / 10) ++ (digit (n % 10) ∷ []) ≡ digits (suc k) n
+digits-last zero n = ap (λ m. digit (m % 10) ∷ []) (sym (div-one n))
+digits-last (suc k) n =
+    ap₂
+    (λ m more. digit (m % 10) ∷ more)
+    (div-div-eq-div-mul n 10 (10 ^ k) ∙ ap (λ p. n / p) (sym (pow-succ' 10 k)))
+    (digits-last k n)
+
+-- what a turn gives, by whether the number is below ten
+abbrev turned : ℕ → ℕ → Bool → List ℕ
+turned turns n small = cond small (digit n ∷ []) (decimalIn turns (n / 10) ++ (digit (n % 10) ∷ []))
+
+-- enough turns give the digits from the highest that is not 0, or the only one, down
+turns-digits :
+    (turns k n : ℕ) → n < turns → n / 10 < 10 ^ k → (k ≡ 0) ⊎ (10 ^ k ≤ n) → decimalIn turns n ≡ digits (suc k) n
+turns-digits zero k n l below above = absurd (omega arith)
+turns-digits (suc turns) zero n l below above =
+    ap (turned turns n) (lt-ltb n 10 (omega arith))
+    ∙ ap (λ m. digit m ∷ []) (omega (arith, div-one n))
+turns-digits (suc turns) (suc k) n l below above =
+    let some = one-le-pow k 10 (omega arith) in
+    let ten = pow-suc 10 k in
+    let high : 10 ^ suc k ≤ n = ⊎-elim (λ e. absurd (omega arith)) (λ h. h) above in
+    ap (turned turns n) (le-ltb n 10 (omega arith))
+    ∙ ap (λ more. more ++ (digit (n % 10) ∷ [])) (turns-digits turns k (n / 10) (omega arith) (omega arith) (inr (omega arith)))
+    ∙ digits-last (suc k) n
+
+-- a number in decimal is its digits from the place of its highest power of ten down
+pub decimal-digits : (n p : ℕ) (h : powerFor n p) → decimal n ≡ digits (suc (h .0)) n
+unfolding decimal
+decimal-digits n p h = turns-digits (suc n) (h .0) n (omega arith) (rw (h .1) at (h .2)) (rw (h .1) at (h .3))
+
+-- ---- how many digits
+
+-- any turns give no more digits than the power of ten above the number tells
+turns-length : (turns k n : ℕ) → n < 10 ^ suc k → length (decimalIn turns n) ≤ suc k
+turns-length zero k n h = omega arith
+turns-length (suc turns) zero n h = let small = lt-ltb n 10 (omega arith) in rw small (omega arith)
+turns-length (suc turns) (suc k) n h = go (ltb n 10) (turns-length turns k (n / 10) (omega (arith, pow-suc 10 (suc k))))
+  where
+    go : (t : Bool) → length (decimalIn turns (n / 10)) ≤ suc k → length (turned turns n t) ≤ suc (suc k)
+    go true few = omega arith
+    go false few = omega (arith, length-append (decimalIn turns (n / 10)) (digit (n % 10) ∷ []))
+
+-- a number below 10 ^ (k + 1) has no more than k + 1 digits
+pub decimal-length : (k n : ℕ) → n < 10 ^ suc k → length (decimal n) ≤ suc k
+unfolding decimal
+decimal-length k n = turns-length (suc n) k n

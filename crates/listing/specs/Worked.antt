@@ -1,0 +1,59 @@
+-- The worked example of paper 01, 'The scenario and its listing': the bytes of its input and of its output. Assumes nothing.
+use Prim.Native.Nat.{ℕ}
+use mathlib.Core.List.{List, [], _∷_}
+
+-- 'Input, hexadecimal', record by record
+abbrev pub worked-input : List ℕ
+worked-input =
+    -- a set-up: discipline 0 (PRI), D 4, A 8, q 1, N 3
+    14 ∷ 0 ∷ 1 ∷ 0 ∷ 0 ∷ 4 ∷ 0 ∷ 0 ∷ 0 ∷ 8 ∷ 0 ∷ 0 ∷ 0 ∷ 1 ∷ 0 ∷ 3 ∷
+    -- a station: address 1, capability 0
+    6 ∷ 0 ∷ 2 ∷ 0 ∷ 1 ∷ 0 ∷ 0 ∷ 0 ∷
+    -- a station: address 5, capability 0
+    6 ∷ 0 ∷ 2 ∷ 0 ∷ 5 ∷ 0 ∷ 0 ∷ 0 ∷
+    -- a station: address 6, capability 0
+    6 ∷ 0 ∷ 2 ∷ 0 ∷ 6 ∷ 0 ∷ 0 ∷ 0 ∷
+    -- an arrival: time 0, address 5, value 2, packet length 3
+    14 ∷ 0 ∷ 3 ∷ 0 ∷ 0 ∷ 0 ∷ 0 ∷ 0 ∷ 5 ∷ 0 ∷ 2 ∷ 0 ∷ 0 ∷ 0 ∷ 3 ∷ 0 ∷
+    -- an arrival: time 0, address 6, value 2, packet length 1
+    14 ∷ 0 ∷ 3 ∷ 0 ∷ 0 ∷ 0 ∷ 0 ∷ 0 ∷ 6 ∷ 0 ∷ 2 ∷ 0 ∷ 0 ∷ 0 ∷ 1 ∷ 0 ∷
+    -- an arrival: time 0, address 1, value 3, packet length 2
+    14 ∷ 0 ∷ 3 ∷ 0 ∷ 0 ∷ 0 ∷ 0 ∷ 0 ∷ 1 ∷ 0 ∷ 3 ∷ 0 ∷ 0 ∷ 0 ∷ 2 ∷ 0 ∷
+    -- a run: 14 steps
+    4 ∷ 0 ∷ 4 ∷ 0 ∷ 14 ∷ 0 ∷
+    []
+
+-- 'Output', line by line
+abbrev pub worked-output : List ℕ
+worked-output =
+    -- 0 P 0 4 C
+    48 ∷ 32 ∷ 80 ∷ 32 ∷ 48 ∷ 32 ∷ 52 ∷ 32 ∷ 67 ∷ 10 ∷
+    -- 1 P 0 2 I
+    49 ∷ 32 ∷ 80 ∷ 32 ∷ 48 ∷ 32 ∷ 50 ∷ 32 ∷ 73 ∷ 10 ∷
+    -- 2 P 2 2 C
+    50 ∷ 32 ∷ 80 ∷ 32 ∷ 50 ∷ 32 ∷ 50 ∷ 32 ∷ 67 ∷ 10 ∷
+    -- 3 P 2 1 C
+    51 ∷ 32 ∷ 80 ∷ 32 ∷ 50 ∷ 32 ∷ 49 ∷ 32 ∷ 67 ∷ 10 ∷
+    -- 4 T 0 8 C
+    52 ∷ 32 ∷ 84 ∷ 32 ∷ 48 ∷ 32 ∷ 56 ∷ 32 ∷ 67 ∷ 10 ∷
+    -- 5 T 0 4 I
+    53 ∷ 32 ∷ 84 ∷ 32 ∷ 48 ∷ 32 ∷ 52 ∷ 32 ∷ 73 ∷ 10 ∷
+    -- 6 T 4 4 C
+    54 ∷ 32 ∷ 84 ∷ 32 ∷ 52 ∷ 32 ∷ 52 ∷ 32 ∷ 67 ∷ 10 ∷
+    -- 7 T 4 2 S 5 1 3
+    55 ∷ 32 ∷ 84 ∷ 32 ∷ 52 ∷ 32 ∷ 50 ∷ 32 ∷ 83 ∷ 32 ∷ 53 ∷ 32 ∷ 49 ∷ 32 ∷ 51 ∷ 10 ∷
+    -- 10 P 0 4 C
+    49 ∷ 48 ∷ 32 ∷ 80 ∷ 32 ∷ 48 ∷ 32 ∷ 52 ∷ 32 ∷ 67 ∷ 10 ∷
+    -- 11 P 0 2 I
+    49 ∷ 49 ∷ 32 ∷ 80 ∷ 32 ∷ 48 ∷ 32 ∷ 50 ∷ 32 ∷ 73 ∷ 10 ∷
+    -- 12 P 2 2 C
+    49 ∷ 50 ∷ 32 ∷ 80 ∷ 32 ∷ 50 ∷ 32 ∷ 50 ∷ 32 ∷ 67 ∷ 10 ∷
+    -- 13 P 2 1 S 6 2 1
+    49 ∷ 51 ∷ 32 ∷ 80 ∷ 32 ∷ 50 ∷ 32 ∷ 49 ∷ 32 ∷ 83 ∷ 32 ∷ 54 ∷ 32 ∷ 50 ∷ 32 ∷ 49 ∷ 10 ∷
+    -- 14 P 0 4 S 1 3 2
+    49 ∷ 52 ∷ 32 ∷ 80 ∷ 32 ∷ 48 ∷ 32 ∷ 52 ∷ 32 ∷ 83 ∷ 32 ∷ 49 ∷ 32 ∷ 51 ∷ 32 ∷ 50 ∷ 10 ∷
+    -- 16 P 0 4 I
+    49 ∷ 54 ∷ 32 ∷ 80 ∷ 32 ∷ 48 ∷ 32 ∷ 52 ∷ 32 ∷ 73 ∷ 10 ∷
+    -- END 17 3 3 0 0
+    69 ∷ 78 ∷ 68 ∷ 32 ∷ 49 ∷ 55 ∷ 32 ∷ 51 ∷ 32 ∷ 51 ∷ 32 ∷ 48 ∷ 32 ∷ 48 ∷ 10 ∷
+    []
