@@ -1,16 +1,22 @@
 // The program: a scenario on standard input to its listing on standard output. It reads and writes; all else is the library's.
+ghost use mathlib.Core.Path.{_≡_};
+ghost use lib.ListN.{length};
 use listing::Line;
 use listing::Turn;
 
-// Writes a line; whether it could.
-fn write(line: Line) -> bool {
-    let bytes = line.bytes;
-    let length = line.length;
-    if length <= 128 {
+// Writes the first bytes of a line; whether it could.
+fn write_first(bytes: &[u8], length: usize) -> bool {
+    if length <= bytes.len() {
         io::write_all(1, &bytes[..length])
     } else {
         false
     }
+}
+
+// Writes a line; whether it could.
+fn write(line: Line) -> bool {
+    let bytes = line.bytes;
+    write_first(&bytes, line.length)
 }
 
 // Writes the lines of a turn; whether it could.
@@ -38,10 +44,15 @@ fn play(input: &[u8]) {
     }
 }
 
-// One byte more than a scenario may have is enough to see that it is too long.
+// Room for one byte more than a scenario may have, which is enough to see that it is too long.
+fn room() -> [u8; 65537]
+    ensures { λ r. ⌜ 65537 ≡ length r ⌝ }
+{
+    [0; 65537]
+}
+
 fn main() {
-    let mut space = [0u8; 65537];
-    let room: &mut [u8] = &mut space;
-    let got = io::read_full(0, room);
-    play(&room[..got]);
+    let mut space = room();
+    let got = io::read_full(0, &mut space);
+    play(&space[..got]);
 }

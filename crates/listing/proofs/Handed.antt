@@ -31,7 +31,7 @@ use Rattle.scenario.specs.Reading.{arrivalFrom, Reading, refused, accepted, rea
 use Rattle.scenario.proofs.Arrivals.{ArrivalsAt, arrivals-here, arrivals-none, arrival-within, arrivals-first}
 use Rattle.listing.specs.Text.{refusedText, droppedText, probedText}
 use Rattle.listing.specs.Run.{asks, due, refusalText, Left, admitDue, closingText, runText, listingOf, listing}
-use Rattle.listing.specs.Turns.{Play, Turn, says, over, openedBy, opened, admittedBy, steppedBy, closedBy, turnBy, turn}
+use Rattle.listing.specs.Turns.{Play, Turn, says, over, openedBy, opened, admittedBy, steppedBy, closedBy, turnBy, turn, played}
 use Rattle.listing.specs.Turns.{said, handed, turnsLeft}
 use Rattle.listing.proofs.Lines.{text-of}
 use Rattle.listing.proofs.Keeping.{next-stands}
@@ -83,11 +83,6 @@ used-up input p = go (p .going)
     go : (t : Bool) → cond t (suc (p .steps + (length input - p .at))) 0 ≤ 0 → t ≡ false
     go true h = absurd (omega arith)
     go false h = refl
-
--- the play after so many turns
-abbrev pub played : ℕ → List ℕ → Play → Play
-played zero input p = p
-played (suc turns) input p = played turns input (turn input p .play)
 
 -- a play that is over stays as it is
 stays : (input : List ℕ) (p : Play) → p .going ≡ false → turn input p .play ≡ p

@@ -8,3 +8,4 @@ pub mod StepsFit
 pub mod NeverRefused
 pub mod Worked
 pub mod Unique
+pub mod Promises

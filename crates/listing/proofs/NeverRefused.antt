@@ -27,18 +27,10 @@ use Rattle.window.specs.declared.Side.{Side}
 use Rattle.window.specs.declared.Side.the-variants as Is
 use Rattle.scenario.specs.declared.Arrival.{Arrival}
 use Rattle.scenario.specs.Reading.{accepted, reading}
-use Rattle.listing.specs.Run.{asks, due, refusalText, Left, after, admitDue}
+use Rattle.listing.specs.Run.{asks, due, refusalText, Left, after, admitDue, answersOf, Bytes}
 use Rattle.listing.proofs.Numbered.{Sound, sound}
 use Rattle.listing.proofs.Keeping.{next-stands}
-use Rattle.listing.proofs.StepsFit.{Bytes, steps-fit}
-
--- the answers to the steps of a run
-abbrev pub answersOf : ℕ → Bus → List Arrival → List Answer
-answersOf zero b arrivals = []
-answersOf (suc steps) b arrivals =
-    let x = admitDue b arrivals in
-    let r = step (x .bus) in
-    r .0 ∷ answersOf steps (r .1) (x .arrivals)
+use Rattle.listing.proofs.StepsFit.{steps-fit}
 
 -- ---- the clock
 

@@ -8,7 +8,7 @@ use native.Mathlib.Omega.{arith}
 use lib.Dec.{ltb, eqb}
 use lib.ListN.{length, take, drop}
 use borrow.Author.Tests.{eqb-true}
-use Rattle.rules.specs.Lists.{at-head, in-tail, All}
+use Rattle.rules.specs.Lists.{at-head, in-tail}
 use Rattle.rules.specs.SetUp.{Request}
 use Rattle.rules.proofs.Laws.{all-cons, all-nil}
 use Rattle.scenario.specs.declared.Arrival.{Arrival}
@@ -16,13 +16,10 @@ use Rattle.scenario.specs.Format.{number, Kind, setUpKind, stationKind, arrival
 use Rattle.scenario.specs.Format.{bodyIn, readBody, readRecord, outOfPlace}
 use Rattle.scenario.specs.Reading.{arrival-bytes, run-bytes, arrivalFrom, stepsFrom, EndingRead, refusedEnding, withArrival, runFrom}
 use Rattle.scenario.specs.Reading.{arrivalsFrom, accepted, reading, stationOffset}
+use Rattle.listing.specs.Run.{Bytes}
 use Rattle.listing.proofs.Numbered.{Sound, sound}
 
--- a list of bytes
-abbrev pub Bytes : List ℕ → Type 0
-Bytes xs = All (λ x. x < 256) xs
-
--- of which the first may be taken
+-- of bytes the first may be taken
 bytes-take : (n : ℕ) (xs : List ℕ) → Bytes xs → Bytes (take n xs)
 bytes-take zero xs h = all-nil (λ x. x < 256)
 bytes-take (suc n) [] h = h

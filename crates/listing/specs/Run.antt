@@ -1,12 +1,14 @@
 -- The whole run, from the bytes of a scenario to the bytes of its listing (paper 01, 'The scenario and its listing'). Assumes nothing.
-use Prim.Native.Nat.{ℕ, zero, suc}
+use Prim.Native.Nat.{ℕ, zero, suc, _<_}
 use mathlib.Core.Bool.{Bool, cond}
 use mathlib.Core.List.{List, [], _∷_, _++_}
 use lib.Dec.{leb, eqb}
+use Rattle.rules.specs.Lists.{All}
 use Rattle.rules.specs.Bus.{Bus, waiting}
 use Rattle.rules.specs.SetUp.{setUp}
 use Rattle.rules.specs.Admission as Rules
 use Rattle.rules.specs.Admission.{admit}
+use Rattle.rules.specs.Probe.{Answer}
 use Rattle.rules.specs.Step.{step}
 use Rattle.bus.specs.Coded.{arrivalOf}
 use Rattle.scenario.specs.declared.Arrival.{Arrival}
@@ -55,6 +57,14 @@ runText (suc steps) b arrivals =
     let r = step (x .bus) in
     x .text ++ (droppedText (r .0) ++ (probedText (r .0) ++ runText steps (r .1) (x .arrivals)))
 
+-- the answers to the steps of a run
+abbrev pub answersOf : ℕ → Bus → List Arrival → List Answer
+answersOf zero b arrivals = []
+answersOf (suc steps) b arrivals =
+    let x = admitDue b arrivals in
+    let r = step (x .bus) in
+    r .0 ∷ answersOf steps (r .1) (x .arrivals)
+
 -- 'A refused scenario prints only REFUSED number offset'
 abbrev pub listingOf : Reading → List ℕ
 listingOf (refused number offset) = refusedText number offset
@@ -63,3 +73,7 @@ listingOf (accepted r arrivals steps) = runText steps (setUp r .1) arrivals
 -- the listing of a scenario
 abbrev pub listing : List ℕ → List ℕ
 listing input = listingOf (reading input)
+
+-- a list of bytes, as an input is
+abbrev pub Bytes : List ℕ → Type 0
+Bytes xs = All (λ x. x < 256) xs

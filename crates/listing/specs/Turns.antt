@@ -90,3 +90,8 @@ handed (suc turns) input t = said t ++ cond (t .play .going) (handed turns input
 -- how many turns a play has yet, at the most: an arrival takes bytes of the input, and a step is one of its steps
 abbrev pub turnsLeft : List ℕ → Play → ℕ
 turnsLeft input p = cond (p .going) (suc (p .steps + (length input - p .at))) 0
+
+-- the play after so many turns
+abbrev pub played : ℕ → List ℕ → Play → Play
+played zero input p = p
+played (suc turns) input p = played turns input (turn input p .play)
