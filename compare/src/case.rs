@@ -16,16 +16,18 @@ pub struct Made {
     pub shows: Vec<Shows>,
 }
 
-/// A class of cases. The maker is told the turn, so that what must all be met goes in rotation.
+/// A class of cases. The maker is told a turn, so that what must all be met goes in rotation: it is one more each time.
 pub struct Class {
     pub name: &'static str,
     pub make: fn(&mut Numbers, usize) -> Made,
 }
 
-/// The case of a number: the classes go in rotation, and the turn is how often the class has been before.
+/// The case of a number: the classes go in rotation. Neighbouring classes begin at different turns, so that a few turns of all
+/// classes meet what one class would need many for.
 pub fn case(classes: &[&Class], seed: u64, number: usize) -> Made {
     let mut numbers = Numbers::of(seed, number as u64);
-    (class_of(classes, number).make)(&mut numbers, number / classes.len())
+    let turn = number / classes.len() + number % classes.len();
+    (class_of(classes, number).make)(&mut numbers, turn)
 }
 
 /// The class of a case's number.

@@ -2,6 +2,8 @@
 
 mod case;
 mod comparing;
+#[cfg(test)]
+mod coverage;
 mod damage;
 mod draft;
 mod pack;

@@ -69,7 +69,7 @@ fn one_over(numbers: &mut Numbers, turn: usize) -> Made {
 }
 
 fn far_over(numbers: &mut Numbers, turn: usize) -> Made {
-    let length = [LONGEST + 16, 2 * LONGEST, 131_073, 300_000][turn % 4];
+    let length = [LONGEST + 16, 131_073, 300_000][turn % 3];
     refused(filled(numbers, 2, length).bytes(), 22, 0)
 }
 

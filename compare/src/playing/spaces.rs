@@ -41,11 +41,11 @@ pub const CLASSES: &[Class] = &[
     },
     Class {
         name: "three stations or more",
-        make: |numbers, turn| counted(numbers, turn, STATIONS[2 + turn % 8]),
+        make: |numbers, turn| counted(numbers, turn, STATIONS[2 + turn % 4]),
     },
     Class {
         name: "many stations",
-        make: |numbers, turn| counted(numbers, turn, STATIONS[6 + turn % 4]),
+        make: |numbers, turn| counted(numbers, turn, STATIONS[6 + turn % 3]),
     },
     Class {
         name: "PRI, 64 stations",
@@ -241,9 +241,9 @@ fn long_run(numbers: &mut Numbers, turn: usize) -> Made {
     busy(numbers, turn, 300, 60)
 }
 
-/// The first two and then one in forty have 2,000 steps, the others 200.
+/// One in three has 2,000 steps, the others 200.
 fn longest_run(numbers: &mut Numbers, turn: usize) -> Made {
-    let steps = if turn < 2 || turn % 40 == 0 { 2_000 } else { 200 };
+    let steps = if turn % 3 == 0 { 2_000 } else { 200 };
     busy(numbers, turn, steps, steps as usize / 4)
 }
 

@@ -30,7 +30,7 @@ const TEXTS: [&str; 14] = [
 fn odd(numbers: &mut Numbers, turn: usize) -> Made {
     let text = TEXTS[turn % TEXTS.len()];
     let mut script = String::new();
-    if turn >= TEXTS.len() {
+    if numbers.once_in(3) {
         let before = numbers.pick(&TEXTS);
         script.push_str(&before[..numbers.place(before.len() + 1)]);
     }
