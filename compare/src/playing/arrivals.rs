@@ -239,20 +239,20 @@ fn too_late(numbers: &mut Numbers, _turn: usize) -> Made {
     played(&scenario.running(40)).showing("a refused arrival, 14", turned_away::<14>)
 }
 
-/// Arrivals that break two rules or more: the first in order decides.
+/// Arrivals that break two rules or more, at a full queue: the first rule in order decides.
 fn several_faults(numbers: &mut Numbers, turn: usize) -> Made {
     let mut scenario = bus_of_three(numbers, turn);
     for _ in 0..17 {
         let value = scenario.value(numbers, 50);
-        scenario.arrive(0, 0, value, 1);
+        scenario.arrive(4, 0, value, 1);
     }
     let known = scenario.stations[0].address;
     let unknown = (0..=u16::MAX)
         .find(|a| scenario.stations.iter().all(|s| s.address != *a))
         .unwrap_or(u16::MAX);
-    for _ in 0..8 {
-        let address = numbers.pick(&[known, known, unknown]);
-        let value = numbers.pick(&[0, 0, u32::MAX, LAST_SLOT + 1]);
+    for _ in 0..10 {
+        let address = numbers.pick(&[known, known, known, unknown]);
+        let value = numbers.pick(&[0, 0, 2, u32::MAX, LAST_SLOT + 1]);
         let length = numbers.pick(&[1, 1, 0, 4_097]);
         scenario.arrivals.push(Arrival {
             time: 4,

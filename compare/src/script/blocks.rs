@@ -357,14 +357,13 @@ fn field_by_field(numbers: &mut Numbers, turn: usize) -> Made {
     Made::plain(script.bytes())
 }
 
-/// A state in a contention or a tie, and edits of some fields of it.
-fn among(numbers: &mut Numbers, script: &mut Script, fields: &[u64], many: usize) {
+/// The phases of a contention under way.
+const UNDER_WAY: [Phase; 2] = [Phase::Parameters, Phase::Ties];
+
+/// A state, and edits of some fields of it.
+fn among(numbers: &mut Numbers, script: &mut Script, phases: &[Phase], fields: &[u64], many: usize) {
     let discipline = discipline(numbers.place(3));
-    let phase = if numbers.once_in(2) {
-        Phase::Parameters
-    } else {
-        Phase::Ties
-    };
+    let phase = numbers.pick(phases);
     let wish = Wish::drawn(numbers, discipline, phase);
     let lent = Lent::made(numbers, wish);
     lent.write(script);
@@ -377,7 +376,7 @@ fn among(numbers: &mut Numbers, script: &mut Script, fields: &[u64], many: usize
 
 /// Windows: one field edited, or start, size and side together.
 fn windows(numbers: &mut Numbers, script: &mut Script) {
-    among(numbers, script, &[START, SIZE, SIDE, TIED, TIE_VALUE], 3);
+    among(numbers, script, &UNDER_WAY, &[START, SIZE, SIDE, TIED, TIE_VALUE], 3);
     let size = 1 << numbers.below(4);
     let multiple = numbers.below(8);
     script.edit(START, 0, multiple * size);
@@ -388,16 +387,19 @@ fn windows(numbers: &mut Numbers, script: &mut Script) {
 }
 
 fn contenders(numbers: &mut Numbers, script: &mut Script) {
+    let fields = [CONTENDS, PARAMETER, OFFERED_NUMBER, OFFERED_VALUE, OFFERED_LENGTH];
+    among(numbers, script, &UNDER_WAY, &fields, 4);
+}
+
+/// Packets that nobody offers, so that what an edit breaks is the queue's alone.
+fn packets(numbers: &mut Numbers, script: &mut Script) {
     among(
         numbers,
         script,
-        &[CONTENDS, PARAMETER, OFFERED_NUMBER, OFFERED_VALUE, OFFERED_LENGTH],
-        4,
+        &[Phase::Between],
+        &[QUEUE, NUMBER, NUMBER, NUMBER, VALUE, LENGTH, ADMITTED],
+        6,
     );
-}
-
-fn packets(numbers: &mut Numbers, script: &mut Script) {
-    among(numbers, script, &[QUEUE, NUMBER, VALUE, LENGTH, ADMITTED], 4);
 }
 
 fn no_meaning(numbers: &mut Numbers, script: &mut Script) {
@@ -463,6 +465,7 @@ fn last_numbers(numbers: &mut Numbers, script: &mut Script) {
     for _ in 0..4 {
         script.admit(lent.get(ADDRESS, 0), value, 1);
     }
+    several_faults(numbers, script, lent.get(ADDRESS, 0));
     script.state();
     script.steps(4);
     script.totals();
@@ -479,9 +482,21 @@ fn full_queues(numbers: &mut Numbers, script: &mut Script) {
     for _ in 0..17 {
         script.admit(address, scenario.value(numbers, 60).into(), 1);
     }
+    several_faults(numbers, script, address);
     script.steps(8);
-    for _ in 0..3 {
+    for _ in 0..9 {
         script.admit(address, scenario.value(numbers, 60).into(), 1);
+    }
+    several_faults(numbers, script, address);
+}
+
+/// Admissions of which most break more than one rule: the first in order decides.
+fn several_faults(numbers: &mut Numbers, script: &mut Script, address: u64) {
+    for _ in 0..6 {
+        let address = numbers.pick(&[address, address, address, address ^ 0x8000]);
+        let value = numbers.pick(&[0, 0, 5_000, LAST_SLOT + 1]);
+        let length = numbers.pick(&[1, 1, 0, 4_097]);
+        script.admit(address, value, length);
     }
 }
 

@@ -84,7 +84,7 @@ fn near(present: u64) -> Vec<u64> {
 /// Values at the ends of what a field may be, in this state.
 fn ends(numbers: &mut Numbers, lent: &Lent, field: u64) -> Vec<u64> {
     let other = numbers.place(lent.stations());
-    let other_place = QUEUE_PLACES * other + numbers.place(3);
+    let taken = taken_number(numbers, lent);
     let (parameters, addresses) = (lent.one(PARAMETERS), lent.one(ADDRESSES));
     match field {
         DISCIPLINE => vec![0, 1, 2, 3],
@@ -99,15 +99,21 @@ fn ends(numbers: &mut Numbers, lent: &Lent, field: u64) -> Vec<u64> {
         START | SIZE => window_ends(lent),
         TIE_VALUE => vec![parameters - 1, parameters, lent.get(PARAMETER, other)],
         PARAMETER => vec![parameters - 1, parameters, lent.get(PARAMETER, other)],
-        OFFERED_NUMBER | NUMBER => vec![
-            lent.one(ADMITTED),
-            lent.one(ADMITTED) + 1,
-            lent.get(NUMBER, other_place),
-        ],
+        OFFERED_NUMBER | NUMBER => vec![lent.one(ADMITTED), lent.one(ADMITTED) + 1, taken, taken, taken],
         OFFERED_VALUE | VALUE => vec![parameters - 1, parameters, LAST_SLOT, LAST_SLOT + 1, lent.one(CLOCK)],
         OFFERED_LENGTH | LENGTH => vec![1, 2, 4_096, 4_097],
         QUEUE => vec![15, 16, 17],
         _ => vec![],
+    }
+}
+
+/// The number of some packet that waits; 1 where none does.
+fn taken_number(numbers: &mut Numbers, lent: &Lent) -> u64 {
+    let places: Vec<usize> = (0..lent.stations()).flat_map(|station| lent.filled(station)).collect();
+    if places.is_empty() {
+        1
+    } else {
+        lent.get(NUMBER, numbers.pick(&places))
     }
 }
 

@@ -168,7 +168,7 @@ impl Lent {
             let parameter = match self.one(DISCIPLINE) as u8 {
                 PRI => self.get(VALUE, place),
                 RTVC => self.get(CAPABILITY, station),
-                _ => numbers.pick(&[0, 1, space - 1, numbers_below(station, space)]),
+                _ => numbers.pick(&[0, 1, space - 1, shared_parameter(station, space)]),
             };
             self.set(CONTENDS, station, 1);
             self.set(PARAMETER, station, parameter);
@@ -213,6 +213,6 @@ impl Lent {
 }
 
 /// A parameter that depends on the station alone, so that several stations share one.
-fn numbers_below(station: usize, space: u64) -> u64 {
+fn shared_parameter(station: usize, space: u64) -> u64 {
     (station as u64 / 2) % space
 }
