@@ -2,14 +2,20 @@
 
 mod blocks;
 mod edits;
+mod ends;
 mod fields;
+mod lending;
 mod lent;
 mod odd;
+mod played;
 mod text;
 
 use crate::case::Class;
 
 /// All classes of scripts.
 pub fn classes() -> Vec<&'static Class> {
-    [blocks::CLASSES, odd::CLASSES].into_iter().flatten().collect()
+    [played::CLASSES, lending::CLASSES, ends::CLASSES, odd::CLASSES]
+        .into_iter()
+        .flatten()
+        .collect()
 }
