@@ -1,13 +1,11 @@
 -- The records of a scenario (paper 01, 'The scenario and its listing'): 'a two-byte length (of what follows it), a two-byte kind, a body, all
 -- little-endian'. What a record says is its kind and its values, or the number that refuses it. Assumes nothing.
 use Prim.Native.Nat.{ℕ, _+_, _-_, _*_}
-use mathlib.Core.Bool.{Bool, _&&_, cond}
+use mathlib.Core.Bool.{_&&_, cond}
 use mathlib.Core.Option.{Option, none, some}
 use mathlib.Core.List.{List, [], _∷_}
 use lib.Dec.{ltb, eqb}
 use lib.ListN.{length, take, drop}
-use Rattle.bus.specs.declared.Settings.{Settings}
-use Rattle.bus.specs.declared.Listed.{Listed}
 pub use Rattle.scenario.specs.declared.Arrival.{Arrival}
 pub use Rattle.scenario.specs.declared.Record.{Record}
 use Rattle.scenario.specs.declared.Record.the-variants as Is

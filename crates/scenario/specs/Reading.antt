@@ -2,7 +2,7 @@
 -- run record has gone by, 18 if under four bytes remain, 19, 18 for a short body, 20, 21. Refusals 2 to 6 come as the set-up is read, 7 to 10
 -- once the last station is read.' Assumes nothing.
 use Prim.Native.Nat.{ℕ, zero, suc, _+_, _*_}
-use mathlib.Core.Bool.{Bool, cond}
+use mathlib.Core.Bool.{cond}
 use mathlib.Core.List.{List, [], _∷_}
 use lib.Dec.{ltb, eqb}
 use lib.ListN.{length, getD, drop}

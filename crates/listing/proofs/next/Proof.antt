@@ -2,16 +2,18 @@
 -- Assumes nothing.
 use Prim.Native.Nat.{_+_, _≤_}
 use mathlib.Core.Path.{_≡_, refl, sym, ap, _∙_}
-use mathlib.Core.Bool.{true, false}
+use mathlib.Core.Bool.{Bool, true, false, cond}
 use mathlib.Core.List.{[], _∷_}
 use native.Mathlib.Omega.{arith}
 use lib.ListN.{length, drop}
 use borrow.Author.Needs.{needs}
+use Rattle.bus.specs.Coded.{codedAdmit, codedStep}
 use Rattle.scenario.specs.declared.Record.the-variants as Is
 use Rattle.scenario.specs.Format.{Said, said, readRecord}
 use Rattle.scenario.proofs.ReadingLaws.{other-kind}
 use Rattle.scenario.proofs.Arrivals.{arrival-within}
-use Rattle.listing.specs.Turns.{turnBy, turn}
+use Rattle.listing.specs.Run.{asks}
+use Rattle.listing.specs.Turns.{admittedBy, steppedBy, turnBy, turn}
 use Rattle.listing.proofs.TurnLaws.{flipped, turn-over, turn-ends, turn-goes-on, turn-other, turn-arrival}
 use Rattle.listing.proofs.next.Statement.{statement}
 use Rattle.listing.proofs.next.Tie as tie
@@ -32,6 +34,29 @@ found-here :
     → let args = c .before .before .before .before .before .before .before .before .before .args in
     said (Is.Arrival (c .found .given .0 .0)) ≡ readRecord (drop (args .play .at) (args .input .now))
 found-here c = ap said (sym (c .found .given .1)) ∙ c .before .before .record-at .ensures
+
+-- it is admitted if it is due, and else a step is made
+by-due :
+    (c : tie.After-is-due) (t : Bool) → c .is-due .result ≡ t
+    → let found = c .before .before .before in
+    let args = found .before .before .before .before .before .before .before .before .before .args in
+    let arrival = found .found .given .0 .0 in
+    turn (args .input .now) (args .play)
+    ≡ cond
+    t
+    (admittedBy (args .play) arrival (codedAdmit (args .play .state) (asks arrival)))
+    (steppedBy (args .play) (codedStep (args .play .state)))
+by-due c t e =
+    let found = c .before .before .before in
+    let args = found .before .before .before .before .before .before .before .before .before .args in
+    on-the-way (found .before .before .before)
+    ∙ turn-arrival
+    (readRecord (drop (args .play .at) (args .input .now)))
+    (args .play)
+    (found .found .given .0 .0)
+    t
+    (found-here found)
+    (sym (c .is-due .ensures) ∙ e)
 
 empty-requires : tie.Need-empty-requires
 empty-requires c κs = search needs
@@ -90,39 +115,13 @@ admit-arrival-requires : tie.Need-admit-arrival-requires
 admit-arrival-requires c κs = search needs
 
 returns-4 : tie.Need-returns-4
-returns-4 c =
-    let due = c .before .before in
-    let found = due .before .before .before in
-    let args = found .before .before .before .before .before .before .before .before .before .args in
-    c .admit-arrival .ensures
-    ∙ sym
-    (on-the-way (found .before .before .before)
-    ∙ turn-arrival
-    (readRecord (drop (args .play .at) (args .input .now)))
-    (args .play)
-    (found .found .given .0 .0)
-    true
-    (found-here found)
-    (sym (due .is-due .ensures) ∙ c .before .if3 .taken))
+returns-4 c = c .admit-arrival .ensures ∙ sym (by-due (c .before .before) true (c .before .if3 .taken))
 
 make-step-requires-2 : tie.Need-make-step-requires-2
 make-step-requires-2 c κs = search needs
 
 returns-5 : tie.Need-returns-5
-returns-5 c =
-    let due = c .before .before in
-    let found = due .before .before .before in
-    let args = found .before .before .before .before .before .before .before .before .before .args in
-    c .make-step2 .ensures
-    ∙ sym
-    (on-the-way (found .before .before .before)
-    ∙ turn-arrival
-    (readRecord (drop (args .play .at) (args .input .now)))
-    (args .play)
-    (found .found .given .0 .0)
-    false
-    (found-here found)
-    (sym (due .is-due .ensures) ∙ c .before .if3 .left))
+returns-5 c = c .make-step2 .ensures ∙ sym (by-due (c .before .before) false (c .before .if3 .left))
 
 pub next-spec : {M : Type 1} → statement M
 next-spec =
