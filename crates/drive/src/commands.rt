@@ -61,8 +61,18 @@ pub fn no_settings() -> Settings {
     }
 }
 
-// 'the others are zero'
-pub fn nobody() -> Listed {
+// The row of no set-up.
+pub fn no_row() -> Row {
+    let zero = nobody();
+    let stations = [zero; 64];
+    Row {
+        stations,
+        length: 0,
+    }
+}
+
+// A station that is zero.
+fn nobody() -> Listed {
     Listed {
         address: Address(0),
         capability: Capability(0),
@@ -183,12 +193,7 @@ fn plain(letter: u8, three: Three, at: usize) -> Command
     ensures { λ r. ⌜ r .at ≡ at ⌝ }
 {
     let settings = no_settings();
-    let zero = nobody();
-    let stations = [zero; 64];
-    let row = Row {
-        stations,
-        length: 0,
-    };
+    let row = no_row();
     Command {
         letter,
         three,

@@ -1,5 +1,4 @@
-// `E`: a state with one field changed, and the all-zero state.
-use crate::commands;
+// `E`: a state with one field changed.
 use crate::words;
 use bus::Address;
 use bus::Capability;
@@ -129,23 +128,25 @@ fn part(field: u64, first: u64) -> u64 {
 // Fields 1 to 24.
 fn segment(g: Segment, field: u64, index: u64, value: u64) -> Segment {
     let i = (index % 64) as usize;
-    let mut next = g;
     let settings = settings(g.settings, field, value);
-    next.settings = settings;
-    let station = listed(g.listed[i], field, value);
-    next.listed[i] = station;
-    let clock = Slot(half(field == 8, value, g.clock.0));
-    next.clock = clock;
-    next.admitted = word(field == 9, value, g.admitted);
-    next.sent = word(field == 10, value, g.sent);
-    next.lost = word(field == 11, value, g.lost);
+    let mut stations = g.listed;
+    stations[i] = listed(g.listed[i], field, value);
+    let clock = half(field == 8, value, g.clock.0);
     let round = round(g.round, field, value);
-    next.round = round;
     let contention = contention(g.contention, field, value);
-    next.contention = contention;
-    let contender = contender(g.contenders[i], field, value);
-    next.contenders[i] = contender;
-    next
+    let mut contenders = g.contenders;
+    contenders[i] = contender(g.contenders[i], field, value);
+    Segment {
+        settings,
+        listed: stations,
+        clock: Slot(clock),
+        admitted: word(field == 9, value, g.admitted),
+        sent: word(field == 10, value, g.sent),
+        lost: word(field == 11, value, g.lost),
+        round,
+        contention,
+        contenders,
+    }
 }
 
 // Fields 25 to 28.
@@ -166,69 +167,5 @@ pub fn edited(s: State, field: u64, index: u64, value: u64) -> State {
     let q = s.queues;
     let segment = segment(g, field, index, value);
     let queues = queues(q, field, index, value);
-    State { segment, queues }
-}
-
-// The queues of no packets.
-fn no_queues() -> Queues {
-    let nothing = Packet {
-        number: 0,
-        value: 0,
-        length: 0,
-    };
-    Queues {
-        lengths: [0; 64],
-        packets: [nothing; 1024],
-    }
-}
-
-// The all-zero segment.
-fn no_segment() -> Segment {
-    let settings = commands::no_settings();
-    let nobody = commands::nobody();
-    let listed = [nobody; 64];
-    let round = Round {
-        won: false,
-        last: Capability(0),
-    };
-    let window = Window {
-        start: 0,
-        size: 0,
-        side: Side::Left,
-    };
-    let contention = Contention {
-        begun: false,
-        window,
-        tied: false,
-        tie: 0,
-    };
-    let packet = Packet {
-        number: 0,
-        value: 0,
-        length: 0,
-    };
-    let none = Contender {
-        contends: false,
-        parameter: 0,
-        packet,
-    };
-    let contenders = [none; 64];
-    Segment {
-        settings,
-        listed,
-        clock: Slot(0),
-        admitted: 0,
-        sent: 0,
-        lost: 0,
-        round,
-        contention,
-        contenders,
-    }
-}
-
-// 'The state is all-zero before the first command.'
-pub fn nothing() -> State {
-    let segment = no_segment();
-    let queues = no_queues();
     State { segment, queues }
 }

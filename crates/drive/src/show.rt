@@ -3,7 +3,6 @@ use crate::lines;
 use bus::Contender;
 use bus::Contention;
 use bus::Listed;
-use bus::Queues;
 use bus::Round;
 use bus::Segment;
 use bus::Settings;
@@ -23,14 +22,10 @@ fn settings(s: Settings) {
     lines::write(b"settings", &numbers);
 }
 
-// 'clock slot'
-fn clock(slot: u32) {
-    let numbers = [slot as u64];
-    lines::write(b"clock", &numbers);
-}
-
-// 'counts admitted sent lost'
-fn counts(admitted: u64, sent: u64, lost: u64) {
+// 'clock slot', 'counts admitted sent lost'
+fn counts(slot: u32, admitted: u64, sent: u64, lost: u64) {
+    let clock = [slot as u64];
+    lines::write(b"clock", &clock);
     let numbers = [admitted, sent, lost];
     lines::write(b"counts", &numbers);
 }
@@ -127,8 +122,7 @@ fn packets(row: [Packet; 1024]) {
 // The five lines that stand always, the stations and the contenders.
 fn segment(g: Segment) {
     settings(g.settings);
-    clock(g.clock.0);
-    counts(g.admitted, g.sent, g.lost);
+    counts(g.clock.0, g.admitted, g.sent, g.lost);
     round(g.round);
     contention(g.contention);
     let listed = g.listed;
@@ -137,17 +131,13 @@ fn segment(g: Segment) {
     contenders(row);
 }
 
-// The queues' lengths, then their packets.
-fn queues(q: Queues) {
+// The state, closed by 'end'.
+pub fn state(s: State) {
+    segment(s.segment);
+    let q = s.queues;
     let row = q.lengths;
     lengths(row);
     let places = q.packets;
     packets(places);
-}
-
-// The state, closed by 'end'.
-pub fn state(s: State) {
-    segment(s.segment);
-    queues(s.queues);
     io::write_all(1, b"end\n");
 }

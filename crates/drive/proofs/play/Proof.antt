@@ -7,7 +7,7 @@ use Rattle.drive.proofs.play.Reads as reads
 use Rattle.drive.proofs.play.Lts as lts
 use Rattle.drive.proofs.calls.obey.Reads as obey-reads
 use Rattle.drive.proofs.commands.read.Reads as read-reads
-use Rattle.drive.proofs.edits.nothing.Reads as nothing-reads
+use Rattle.drive.proofs.calls.nothing.Reads as nothing-reads
 use Rattle.drive.proofs.show.state.Reads as state-reads
 use Rattle.drive.proofs.words.letter_from.Reads as letter-from-reads
 
