@@ -1,0 +1,171 @@
+// `E`: a state with one field changed.
+use crate::words;
+use bus::Address;
+use bus::Capability;
+use bus::Contender;
+use bus::Contention;
+use bus::Listed;
+use bus::Queues;
+use bus::Round;
+use bus::Segment;
+use bus::Settings;
+use bus::Slot;
+use bus::State;
+use rules::Packet;
+use window::Side;
+use window::Window;
+
+// The new number where the field is the one that is changed, else the old.
+fn word(changed: bool, new: u64, old: u64) -> u64 {
+    if changed { new } else { old }
+}
+
+fn size(changed: bool, new: u64, old: usize) -> usize {
+    if changed { new as usize } else { old }
+}
+
+fn half(changed: bool, new: u64, old: u32) -> u32 {
+    if changed { words::low(new) } else { old }
+}
+
+fn flag(changed: bool, new: u64, old: bool) -> bool {
+    if changed { words::yes(new) } else { old }
+}
+
+// 'a side (0 left, 1 right)'
+fn side(changed: bool, new: u64, old: Side) -> Side {
+    if !changed {
+        return old;
+    }
+    if words::yes(new) {
+        return Side::Right;
+    }
+    Side::Left
+}
+
+// Fields 1 to 5.
+fn settings(s: Settings, field: u64, value: u64) -> Settings {
+    Settings {
+        discipline: half(field == 1, value, s.discipline),
+        d: half(field == 2, value, s.d),
+        a: half(field == 3, value, s.a),
+        q: half(field == 4, value, s.q),
+        n: size(field == 5, value, s.n),
+    }
+}
+
+// Fields 6 and 7.
+fn listed(l: Listed, field: u64, value: u64) -> Listed {
+    let address = half(field == 6, value, l.address.0);
+    let capability = half(field == 7, value, l.capability.0);
+    Listed {
+        address: Address(address),
+        capability: Capability(capability),
+    }
+}
+
+// Fields 12 and 13.
+fn round(r: Round, field: u64, value: u64) -> Round {
+    let won = flag(field == 12, value, r.won);
+    let last = half(field == 13, value, r.last.0);
+    Round {
+        won,
+        last: Capability(last),
+    }
+}
+
+// Fields 15 to 17.
+fn window(w: Window, field: u64, value: u64) -> Window {
+    let old = w.side;
+    let side = side(field == 17, value, old);
+    Window {
+        start: word(field == 15, value, w.start),
+        size: word(field == 16, value, w.size),
+        side,
+    }
+}
+
+// Fields 14 to 19.
+fn contention(c: Contention, field: u64, value: u64) -> Contention {
+    let old = c.window;
+    let window = window(old, field, value);
+    Contention {
+        begun: flag(field == 14, value, c.begun),
+        window,
+        tied: flag(field == 18, value, c.tied),
+        tie: word(field == 19, value, c.tie),
+    }
+}
+
+// A packet whose number, value and length are the fields `first` and the next two.
+fn packet(p: Packet, part: u64, value: u64) -> Packet {
+    Packet {
+        number: word(part == 0, value, p.number),
+        value: half(part == 1, value, p.value),
+        length: half(part == 2, value, p.length),
+    }
+}
+
+// Fields 20 to 24.
+fn contender(c: Contender, field: u64, value: u64) -> Contender {
+    let old = c.packet;
+    let packet = packet(old, part(field, 22), value);
+    Contender {
+        contends: flag(field == 20, value, c.contends),
+        parameter: word(field == 21, value, c.parameter),
+        packet,
+    }
+}
+
+// Which number of a packet a field is, where the packet's first is this one: 0, 1 or 2, or another number for another field.
+fn part(field: u64, first: u64) -> u64 {
+    if field < first {
+        return 3;
+    }
+    field - first
+}
+
+// Fields 1 to 24.
+fn segment(g: Segment, field: u64, index: u64, value: u64) -> Segment {
+    let i = (index % 64) as usize;
+    let settings = settings(g.settings, field, value);
+    let mut stations = g.listed;
+    stations[i] = listed(g.listed[i], field, value);
+    let clock = half(field == 8, value, g.clock.0);
+    let round = round(g.round, field, value);
+    let contention = contention(g.contention, field, value);
+    let mut contenders = g.contenders;
+    contenders[i] = contender(g.contenders[i], field, value);
+    Segment {
+        settings,
+        listed: stations,
+        clock: Slot(clock),
+        admitted: word(field == 9, value, g.admitted),
+        sent: word(field == 10, value, g.sent),
+        lost: word(field == 11, value, g.lost),
+        round,
+        contention,
+        contenders,
+    }
+}
+
+// Fields 25 to 28.
+fn queues(q: Queues, field: u64, index: u64, value: u64) -> Queues {
+    let i = (index % 64) as usize;
+    let j = (index % 1024) as usize;
+    let mut next = q;
+    let length = size(field == 25, value, q.lengths[i]);
+    next.lengths[i] = length;
+    let packet = packet(q.packets[j], part(field, 26), value);
+    next.packets[j] = packet;
+    next
+}
+
+// 'the state with one field changed'
+pub fn edited(s: State, field: u64, index: u64, value: u64) -> State {
+    let g = s.segment;
+    let q = s.queues;
+    let segment = segment(g, field, index, value);
+    let queues = queues(q, field, index, value);
+    State { segment, queues }
+}

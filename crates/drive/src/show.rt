@@ -1,0 +1,143 @@
+// How a state is written.
+use crate::lines;
+use bus::Contender;
+use bus::Contention;
+use bus::Listed;
+use bus::Round;
+use bus::Segment;
+use bus::Settings;
+use bus::State;
+use rules::Packet;
+use window::Side;
+
+// 'settings discipline D A q n'
+fn settings(s: Settings) {
+    let numbers = [
+        s.discipline as u64,
+        s.d as u64,
+        s.a as u64,
+        s.q as u64,
+        s.n as u64,
+    ];
+    lines::write(b"settings", &numbers);
+}
+
+// 'clock slot', 'counts admitted sent lost'
+fn counts(slot: u32, admitted: u64, sent: u64, lost: u64) {
+    let clock = [slot as u64];
+    lines::write(b"clock", &clock);
+    let numbers = [admitted, sent, lost];
+    lines::write(b"counts", &numbers);
+}
+
+// 'round won last'
+fn round(r: Round) {
+    let numbers = [lines::of_flag(r.won), r.last.0 as u64];
+    lines::write(b"round", &numbers);
+}
+
+// 'a side (0 left, 1 right)'
+fn of_side(side: Side) -> u64 {
+    match side {
+        Side::Left => 0,
+        Side::Right => 1,
+    }
+}
+
+// 'contention begun start size side tied tie'
+fn contention(c: Contention) {
+    let w = c.window;
+    let side = w.side;
+    let numbers = [
+        lines::of_flag(c.begun),
+        w.start,
+        w.size,
+        of_side(side),
+        lines::of_flag(c.tied),
+        c.tie,
+    ];
+    lines::write(b"contention", &numbers);
+}
+
+// 'station i address capability'
+fn station(i: usize, s: Listed) {
+    let numbers = [s.address.0 as u64, s.capability.0 as u64];
+    lines::write_place(b"station", i, &numbers);
+}
+
+// 'all stations first'
+fn stations(row: [Listed; 64]) {
+    for i in 0..64 {
+        station(i, row[i]);
+    }
+}
+
+// 'contender i contends parameter number value length'
+fn contender(i: usize, c: Contender) {
+    let contends = lines::of_flag(c.contends);
+    let p = c.packet;
+    let numbers = [
+        contends,
+        c.parameter,
+        p.number,
+        p.value as u64,
+        p.length as u64,
+    ];
+    lines::write_place(b"contender", i, &numbers);
+}
+
+// 'then all contenders'
+fn contenders(row: [Contender; 64]) {
+    for i in 0..64 {
+        contender(i, row[i]);
+    }
+}
+
+// 'queue i length'
+fn queue(i: usize, length: usize) {
+    let numbers = [length as u64];
+    lines::write_place(b"queue", i, &numbers);
+}
+
+// 'all queues'
+fn lengths(row: [usize; 64]) {
+    for i in 0..64 {
+        queue(i, row[i]);
+    }
+}
+
+// 'packet j number value length'
+fn packet(j: usize, p: Packet) {
+    let numbers = [p.number, p.value as u64, p.length as u64];
+    lines::write_place(b"packet", j, &numbers);
+}
+
+// 'all packets'
+fn packets(row: [Packet; 1024]) {
+    for j in 0..1024 {
+        packet(j, row[j]);
+    }
+}
+
+// The five lines that stand always, the stations and the contenders.
+fn segment(g: Segment) {
+    settings(g.settings);
+    counts(g.clock.0, g.admitted, g.sent, g.lost);
+    round(g.round);
+    contention(g.contention);
+    let listed = g.listed;
+    stations(listed);
+    let row = g.contenders;
+    contenders(row);
+}
+
+// The state, closed by 'end'.
+pub fn state(s: State) {
+    segment(s.segment);
+    let q = s.queues;
+    let row = q.lengths;
+    lengths(row);
+    let places = q.packets;
+    packets(places);
+    io::write_all(1, b"end\n");
+}
