@@ -116,17 +116,9 @@ pub fn offset(records: &[Vec<u8>], place: usize) -> usize {
 #[cfg(test)]
 mod tests {
     use super::*;
-    use crate::pack::packed;
 
     /// The worked example of the rules.
-    const WORKED: &str = "
-        0E00 0100 00 04000000 08000000 0100 03
-        0600 0200 0100 0000  0600 0200 0500 0000
-        0600 0200 0600 0000
-        0E00 0300 00000000 0500 02000000 0300
-        0E00 0300 00000000 0600 02000000 0100
-        0E00 0300 00000000 0100 03000000 0200
-        0400 0400 0E00";
+    const WORKED: &[u8] = include_bytes!("../../examples/worked.scenario");
 
     fn worked() -> Scenario {
         let station = |address| Station { address, capability: 0 };
@@ -152,7 +144,7 @@ mod tests {
 
     #[test]
     fn worked_example() {
-        assert_eq!(Ok(worked().bytes()), packed(WORKED));
+        assert_eq!(worked().bytes(), WORKED);
     }
 
     #[test]

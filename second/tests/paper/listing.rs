@@ -1,40 +1,14 @@
 //! The worked example and the lines of a listing.
 
-use crate::worlds::{
-    arrival_record, bytes_of, listing_of, run_record, set_up_record, station_record,
-};
+use crate::worlds::{arrival_record, listing_of, run_record, set_up_record, station_record};
 
-const INPUT: &str = "
-0E00 0100 00 04000000 08000000 0100 03
-0600 0200 0100 0000  0600 0200 0500 0000
-0600 0200 0600 0000
-0E00 0300 00000000 0500 02000000 0300
-0E00 0300 00000000 0600 02000000 0100
-0E00 0300 00000000 0100 03000000 0200
-0400 0400 0E00
-";
-
-const OUTPUT: &str = "\
-0 P 0 4 C
-1 P 0 2 I
-2 P 2 2 C
-3 P 2 1 C
-4 T 0 8 C
-5 T 0 4 I
-6 T 4 4 C
-7 T 4 2 S 5 1 3
-10 P 0 4 C
-11 P 0 2 I
-12 P 2 2 C
-13 P 2 1 S 6 2 1
-14 P 0 4 S 1 3 2
-16 P 0 4 I
-END 17 3 3 0 0
-";
+/// The worked example of the paper, and its listing.
+const INPUT: &[u8] = include_bytes!("../../../examples/worked.scenario");
+const OUTPUT: &str = include_str!("../../../examples/worked.listing");
 
 #[test]
 fn the_worked_example() {
-    assert_eq!(listing_of(&bytes_of(INPUT)), OUTPUT);
+    assert_eq!(listing_of(INPUT), OUTPUT);
 }
 
 #[test]

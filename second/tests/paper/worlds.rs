@@ -73,18 +73,6 @@ pub fn listing_of(input: &[u8]) -> String {
     String::from_utf8(lines.finish()).expect("a listing is text")
 }
 
-/// The bytes written as hexadecimal digits, spaces and newlines apart.
-pub fn bytes_of(hexadecimal: &str) -> Vec<u8> {
-    let digits: Vec<u8> = hexadecimal
-        .bytes()
-        .filter(|byte| !byte.is_ascii_whitespace())
-        .collect();
-    digits
-        .chunks(2)
-        .map(|pair| u8::from_str_radix(std::str::from_utf8(pair).unwrap(), 16).unwrap())
-        .collect()
-}
-
 pub fn set_up_record(discipline: u8, d: u32, a: u32, q: u16, n: u8) -> Vec<u8> {
     let mut record = vec![14, 0, 1, 0, discipline];
     record.extend(d.to_le_bytes());
