@@ -1,7 +1,6 @@
 // What a command does: a call of the engine and the line of its answer, or a change of the state.
 use crate::commands;
 use crate::commands::Command;
-use crate::commands::Three;
 use crate::edits;
 use crate::lines;
 use crate::show;
@@ -9,32 +8,44 @@ use crate::words;
 use bus::Address;
 use bus::Answer;
 use bus::Row;
+use bus::SetUp;
 use bus::Settings;
 use bus::State;
+use rules::Verdict;
 
-// 'The state is all-zero before the first command': that of a set-up refused for its D 0.
+// The set-up that `U` asks for, with its row of 64 places.
+fn set_up(c: Command) -> SetUp {
+    let numbers = c.numbers;
+    let settings = Settings {
+        discipline: words::low(numbers[0]),
+        d: words::low(numbers[1]),
+        a: words::low(numbers[2]),
+        q: words::low(numbers[3]),
+        n: numbers[4] as usize,
+    };
+    let stations = c.stations;
+    let length = commands::at_most_64(numbers[5]);
+    let row = Row { stations, length };
+    bus::set_up(settings, row)
+}
+
+// 'The state is all-zero before the first command': that of a set-up of zeros, which is refused.
 pub fn nothing() -> State {
-    let settings = commands::no_settings();
-    let row = commands::no_row();
-    let r = bus::set_up(settings, row);
+    let zeros = commands::read(b"", b'U', 0);
+    let r = set_up(zeros);
     r.state
 }
 
-// 'U refusal station'; 'The state is what the set-up hands back'.
-fn set_up(settings: Settings, row: Row) -> State {
-    let r = bus::set_up(settings, row);
-    let v = r.verdict;
+// 'U refusal station'
+fn verdict(v: Verdict) {
     let numbers = [v.refusal as u64, v.station as u64];
     lines::write(b"U", &numbers);
-    r.state
 }
 
-// 'A refusal number'
-fn admission(s: State, three: Three) -> State {
-    let address = words::low(three.first);
-    let value = words::low(three.second);
-    let length = words::low(three.third);
-    let r = bus::admit(s, Address(address), value, length);
+// 'A refusal number'; the state that the admission hands back.
+fn admission(s: State, address: u64, value: u64, length: u64) -> State {
+    let station = Address(words::low(address));
+    let r = bus::admit(s, station, words::low(value), words::low(length));
     let a = r.answer;
     let numbers = [a.refusal as u64, a.number];
     lines::write(b"A", &numbers);
@@ -61,7 +72,7 @@ fn answer(a: Answer) {
     lines::write(b"S", &numbers);
 }
 
-// The state after a step.
+// The state that a step hands back, whose answer is written.
 fn step(s: State) -> State {
     let r = bus::step(s);
     answer(r.answer);
@@ -85,20 +96,20 @@ fn totals(s: State) {
 // The state after a command, whose answer is written.
 pub fn obey(s: State, c: Command) -> State {
     let letter = c.letter;
-    let three = c.three;
+    let n = c.numbers;
     if letter == b'U' {
-        let settings = c.settings;
-        let row = c.row;
-        return set_up(settings, row);
+        let r = set_up(c);
+        verdict(r.verdict);
+        return r.state;
     }
     if letter == b'A' {
-        return admission(s, three);
+        return admission(s, n[0], n[1], n[2]);
     }
     if letter == b'S' {
         return step(s);
     }
     if letter == b'E' {
-        return edits::edited(s, three.first, three.second, three.third);
+        return edits::edited(s, n[0], n[1], n[2]);
     }
     if letter == b'T' {
         totals(s);

@@ -20,19 +20,22 @@ fn word(changed: bool, new: u64, old: u64) -> u64 {
     if changed { new } else { old }
 }
 
+// The same of a count.
 fn size(changed: bool, new: u64, old: usize) -> usize {
     if changed { new as usize } else { old }
 }
 
+// The same of a number of 32 bits, the new one reduced to it.
 fn half(changed: bool, new: u64, old: u32) -> u32 {
     if changed { words::low(new) } else { old }
 }
 
+// The same of a yes or no.
 fn flag(changed: bool, new: u64, old: bool) -> bool {
     if changed { words::yes(new) } else { old }
 }
 
-// 'a side (0 left, 1 right)'
+// The same of 'a side (0 left, 1 right)'.
 fn side(changed: bool, new: u64, old: Side) -> Side {
     if !changed {
         return old;
@@ -74,21 +77,16 @@ fn round(r: Round, field: u64, value: u64) -> Round {
     }
 }
 
-// Fields 15 to 17.
-fn window(w: Window, field: u64, value: u64) -> Window {
+// Fields 14 to 19.
+fn contention(c: Contention, field: u64, value: u64) -> Contention {
+    let w = c.window;
     let old = w.side;
     let side = side(field == 17, value, old);
-    Window {
+    let window = Window {
         start: word(field == 15, value, w.start),
         size: word(field == 16, value, w.size),
         side,
-    }
-}
-
-// Fields 14 to 19.
-fn contention(c: Contention, field: u64, value: u64) -> Contention {
-    let old = c.window;
-    let window = window(old, field, value);
+    };
     Contention {
         begun: flag(field == 14, value, c.begun),
         window,
@@ -97,32 +95,24 @@ fn contention(c: Contention, field: u64, value: u64) -> Contention {
     }
 }
 
-// A packet whose number, value and length are the fields `first` and the next two.
-fn packet(p: Packet, part: u64, value: u64) -> Packet {
+// A packet with its number, its value or its length changed, if one of them is.
+fn packet(p: Packet, number: bool, value: bool, length: bool, new: u64) -> Packet {
     Packet {
-        number: word(part == 0, value, p.number),
-        value: half(part == 1, value, p.value),
-        length: half(part == 2, value, p.length),
+        number: word(number, new, p.number),
+        value: half(value, new, p.value),
+        length: half(length, new, p.length),
     }
 }
 
 // Fields 20 to 24.
 fn contender(c: Contender, field: u64, value: u64) -> Contender {
     let old = c.packet;
-    let packet = packet(old, part(field, 22), value);
+    let packet = packet(old, field == 22, field == 23, field == 24, value);
     Contender {
         contends: flag(field == 20, value, c.contends),
         parameter: word(field == 21, value, c.parameter),
         packet,
     }
-}
-
-// Which number of a packet a field is, where the packet's first is this one: 0, 1 or 2, or another number for another field.
-fn part(field: u64, first: u64) -> u64 {
-    if field < first {
-        return 3;
-    }
-    field - first
 }
 
 // Fields 1 to 24.
@@ -156,7 +146,7 @@ fn queues(q: Queues, field: u64, index: u64, value: u64) -> Queues {
     let mut next = q;
     let length = size(field == 25, value, q.lengths[i]);
     next.lengths[i] = length;
-    let packet = packet(q.packets[j], part(field, 26), value);
+    let packet = packet(q.packets[j], field == 26, field == 27, field == 28, value);
     next.packets[j] = packet;
     next
 }

@@ -42,49 +42,29 @@ fn write_first(bytes: [u8; 256], n: usize) {
     }
 }
 
-// A line that begins with this word.
-fn begun(word: &[u8]) -> Line {
+// Writes the line of a word and numbers.
+pub fn write(word: &[u8], numbers: &[u64]) {
     let empty = Line {
         bytes: [0; 256],
         length: 0,
     };
-    with_bytes(empty, word)
-}
-
-// The line with these numbers more is written, 'closed by one newline'.
-fn end(l: Line, numbers: &[u64]) {
-    let mut next = l;
+    let mut l = with_bytes(empty, word);
     for i in 0..numbers.len() {
-        next = with_number(next, numbers[i]);
+        l = with_number(l, numbers[i]);
     }
-    let closed = with_byte(next, b'\n');
+    let closed = with_byte(l, b'\n');
     let bytes = closed.bytes;
     write_first(bytes, closed.length);
 }
 
-// Writes a word and numbers.
-pub fn write(word: &[u8], numbers: &[u64]) {
-    let l = begun(word);
-    end(l, numbers);
-}
-
-fn all_zero(numbers: &[u64]) -> bool {
-    for i in 0..numbers.len() {
+// Writes a line whose first number is a place, 'where not all of its numbers after the place are zero'.
+pub fn write_place(word: &[u8], numbers: &[u64]) {
+    for i in 1..numbers.len() {
         if numbers[i] != 0 {
-            return false;
+            write(word, numbers);
+            return;
         }
     }
-    true
-}
-
-// A line 'for each place .. where not all of its numbers after the place are zero'.
-pub fn write_place(word: &[u8], place: usize, numbers: &[u64]) {
-    if all_zero(numbers) {
-        return;
-    }
-    let l = begun(word);
-    let placed = with_number(l, place as u64);
-    end(placed, numbers);
 }
 
 // 1 for yes, 0 for no.

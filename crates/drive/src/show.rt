@@ -61,8 +61,8 @@ fn contention(c: Contention) {
 
 // 'station i address capability'
 fn station(i: usize, s: Listed) {
-    let numbers = [s.address.0 as u64, s.capability.0 as u64];
-    lines::write_place(b"station", i, &numbers);
+    let numbers = [i as u64, s.address.0 as u64, s.capability.0 as u64];
+    lines::write_place(b"station", &numbers);
 }
 
 // 'all stations first'
@@ -77,13 +77,14 @@ fn contender(i: usize, c: Contender) {
     let contends = lines::of_flag(c.contends);
     let p = c.packet;
     let numbers = [
+        i as u64,
         contends,
         c.parameter,
         p.number,
         p.value as u64,
         p.length as u64,
     ];
-    lines::write_place(b"contender", i, &numbers);
+    lines::write_place(b"contender", &numbers);
 }
 
 // 'then all contenders'
@@ -95,8 +96,8 @@ fn contenders(row: [Contender; 64]) {
 
 // 'queue i length'
 fn queue(i: usize, length: usize) {
-    let numbers = [length as u64];
-    lines::write_place(b"queue", i, &numbers);
+    let numbers = [i as u64, length as u64];
+    lines::write_place(b"queue", &numbers);
 }
 
 // 'all queues'
@@ -108,8 +109,8 @@ fn lengths(row: [usize; 64]) {
 
 // 'packet j number value length'
 fn packet(j: usize, p: Packet) {
-    let numbers = [p.number, p.value as u64, p.length as u64];
-    lines::write_place(b"packet", j, &numbers);
+    let numbers = [j as u64, p.number, p.value as u64, p.length as u64];
+    lines::write_place(b"packet", &numbers);
 }
 
 // 'all packets'

@@ -26,35 +26,24 @@ fn is_letter(b: u8) -> bool {
     }
 }
 
-// '`#` passes over the rest of its line': the place of the newline, or the script's end.
-fn line_end(script: &[u8], from: usize) -> usize
-    ensures { λ r. ⌜ from ≤ r ⌝ }
-{
-    let mut at = from;
-    while at < script.len() {
-        if script[at] == b'\n' {
-            return at;
-        }
-        at += 1;
-    }
-    at
-}
-
-// 'Between commands every byte is passed over until a command's letter': its place, or the script's end.
+// 'Between commands every byte is passed over until a command's letter; `#` passes over the rest of its line': the letter's place, or the
+// script's end.
 pub fn letter_from(script: &[u8], from: usize) -> usize
     ensures { λ r. ⌜ from ≤ r ⌝ }
 {
+    let mut passing = false;
     let mut at = from;
     while at < script.len() {
         let b = script[at];
-        if is_letter(b) {
-            return at;
-        }
-        if b == b'#' {
-            at = line_end(script, at + 1);
+        if passing {
+            passing = b != b'\n';
         } else {
-            at += 1;
+            if is_letter(b) {
+                return at;
+            }
+            passing = b == b'#';
         }
+        at += 1;
     }
     at
 }

@@ -1,11 +1,10 @@
+-- `with_bytes` is safe and ends: the measure is what is left of the bytes.
+-- Assumes nothing.
 use Prim.Native.Nat.{_≤_, _-_}
 use borrow.Author.Needs.{needs}
 use lib.ListN.{length}
 use Rattle.drive.proofs.lines.with_bytes.Statement.{statement}
 use Rattle.drive.proofs.lines.with_bytes.Tie as tie
-use Rattle.drive.proofs.lines.with_bytes.Reads as reads
-use Rattle.drive.proofs.lines.with_bytes.Lts as lts
-use Rattle.drive.proofs.lines.with_byte.Reads as with-byte-reads
 
 abbrev Inv-loop : tie.InvT-loop
 Inv-loop bytes next₀ i₀ i-end next i = i ≤ length bytes
@@ -13,31 +12,24 @@ Inv-loop bytes next₀ i₀ i-end next i = i ≤ length bytes
 abbrev μ-loop : tie.MeasureT-loop
 μ-loop bytes next₀ i₀ i-end next i = length bytes - i
 
--- src/lines.rt:24:5
 loop-holds : tie.Need-loop-holds Inv-loop μ-loop
 loop-holds c = search needs
 
--- src/lines.rt:25:32
 shared-slice-read-with-byte : tie.Need-shared-slice-read-with-byte Inv-loop μ-loop
 shared-slice-read-with-byte c = search needs
 
--- src/lines.rt:25:9
 with-byte-requires : tie.Need-with-byte-requires Inv-loop μ-loop
 with-byte-requires c κs = search needs
 
--- src/lines.rt:24:9
 add-i : tie.Need-add-i Inv-loop μ-loop
 add-i c = search needs
 
--- src/lines.rt:24:5
 loop-less : tie.Need-loop-less Inv-loop μ-loop
 loop-less c = search needs
 
--- src/lines.rt:24:5
 loop-again : tie.Need-loop-again Inv-loop μ-loop
 loop-again c = search needs
 
--- src/lines.rt:22:1
 returns : tie.Need-returns Inv-loop μ-loop
 returns c = search needs
 

@@ -1,29 +1,23 @@
+-- `write_first` is safe: the part that is written has n bytes.
+-- Assumes nothing.
 use native.Mathlib.Omega.{arith}
 use lib.ListN.{length-take}
 use borrow.Author.Needs.{needs}
 use Rattle.drive.proofs.lines.write_first.Statement.{statement}
 use Rattle.drive.proofs.lines.write_first.Tie as tie
-use Rattle.drive.proofs.lines.write_first.Reads as reads
-use Rattle.drive.proofs.lines.write_first.Lts as lts
-use Rattle.io.proofs.write_all.Reads as write-all-reads
 
--- src/lines.rt:41:26
 array-share-prefix-bytes : tie.Need-array-share-prefix-bytes
 array-share-prefix-bytes c = search needs
 
--- src/lines.rt:41:26
 slice-aggregate-write-all : tie.Need-slice-aggregate-write-all
 slice-aggregate-write-all c = omega (arith, length-take (c .before .before .args .n) (c .before .before .args .t1))
 
--- src/lines.rt:41:9
 write-all-requires : tie.Need-write-all-requires
 write-all-requires c κs = search needs
 
--- src/lines.rt:39:1
 returns : tie.Need-returns
 returns c = search needs
 
--- src/lines.rt:39:1
 returns-2 : tie.Need-returns-2
 returns-2 c = search needs
 

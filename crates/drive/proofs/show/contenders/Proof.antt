@@ -1,11 +1,9 @@
+-- `contenders` is safe and ends: the measure is what is left of the places.
+-- Assumes nothing.
 use Prim.Native.Nat.{_≤_, _-_}
 use borrow.Author.Needs.{needs}
-use lib.ListN.{length}
 use Rattle.drive.proofs.show.contenders.Statement.{statement}
 use Rattle.drive.proofs.show.contenders.Tie as tie
-use Rattle.drive.proofs.show.contenders.Reads as reads
-use Rattle.drive.proofs.show.contenders.Lts as lts
-use Rattle.drive.proofs.show.contender.Reads as contender-reads
 
 abbrev Inv-loop : tie.InvT-loop
 Inv-loop row i₀ i = i ≤ 64
@@ -13,35 +11,27 @@ Inv-loop row i₀ i = i ≤ 64
 abbrev μ-loop : tie.MeasureT-loop
 μ-loop row i₀ i = 64 - i
 
--- src/show.rt:121:5
 loop-holds : tie.Need-loop-holds Inv-loop μ-loop
 loop-holds c = search needs
 
--- src/show.rt:122:22
 mul-contender : tie.Need-mul-contender Inv-loop μ-loop
 mul-contender c = search needs
 
--- src/show.rt:122:22
 array-copy-out-contender : tie.Need-array-copy-out-contender Inv-loop μ-loop
 array-copy-out-contender c = search needs
 
--- src/show.rt:122:9
 contender-requires : tie.Need-contender-requires Inv-loop μ-loop
 contender-requires c κs = search needs
 
--- src/show.rt:121:9
 add-i : tie.Need-add-i Inv-loop μ-loop
 add-i c = search needs
 
--- src/show.rt:121:5
 loop-less : tie.Need-loop-less Inv-loop μ-loop
 loop-less c = search needs
 
--- src/show.rt:121:5
 loop-again : tie.Need-loop-again Inv-loop μ-loop
 loop-again c = search needs
 
--- src/show.rt:120:1
 returns : tie.Need-returns Inv-loop μ-loop
 returns c = search needs
 
