@@ -1,5 +1,4 @@
 // What a command does: a call of the engine and the line of its answer, or a change of the state.
-use crate::commands;
 use crate::commands::Command;
 use crate::edits;
 use crate::lines;
@@ -13,7 +12,7 @@ use bus::Settings;
 use bus::State;
 use rules::Verdict;
 
-// The set-up that `U` asks for, with its row of 64 places.
+// The set-up that `U` asks for, with its row of 64 places. A length above 64 is lent as it is.
 fn set_up(c: Command) -> SetUp {
     let numbers = c.numbers;
     let settings = Settings {
@@ -24,16 +23,9 @@ fn set_up(c: Command) -> SetUp {
         n: numbers[4] as usize,
     };
     let stations = c.stations;
-    let length = commands::at_most_64(numbers[5]);
+    let length = numbers[5] as usize;
     let row = Row { stations, length };
     bus::set_up(settings, row)
-}
-
-// 'The state is all-zero before the first command': that of a set-up of zeros, which is refused.
-pub fn nothing() -> State {
-    let zeros = commands::read(b"", b'U', 0);
-    let r = set_up(zeros);
-    r.state
 }
 
 // 'U refusal station'

@@ -42,8 +42,8 @@ fn count_of(letter: u8) -> usize
     }
 }
 
-// 'k above 64 counts as 64, and `length` above 64 as 64'
-pub fn at_most_64(n: u64) -> usize
+// 'k above 64 counts as 64'
+fn at_most_64(n: u64) -> usize
     ensures { λ r. ⌜ r ≤ 64 ⌝ }
 {
     if 64 < n {

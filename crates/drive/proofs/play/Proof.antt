@@ -12,8 +12,8 @@ Inv-loop script s₀ at₀ s at = Unit
 abbrev μ-loop : tie.MeasureT-loop
 μ-loop script s₀ at₀ s at = length script - at
 
-nothing-requires : tie.Need-nothing-requires Inv-loop μ-loop
-nothing-requires c κs = search needs
+all-zero-requires : tie.Need-all-zero-requires Inv-loop μ-loop
+all-zero-requires c κs = search needs
 
 letter-from-requires : tie.Need-letter-from-requires Inv-loop μ-loop
 letter-from-requires c κs = search needs
@@ -54,7 +54,7 @@ play-spec =
     (tie.spec
     Inv-loop
     μ-loop
-    nothing-requires
+    all-zero-requires
     letter-from-requires
     loop-holds
     shared-slice-read-read
