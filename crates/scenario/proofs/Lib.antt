@@ -3,3 +3,4 @@ pub mod RecordLaws
 pub mod Unique
 pub mod ReadingLaws
 pub mod Arrivals
+pub mod Written
