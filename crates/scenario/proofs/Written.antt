@@ -1,16 +1,16 @@
 -- A scenario of bytes is accepted exactly when it is the writing of a good scenario. Assumes nothing.
-use Prim.Native.Nat.{ℕ, zero, suc, _+_, _-_, _*_, _/_, _^_, _≤_, _<_}
+use Prim.Native.Nat.{ℕ, zero, suc, _+_, _-_, _*_, _/_, _%_, _^_, _≤_, _<_}
 use mathlib.Core.Path.{_≡_, refl, sym, ap, ap₂, subst, _∙_}
 use mathlib.Core.Logic.{inl, inr}
-use mathlib.Core.Bool.{Bool, true, false, _||_, cond}
-use mathlib.Core.Option.{some}
+use mathlib.Core.Bool.{Bool, true, false, _&&_, _||_, cond}
+use mathlib.Core.Option.{Option, some}
 use mathlib.Core.List.{List, [], _∷_, _++_, append-assoc}
-use native.Mathlib.Nat.{pow-suc, mod-add-div}
+use native.Mathlib.Nat.{pow-suc, one-le-pow, mod-add-div}
 use native.Mathlib.Omega.{arith}
 use lib.Dec.{ltb, eqb}
-use lib.ListN.{length, take, drop, length-append}
-use lib.Seq.{take-at, take-all, drop-at, drop-drop}
-use borrow.Author.Tests.{le-ltb, eqb-true}
+use lib.ListN.{length, take, drop, length-append, length-drop, take-append-drop}
+use lib.Seq.{length-take-le, take-at, take-all, drop-at, drop-drop}
+use borrow.Author.Tests.{le-ltb, ltb-false, eqb-true, ne-eqb}
 use Rattle.rules.specs.Lists.{total, each-of, outside, at-head, in-tail, All, firstOf}
 use Rattle.rules.specs.declared.Verdict.{Verdict}
 use Rattle.rules.specs.Bus.{most-stations, least-space, most-space, RTDG, RTVC, code}
@@ -20,16 +20,17 @@ use Rattle.rules.proofs.Laws.{all-cons, all-nil}
 use Rattle.rules.proofs.Tests.{Whether, holds, fails, stable, equal, inside, NoneHolds, none-held}
 use Rattle.rules.proofs.Standing.{set-up-tried}
 use Rattle.bus.specs.declared.Settings.{Settings}
-use Rattle.bus.specs.Coded.{settingsRefusal}
+use Rattle.bus.specs.Coded.{requestWith, settingsRefusal}
 use Rattle.bus.proofs.SettingUp.{SettingsPass, set-up-turn, set-up-pass}
 use Rattle.scenario.specs.Format.{number, fields, Kind, setUpKind, stationKind, arrivalKind, runKind, kinds, rowOf, Said, refusedRecord}
 use Rattle.scenario.specs.Format.{lengthIn, kindIn, saidBy, bodyIn, readBody, readRecord}
 use Rattle.scenario.specs.Format.{Arrival, outOfPlace}
-use Rattle.scenario.specs.Reading.{most-bytes, set-up-bytes, station-bytes, arrival-bytes}
-use Rattle.scenario.specs.Reading.{settingsFrom, askedFrom, StationsRead, withStation, stationsFrom}
-use Rattle.scenario.specs.Reading.{EndingRead, refusedEnding, withArrival, arrivalsFrom}
-use Rattle.scenario.specs.Reading.{refused, accepted, stationOffset, readEnding, readStations, readSetUp, reading}
-use Rattle.scenario.specs.Writing.{bytesOf, bodyBytes, recordBytes, setUpValues, stationValues, arrivalValues, runValues}
+use Rattle.scenario.specs.Reading.{most-bytes, set-up-bytes, station-bytes, arrival-bytes, run-bytes}
+use Rattle.scenario.specs.Reading.{settingsFrom, askedFrom, arrivalFrom, stepsFrom, StationsRead, withStation, stationsFrom}
+use Rattle.scenario.specs.Reading.{EndingRead, refusedEnding, withArrival, runFrom, arrivalsFrom}
+use Rattle.scenario.specs.Reading.{Reading, refused, accepted, stationOffset, readEnding, readArrivals, readStations}
+use Rattle.scenario.specs.Reading.{readSettings, readSetUp, reading}
+use Rattle.scenario.specs.Writing.{Bytes, bytesOf, bodyBytes, recordBytes, setUpValues, stationValues, arrivalValues, runValues}
 use Rattle.scenario.specs.Writing.{stationsBytes, endingBytes, written, ArrivalFits, InOrder, Good}
 use Rattle.scenario.proofs.ReadingLaws.{arrivalsBy, not-refused}
 
@@ -47,6 +48,44 @@ number-bytes (suc w) n h =
     let below : n / 256 < 256 ^ w = omega (arith, pow-suc 256 w) in
     let i = number-bytes w (n / 256) below in
     omega (arith, mod-add-div n 256)
+
+-- bytes are those of the number that they stand for
+bytes-number : (w : ℕ) (xs : List ℕ) → length xs ≡ w → Bytes xs → bytesOf w (number xs) ≡ xs
+bytes-number zero [] e b = refl
+bytes-number zero (x ∷ xs) e b = absurd (omega arith)
+bytes-number (suc w) [] e b = absurd (omega arith)
+bytes-number (suc w) (x ∷ xs) e b =
+    let below = b x (at-head refl) in
+    let first : (x + 256 * number xs) % 256 ≡ x = omega arith in
+    let others : (x + 256 * number xs) / 256 ≡ number xs = omega arith in
+    ap₂ (λ n m. n ∷ bytesOf w m) first others
+    ∙ ap (λ l. x ∷ l) (bytes-number w xs (omega arith) (λ y i. b y (in-tail i)))
+
+-- and that is below what their width holds
+number-below : (w : ℕ) (xs : List ℕ) → Bytes xs → number (take w xs) < 256 ^ w
+number-below zero xs b = omega arith
+number-below (suc w) [] b = omega (arith, one-le-pow (suc w) 256 (omega arith))
+number-below (suc w) (x ∷ xs) b = omega (arith, pow-suc 256 w, b x (at-head refl), number-below w xs (λ y i. b y (in-tail i)))
+
+-- of bytes the first may be taken
+bytes-take : (n : ℕ) (xs : List ℕ) → Bytes xs → Bytes (take n xs)
+bytes-take zero xs b = all-nil (λ x. x < 256)
+bytes-take (suc n) [] b = b
+bytes-take (suc n) (x ∷ xs) b = all-cons x (b x (at-head refl)) (bytes-take n xs (λ y i. b y (in-tail i)))
+
+-- or dropped
+bytes-drop : (n : ℕ) (xs : List ℕ) → Bytes xs → Bytes (drop n xs)
+bytes-drop zero xs b = b
+bytes-drop (suc n) [] b = b
+bytes-drop (suc n) (x ∷ xs) b = bytes-drop n xs (λ y i. b y (in-tail i))
+
+-- a number at the front of bytes is written there
+number-first : (w n : ℕ) (xs : List ℕ) → w ≤ length xs → Bytes xs → number (take w xs) ≡ n → xs ≡ bytesOf w n ++ drop w xs
+number-first w n xs h b e =
+    sym (take-append-drop w xs)
+    ∙ ap
+    (λ l. l ++ drop w xs)
+    (sym (bytes-number w (take w xs) (length-take-le w xs h) (bytes-take w xs b)) ∙ ap (bytesOf w) e)
 
 -- ---- fields
 
@@ -80,27 +119,51 @@ fields-body (w ∷ ws) (v ∷ vs) f =
     (ap number (take-at (bytesOf w v) (bodyBytes ws vs) w (bytes-count w v)) ∙ number-bytes w v (f .0))
     (ap (fields ws) (drop-at (bytesOf w v) (bodyBytes ws vs) w (bytes-count w v)) ∙ fields-body ws vs (f .1))
 
+-- a body is written from its fields
+body-fields : (ws body : List ℕ) → length body ≡ size ws → Bytes body → bodyBytes ws (fields ws body) ≡ body
+body-fields [] [] e b = refl
+body-fields [] (x ∷ body) e b = absurd (omega arith)
+body-fields (w ∷ ws) body e b =
+    ap (λ l. bytesOf w (number (take w body)) ++ l) (body-fields ws (drop w body) (omega (arith, length-drop w body)) (bytes-drop w body b))
+    ∙ sym (number-first w (number (take w body)) body (omega arith) b refl)
+
+-- and its fields fit
+fields-fit : (ws body : List ℕ) → Bytes body → Fit ws (fields ws body)
+fields-fit [] body b = tt
+fields-fit (w ∷ ws) body b = (number-below w body b, fields-fit ws (drop w body) (bytes-drop w body b))
+
 -- ---- records
 
--- a row of the table: it is found by its kind and its length, its length is that of a kind and its body, and both are of two bytes
+-- the row with this kind
+abbrev ofKind : ℕ → Kind
+ofKind kind = cond (eqb kind 1) setUpKind (cond (eqb kind 2) stationKind (cond (eqb kind 3) arrivalKind runKind))
+
+-- a row of the table: it is found by its kind and its length and has its kind alone, which is not 0; its length is that of a kind and its
+-- body; and both are of two bytes
 record InTable (row : Kind) : Type 0 where
   found : rowOf (row .kind) (row .length) kinds ≡ some row
+  alone : ofKind (row .kind) ≡ row
+  named : 0 < row .kind
   sized : row .length ≡ 2 + size (row .widths)
   kind-fits : row .kind < 65_536
   length-fits : row .length < 65_536
 
 -- the four rows
 set-up-row : InTable setUpKind
-set-up-row = record { found = refl; sized = refl; kind-fits = omega arith; length-fits = omega arith }
+set-up-row =
+    record { found = refl; alone = refl; named = omega arith; sized = refl; kind-fits = omega arith; length-fits = omega arith }
 
 station-row : InTable stationKind
-station-row = record { found = refl; sized = refl; kind-fits = omega arith; length-fits = omega arith }
+station-row =
+    record { found = refl; alone = refl; named = omega arith; sized = refl; kind-fits = omega arith; length-fits = omega arith }
 
 arrival-row : InTable arrivalKind
-arrival-row = record { found = refl; sized = refl; kind-fits = omega arith; length-fits = omega arith }
+arrival-row =
+    record { found = refl; alone = refl; named = omega arith; sized = refl; kind-fits = omega arith; length-fits = omega arith }
 
 run-row : InTable runKind
-run-row = record { found = refl; sized = refl; kind-fits = omega arith; length-fits = omega arith }
+run-row =
+    record { found = refl; alone = refl; named = omega arith; sized = refl; kind-fits = omega arith; length-fits = omega arith }
 
 
 -- one record in front of any bytes
@@ -366,3 +429,321 @@ accepted-if r arrivals steps good =
         (good .fit)
         (good .order)
         (good .few)
+
+-- ---- an accepted scenario is the writing of a good one
+
+-- what can be said by the rest of an input: a refusal, or what a whole record says by its row of the table
+data Told (rest : List ℕ) : Said → Type 0 where
+  nothing : (n : ℕ) → 0 < n → Told rest (refusedRecord n)
+  by-row :
+      (row : Kind) → InTable row → kindIn rest ≡ row .kind → lengthIn rest ≡ row .length → 2 + row .length ≤ length rest
+      → Told rest (saidBy row (bodyIn (row .length) rest))
+
+-- what the rows say
+rows-told : (rest : List ℕ) (rows : List Kind) → All InTable rows → Told rest (readBody (rowOf (kindIn rest) (lengthIn rest) rows) rest)
+rows-told rest [] known = nothing 19 (omega arith)
+rows-told rest (row ∷ rows) known =
+    go
+    (eqb (kindIn rest) (row .kind))
+    refl
+    (eqb (lengthIn rest) (row .length))
+    refl
+    (rows-told rest rows (λ x i. known x (in-tail i)))
+  where
+    others : Option Kind
+    others = rowOf (kindIn rest) (lengthIn rest) rows
+
+    short : (s : Bool) → ltb (length rest) (2 + row .length) ≡ s → kindIn rest ≡ row .kind → lengthIn rest ≡ row .length
+        → Told rest (cond s (refusedRecord 18) (saidBy row (bodyIn (row .length) rest)))
+    short true q k l = nothing 18 (omega arith)
+    short false q k l = by-row row (known row (at-head refl)) k l (ltb-false (length rest) (2 + row .length) q)
+
+    go :
+        (t : Bool) → eqb (kindIn rest) (row .kind) ≡ t → (u : Bool) → eqb (lengthIn rest) (row .length) ≡ u
+        → Told rest (readBody others rest) → Told rest (readBody (cond (t && u) (some row) others) rest)
+    go true k true l later = short (ltb (length rest) (2 + row .length)) refl (eqb-true _ _ k) (eqb-true _ _ l)
+    go true k false l later = later
+    go false k u l later = later
+
+-- what a record says
+told : (rest : List ℕ) → Told rest (readRecord rest)
+told rest = go (ltb (length rest) 4)
+  where
+    table : All InTable kinds
+    table =
+        all-cons
+        setUpKind
+        set-up-row
+        (all-cons stationKind station-row (all-cons arrivalKind arrival-row (all-cons runKind run-row (all-nil InTable))))
+
+    go : (t : Bool) → Told rest (cond t (refusedRecord 18) (readBody (rowOf (kindIn rest) (lengthIn rest) kinds) rest))
+    go true = nothing 18 (omega arith)
+    go false = rows-told rest kinds table
+
+-- what is out of place is refused
+place-refused : (rest : List ℕ) (x : Said) → Told rest x → ¬ (outOfPlace x ≡ 0)
+place-refused rest x (nothing n h) e = omega arith
+place-refused rest x (by-row row known k l long) e =
+    let some! : ¬ (row .kind ≡ 0) = λ z. omega (arith, known .named) in
+    let z : _≡_ {A = ℕ} 20 0 = ap (λ t. cond t 0 20) (sym (ne-eqb (row .kind) 0 some!)) ∙ e in
+    omega arith
+
+-- a whole record is written from the fields of its body
+whole-record :
+    (row : Kind) (rest : List ℕ) → InTable row → Bytes rest → kindIn rest ≡ row .kind → lengthIn rest ≡ row .length
+    → 2 + row .length ≤ length rest
+    → rest ≡ recordBytes row (fields (row .widths) (bodyIn (row .length) rest)) ++ drop (2 + row .length) rest
+whole-record row rest known b k l long =
+    number-first 2 (row .length) rest (omega arith) b l
+    ∙ ap
+    (λ xs. bytesOf 2 (row .length) ++ xs)
+    (number-first 2 (row .kind) (drop 2 rest) (omega (arith, length-drop 2 rest, known .sized)) (bytes-drop 2 rest b) k)
+    ∙ ap
+    (λ xs. bytesOf 2 (row .length) ++ (bytesOf 2 (row .kind) ++ xs))
+    (drop-drop 2 2 rest
+    ∙ sym (take-append-drop (row .length - 2) (drop 4 rest))
+    ∙ ap₂
+    (λ body more. body ++ more)
+    (sym (body-fields (row .widths) (bodyIn (row .length) rest) count (bytes-take (row .length - 2) (drop 4 rest) (bytes-drop 4 rest b))))
+    (drop-drop (row .length - 2) 4 rest ∙ ap (λ n. drop n rest) all))
+  where
+    all : 4 + (row .length - 2) ≡ 2 + row .length
+    all = omega (arith, known .sized)
+
+    count : length (bodyIn (row .length) rest) ≡ size (row .widths)
+    count = length-take-le (row .length - 2) (drop 4 rest) (omega (arith, length-drop 4 rest)) ∙ omega (arith, known .sized)
+
+-- a record of a row's kind is written from its values, if `again` gives the fields of any body
+record-written :
+    (row : Kind) → InTable row → (again : List ℕ → List ℕ) → ((body : List ℕ) → again (fields (row .widths) body) ≡ fields (row .widths) body)
+    → (rest : List ℕ) (x : Said) → Told rest x → Bytes rest → x .kind ≡ row .kind
+    → (rest ≡ recordBytes row (again (x .values)) ++ drop (2 + row .length) rest) × Fit (row .widths) (again (x .values))
+record-written row known again same rest x (nothing n h) b e = absurd (omega (arith, known .named))
+record-written row known again same rest x (by-row row′ known′ k l long) b e =
+    subst
+    (λ (y : Kind). (rest ≡ recordBytes y (again values) ++ drop (2 + y .length) rest) × Fit (y .widths) (again values))
+    one
+    (
+      whole-record row′ rest known′ b k l long ∙ ap (λ vs. recordBytes row′ vs ++ drop (2 + row′ .length) rest) (sym as-read),
+      subst (Fit (row′ .widths)) (sym as-read) (fields-fit (row′ .widths) body (bytes-take (row′ .length - 2) (drop 4 rest) (bytes-drop 4 rest b))),
+    )
+  where
+    body : List ℕ
+    body = bodyIn (row′ .length) rest
+
+    values : List ℕ
+    values = fields (row′ .widths) body
+
+    one : row′ ≡ row
+    one = sym (known′ .alone) ∙ ap ofKind e ∙ known .alone
+
+    as-read : again values ≡ values
+    as-read = subst (λ (y : Kind). again (fields (y .widths) body) ≡ fields (y .widths) body) (sym one) (same body)
+
+-- stations that are not refused are written from what is read, and are as many as are to be read
+stations-written :
+    (n offset : ℕ) (rest : List ℕ) → Bytes rest → stationsFrom n offset rest .refusal ≡ 0
+    → (rest ≡ stationsBytes (stationsFrom n offset rest .asked) ++ drop (station-bytes * n) rest)
+    × (length (stationsFrom n offset rest .asked) ≡ n)
+stations-written zero offset rest b e = (refl, refl)
+stations-written (suc n) offset rest b e =
+    go (eqb (x .kind) 2) refl e (stations-written n (offset + station-bytes) (drop station-bytes rest) (bytes-drop station-bytes rest b))
+  where
+    x : Said
+    x = readRecord rest
+
+    later : StationsRead
+    later = stationsFrom n (offset + station-bytes) (drop station-bytes rest)
+
+    left : List ℕ
+    left = drop (station-bytes * n) (drop station-bytes rest)
+
+    by : Bool → StationsRead
+    by t = cond t (withStation (askedFrom (x .values)) later) (record { refusal = outOfPlace x; offset = offset; asked = [] })
+
+    go :
+        (t : Bool) → eqb (x .kind) 2 ≡ t → by t .refusal ≡ 0
+        → (later .refusal ≡ 0 → (drop station-bytes rest ≡ stationsBytes (later .asked) ++ left) × (length (later .asked) ≡ n))
+        → (rest ≡ stationsBytes (by t .asked) ++ drop (station-bytes * suc n) rest) × (length (by t .asked) ≡ suc n)
+    go true k f more =
+        let this = record-written stationKind station-row (λ vs. stationValues (askedFrom vs)) (λ body. refl) rest x (told rest) b (eqb-true _ _ k) in
+        let those = more f in
+        let one-more : station-bytes + station-bytes * n ≡ station-bytes * suc n = omega arith in (
+          this .0
+          ∙ ap (λ l. recordBytes stationKind (stationValues (askedFrom (x .values))) ++ l) (those .0)
+          ∙ sym (append-assoc (recordBytes stationKind (stationValues (askedFrom (x .values)))) (stationsBytes (later .asked)) left)
+          ∙ ap
+          (λ l. stationsBytes (askedFrom (x .values) ∷ later .asked) ++ l)
+          (drop-drop (station-bytes * n) station-bytes rest ∙ ap (λ m. drop m rest) one-more),
+          ap suc (those .1),
+        )
+    go false k f more = absurd (place-refused rest x (told rest) f)
+
+-- what arrivals and a run that are not refused tell: they are written from what is read, fit, and come in order
+record Ended (rest : List ℕ) (previous : ℕ) (x : EndingRead) : Type 0 where
+  bytes : rest ≡ endingBytes (x .arrivals) (x .steps)
+  fit : All ArrivalFits (x .arrivals)
+  order : InOrder previous (x .arrivals)
+  few : x .steps < 65_536
+
+-- the run
+run-written :
+    (rest : List ℕ) (previous offset : ℕ) → Bytes rest → runFrom (readRecord rest) offset (length (drop run-bytes rest)) .refusal ≡ 0
+    → Ended rest previous (runFrom (readRecord rest) offset (length (drop run-bytes rest)))
+run-written rest previous offset b e = go (eqb (x .kind) 4) refl (eqb (length (drop run-bytes rest)) 0) refl e
+  where
+    x : Said
+    x = readRecord rest
+
+    by : Bool → Bool → EndingRead
+    by t u =
+        cond
+        t
+        (cond u (record { refusal = 0; offset = 0; arrivals = []; steps = stepsFrom (x .values) }) (refusedEnding 20 (offset + run-bytes)))
+        (refusedEnding (outOfPlace x) offset)
+
+    none : (l : List ℕ) → length l ≡ 0 → l ≡ []
+    none [] h = refl
+    none (y ∷ l) h = absurd (omega arith)
+
+    go :
+        (t : Bool) → eqb (x .kind) 4 ≡ t → (u : Bool) → eqb (length (drop run-bytes rest)) 0 ≡ u → by t u .refusal ≡ 0
+        → Ended rest previous (by t u)
+    go true k true l f =
+        let this = record-written runKind run-row (λ vs. runValues (stepsFrom vs)) (λ body. refl) rest x (told rest) b (eqb-true _ _ k) in
+        record {
+          bytes = this .0 ∙ ap (λ l. recordBytes runKind (runValues (stepsFrom (x .values))) ++ l) (none _ (eqb-true _ _ l));
+          fit = all-nil ArrivalFits;
+          order = tt;
+          few = this .1 .0;
+        }
+    go true k false l f = absurd (omega arith)
+    go false k u l f = absurd (place-refused rest x (told rest) f)
+
+-- and before it the arrivals
+ending-written :
+    (turns previous offset : ℕ) (rest : List ℕ) → Bytes rest → arrivalsFrom turns previous offset rest .refusal ≡ 0
+    → Ended rest previous (arrivalsFrom turns previous offset rest)
+ending-written zero previous offset rest b e = absurd (omega arith)
+ending-written (suc turns) previous offset rest b e =
+    go
+    (eqb (x .kind) 3)
+    refl
+    (ltb (a .time .0) previous)
+    refl
+    e
+    (ending-written turns (a .time .0) (offset + arrival-bytes) (drop arrival-bytes rest) (bytes-drop arrival-bytes rest b))
+  where
+    x : Said
+    x = readRecord rest
+
+    a : Arrival
+    a = arrivalFrom (x .values)
+
+    later : EndingRead
+    later = arrivalsFrom turns (a .time .0) (offset + arrival-bytes) (drop arrival-bytes rest)
+
+    by : Bool → Bool → EndingRead
+    by t late =
+        cond t (cond late (refusedEnding 21 offset) (withArrival a later)) (runFrom x offset (length (drop run-bytes rest)))
+
+    go :
+        (t : Bool) → eqb (x .kind) 3 ≡ t → (late : Bool) → ltb (a .time .0) previous ≡ late → by t late .refusal ≡ 0
+        → (later .refusal ≡ 0 → Ended (drop arrival-bytes rest) (a .time .0) later)
+        → Ended rest previous (by t late)
+    go true k true l f more = absurd (omega arith)
+    go true k false l f more =
+        let this =
+            record-written arrivalKind arrival-row (λ vs. arrivalValues (arrivalFrom vs)) (λ body. refl) rest x (told rest) b (eqb-true _ _ k) in
+        let those = more f in
+        record {
+          bytes = this .0 ∙ ap (λ l. recordBytes arrivalKind (arrivalValues a) ++ l) (those .bytes);
+          fit =
+              all-cons
+              a
+              (record { time = this .1 .0; address = this .1 .1 .0; value = this .1 .1 .1 .0; length = this .1 .1 .1 .1 .0 })
+              (those .fit);
+          order = (ltb-false (a .time .0) previous l, those .order);
+          few = those .few;
+        }
+    go false k late l f more = run-written rest previous offset b f
+
+-- what a reading tells: an accepted input is the writing of a good scenario
+Wrote : List ℕ → Reading → Type 0
+Wrote input (refused n offset) = Unit {0}
+Wrote input (accepted r arrivals steps) = (input ≡ written r arrivals steps) × Good r arrivals steps
+
+-- what is told by a test, where else it is refused
+by-test :
+    (input : List ℕ) (t : Bool) (x : Reading) (n offset : ℕ) → (t ≡ true → Wrote input x) → Wrote input (cond t x (refused n offset))
+unfolding Wrote
+by-test input true x n offset h = h refl
+by-test input false x n offset h = tt
+
+-- any input of bytes
+wrote : (input : List ℕ) → Bytes input → Wrote input (reading input)
+unfolding Wrote
+wrote input b = go (ltb most-bytes (length input)) refl
+  where
+    x : Said
+    x = readRecord input
+
+    g : Settings
+    g = settingsFrom (x .values)
+
+    stations : StationsRead
+    stations = stationsFrom (g .n) set-up-bytes (drop set-up-bytes input)
+
+    r : Request
+    r = requestWith g (stations .asked)
+
+    ending : EndingRead
+    ending = arrivalsFrom (suc (length input)) 0 (stationOffset (r .N)) (drop (stationOffset (r .N)) input)
+
+    all :
+        length input ≤ most-bytes → x .kind ≡ 1 → stations .refusal ≡ 0 → setUpVerdict r .refusal ≡ 0 → ending .refusal ≡ 0
+        → (input ≡ written r (ending .arrivals) (ending .steps)) × Good r (ending .arrivals) (ending .steps)
+    all short k s v e =
+        let first =
+            record-written setUpKind set-up-row (λ vs. setUpValues (requestWith (settingsFrom vs) [])) (λ body. refl) input x (told input) b k in
+        let row = stations-written (g .n) set-up-bytes (drop set-up-bytes input) (bytes-drop set-up-bytes input b) s in
+        let last =
+            ending-written
+            (suc (length input))
+            0
+            (stationOffset (r .N))
+            (drop (stationOffset (r .N)) input)
+            (bytes-drop (stationOffset (r .N)) input b)
+            e in
+        let whole : input ≡ written r (ending .arrivals) (ending .steps) =
+            first .0
+            ∙ ap
+            (λ l. recordBytes setUpKind (setUpValues r) ++ l)
+            (row .0 ∙ ap (λ l. stationsBytes (stations .asked) ++ l) (drop-drop (station-bytes * g .n) set-up-bytes input ∙ last .bytes)) in (
+          whole,
+          record {
+            set-up = v;
+            stations = row .1;
+            fit = last .fit;
+            order = last .order;
+            few = last .few;
+            short = subst (λ l. length l ≤ most-bytes) whole short;
+          },
+        )
+
+    go : (t : Bool) → ltb most-bytes (length input) ≡ t → Wrote input (cond t (refused 22 0) (readSetUp x input))
+    go true l = tt
+    go false l =
+        by-test input (eqb (x .kind) 1) (readSettings g input) (outOfPlace x) 0 (λ k.
+        by-test input (eqb (settingsRefusal g) 0) (readStations g stations input) (settingsRefusal g) 0 (λ _.
+        by-test input (eqb (stations .refusal) 0) (readArrivals r input) (stations .refusal) (stations .offset) (λ s.
+        by-test input (eqb (setUpVerdict r .refusal) 0) (readEnding r ending) (setUpVerdict r .refusal) (stationOffset (setUpVerdict r .station)) (λ v.
+        by-test input (eqb (ending .refusal) 0) (accepted r (ending .arrivals) (ending .steps)) (ending .refusal) (ending .offset) (λ e.
+        all (ltb-false _ _ l) (eqb-true _ _ k) (eqb-true _ _ s) (eqb-true _ _ v) (eqb-true _ _ e))))))
+
+-- Nothing else is accepted: an accepted input of bytes is the writing of a good scenario, the one that it is read as.
+pub accepted-only :
+    (input : List ℕ) (r : Request) (arrivals : List Arrival) (steps : ℕ) → Bytes input → reading input ≡ accepted r arrivals steps
+    → (input ≡ written r arrivals steps) × Good r arrivals steps
+unfolding Wrote
+accepted-only input r arrivals steps b e = subst (Wrote input) e (wrote input b)
