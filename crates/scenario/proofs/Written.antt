@@ -71,6 +71,7 @@ row-fits r i earlier (s ∷ later) a d h =
     (omega arith, (capability-fits (r .discipline) (r .D) (s .capability) d (h .1 .1 .0), tt))
     (row-fits r (suc i) (earlier ++ (s ∷ [])) later a d (h .1 .1 .1 .1))
 
+-- a set-up that is not refused
 module _ (r : Request) (e : setUpVerdict r .refusal ≡ 0) where
   -- none of its refusals holds
   passed : NoneHolds (setUpConditions r)
@@ -168,7 +169,7 @@ stations-count : (row : List Asked) → length (stationsBytes row) ≡ station-b
 stations-count [] = refl
 stations-count (s ∷ later) = omega (arith, stations-count later)
 
--- the fields of an arrival that fits
+-- an arrival that fits has fields that fit
 arrival-fit : (a : Arrival) → ArrivalFits a → Fit (arrivalKind .widths) (arrivalValues a)
 arrival-fit a f = (f .time, (f .address, (f .value, (f .length, tt))))
 
@@ -201,7 +202,7 @@ ending-read (a ∷ later) steps (suc turns) previous offset h f o k =
     fits : Fit (arrivalKind .widths) (arrivalValues a)
     fits = arrival-fit a (f a (at-head refl))
 
--- there are more bytes than arrivals
+-- there are no fewer bytes than arrivals
 ending-long : (arrivals : List Arrival) (steps : ℕ) → length arrivals ≤ length (endingBytes arrivals steps)
 ending-long [] steps = omega arith
 ending-long (a ∷ later) steps = omega (arith, ending-long later steps)

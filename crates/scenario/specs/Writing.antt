@@ -1,5 +1,5 @@
--- The bytes of a scenario (paper 01, 'The scenario and its listing'), and which scenarios are good: those whose bytes are accepted.
--- Assumes nothing.
+-- The bytes of a scenario (paper 01, 'The scenario and its listing'), and which scenarios are good. An input of bytes is accepted exactly
+-- when it is the writing of a good scenario: proofs/Written.antt, accepted-if and accepted-only. Assumes nothing.
 use Prim.Native.Nat.{ℕ, zero, suc, _/_, _%_, _≤_, _<_}
 use mathlib.Core.Path.{_≡_}
 use mathlib.Core.List.{List, [], _∷_, _++_}
