@@ -3,3 +3,5 @@ pub mod RecordLaws
 pub mod Unique
 pub mod ReadingLaws
 pub mod Arrivals
+pub mod WrittenRecords
+pub mod Written
