@@ -4,7 +4,6 @@ pub mod TurnLaws
 pub mod Numbered
 pub mod Keeping
 pub mod Handed
-pub mod StepsFit
 pub mod NeverRefused
 pub mod Worked
 pub mod Unique

@@ -27,10 +27,11 @@ use Rattle.window.specs.declared.Side.{Side}
 use Rattle.window.specs.declared.Side.the-variants as Is
 use Rattle.scenario.specs.declared.Arrival.{Arrival}
 use Rattle.scenario.specs.Reading.{accepted, reading}
-use Rattle.listing.specs.Run.{asks, due, refusalText, Left, after, admitDue, answersOf, Bytes}
+use Rattle.scenario.specs.Writing.{Bytes}
+use Rattle.scenario.proofs.Written.{accepted-only}
+use Rattle.listing.specs.Run.{asks, due, refusalText, Left, after, admitDue, answersOf}
 use Rattle.listing.proofs.Numbered.{Sound, sound}
 use Rattle.listing.proofs.Keeping.{next-stands}
-use Rattle.listing.proofs.StepsFit.{steps-fit}
 
 -- ---- the clock
 
@@ -149,4 +150,5 @@ never-refused input r arrivals steps e few =
 pub never-refused-bytes :
     (input : List ℕ) (r : Request) (arrivals : List Arrival) (steps : ℕ) → reading input ≡ accepted r arrivals steps → Bytes input
     → All (λ a. a .refusal ≡ 0) (answersOf steps (setUp r .1) arrivals)
-never-refused-bytes input r arrivals steps e h = never-refused input r arrivals steps e (steps-fit input r arrivals steps e h)
+never-refused-bytes input r arrivals steps e h =
+    let good = accepted-only input r arrivals steps h e .1 in never-refused input r arrivals steps e (omega (arith, good .few))

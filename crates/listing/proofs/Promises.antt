@@ -8,7 +8,8 @@ use Rattle.rules.specs.Lists.{All}
 use Rattle.rules.specs.SetUp.{Request, setUp}
 use Rattle.scenario.specs.declared.Arrival.{Arrival}
 use Rattle.scenario.specs.Reading.{accepted, reading}
-use Rattle.listing.specs.Run.{listing, answersOf, Bytes}
+use Rattle.scenario.specs.Writing.{Bytes}
+use Rattle.listing.specs.Run.{listing, answersOf}
 use Rattle.listing.specs.Turns.{Play, opened, turn, handed, turnsLeft, played}
 use Rattle.listing.specs.Worked.{worked-input, worked-output}
 use Rattle.listing.proofs.Handed as Handed

@@ -1,9 +1,8 @@
 -- The whole run, from the bytes of a scenario to the bytes of its listing (paper 01, 'The scenario and its listing'). Assumes nothing.
-use Prim.Native.Nat.{ℕ, zero, suc, _<_}
+use Prim.Native.Nat.{ℕ, zero, suc}
 use mathlib.Core.Bool.{Bool, cond}
 use mathlib.Core.List.{List, [], _∷_, _++_}
 use lib.Dec.{leb, eqb}
-use Rattle.rules.specs.Lists.{All}
 use Rattle.rules.specs.Bus.{Bus, waiting}
 use Rattle.rules.specs.SetUp.{setUp}
 use Rattle.rules.specs.Admission as Rules
@@ -73,7 +72,3 @@ listingOf (accepted r arrivals steps) = runText steps (setUp r .1) arrivals
 -- the listing of a scenario
 abbrev pub listing : List ℕ → List ℕ
 listing input = listingOf (reading input)
-
--- a list of bytes, as an input is
-abbrev pub Bytes : List ℕ → Type 0
-Bytes xs = All (λ x. x < 256) xs

@@ -5,3 +5,4 @@ pub mod ReadingLaws
 pub mod Arrivals
 pub mod WrittenRecords
 pub mod Written
+pub mod Promises
