@@ -229,7 +229,7 @@ row-numbered : (r : Request) (i : ℕ) (earlier row : List Asked) → each-of (�
 row-numbered r i earlier [] = refl
 row-numbered r i earlier (s ∷ later) = row-numbered r (suc i) (earlier ++ (s ∷ [])) later
 
-set-up-accepted : (r : Request) → setUpVerdict r .refusal ≡ 0 → NoneHolds (setUpConditions r)
+pub set-up-accepted : (r : Request) → setUpVerdict r .refusal ≡ 0 → NoneHolds (setUpConditions r)
 set-up-accepted r = none-held fine (λ v. v .refusal) (set-up-tried r) (row-numbered r 0 [] (take (r .N) (r .row)))
 
 -- q is at least 1 in every discipline

@@ -9,14 +9,14 @@ use lib.Dec.{ltb, eqb}
 use lib.ListN.{length, take, drop, length-append}
 use lib.Seq.{take-all, drop-at, drop-drop}
 use borrow.Author.Tests.{le-ltb, ltb-false, eqb-true}
-use Rattle.rules.specs.Lists.{each-of, outside, at-head, in-tail, All, firstOf}
+use Rattle.rules.specs.Lists.{outside, at-head, in-tail, All, firstOf}
 use Rattle.rules.specs.declared.Verdict.{Verdict}
 use Rattle.rules.specs.Bus.{most-stations, least-space, most-space, RTDG, RTVC, code}
-use Rattle.rules.specs.SetUp.{Asked, Request, fine, fault, step-outside, settingsTests, rowTests, setUpVerdict}
+use Rattle.rules.specs.SetUp.{Asked, Request, fine, fault, step-outside, settingsTests, setUpVerdict}
 use Rattle.rules.specs.Conditions.{StepOutside, CapabilityOutside, rowConditions, setUpConditions}
 use Rattle.rules.proofs.Laws.{all-cons, all-nil}
-use Rattle.rules.proofs.Tests.{Whether, holds, fails, stable, equal, inside, NoneHolds, none-held}
-use Rattle.rules.proofs.Standing.{set-up-tried}
+use Rattle.rules.proofs.Tests.{Whether, holds, fails, stable, equal, inside, NoneHolds}
+use Rattle.rules.proofs.Standing.{set-up-accepted}
 use Rattle.bus.specs.declared.Settings.{Settings}
 use Rattle.bus.specs.Coded.{requestWith, settingsRefusal}
 use Rattle.bus.proofs.SettingUp.{SettingsPass, set-up-turn, set-up-pass}
@@ -33,11 +33,6 @@ use Rattle.scenario.proofs.WrittenRecords.{bytes-drop, Fit, set-up-row,
 use Rattle.scenario.proofs.WrittenRecords.{past-record, record-read, told, place-refused, record-written}
 
 -- ---- an accepted set-up
-
--- every refusal of a row has a number from 1 on
-row-numbered : (r : Request) (i : ℕ) (earlier row : List Asked) → each-of (λ v. ltb 0 (v .0 .refusal)) (rowTests r i earlier row) ≡ true
-row-numbered r i earlier [] = refl
-row-numbered r i earlier (s ∷ later) = row-numbered r (suc i) (earlier ++ (s ∷ [])) later
 
 -- q fits its two bytes
 step-fits : (d q : ℕ) → ¬ StepOutside d q → q < 65_536
@@ -75,7 +70,7 @@ row-fits r i earlier (s ∷ later) a d h =
 module _ (r : Request) (e : setUpVerdict r .refusal ≡ 0) where
   -- none of its refusals holds
   passed : NoneHolds (setUpConditions r)
-  passed = none-held fine (λ v. v .refusal) (set-up-tried r) (row-numbered r 0 [] (take (r .N) (r .row))) e
+  passed = set-up-accepted r e
 
   -- its numbers fit their widths
   set-up-fits : Fit (setUpKind .widths) (setUpValues r)
