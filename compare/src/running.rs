@@ -19,8 +19,8 @@ pub fn output_of(program: &str, input: &[u8]) -> Result<Vec<u8>, String> {
     }
     let status = child.wait().map_err(|fault| format!("{program}: {fault}"))?;
     let output = output?;
-    if status.code().is_none() {
-        return Err(format!("{program} ended by {status}"));
+    if !status.success() {
+        return Err(format!("{program} ended with {status}"));
     }
     if output.is_empty() {
         return Err(format!("{program} wrote nothing ({status})"));
