@@ -1,3 +1,4 @@
+-- The modules of the definitions. Assumes nothing.
 pub mod State
 pub mod Coded
 pub mod Parts

@@ -1,4 +1,4 @@
--- What a reading is worth: the number of a refused scenario is none but a refusal's, and of an accepted one the set-up is accepted and the
+-- A refused scenario bears a number that is not 0; of an accepted one the set-up is accepted and the
 -- steps are those of its ending. Assumes nothing.
 use Prim.Native.Nat.{ℕ, _+_}
 use mathlib.Core.Path.{_≡_, refl}

@@ -1,3 +1,4 @@
+-- The modules of the definitions. Assumes nothing.
 pub mod Text
 pub mod Run
 pub mod Turns

@@ -11,7 +11,7 @@ use Rattle.bus.specs.declared.Totals.{Totals}
 use Rattle.bus.specs.Coded.{codedAdmit, codedStep, totalsOf}
 use Rattle.scenario.specs.declared.Arrival.{Arrival}
 use Rattle.scenario.specs.declared.Scenario.{Scenario}
-use Rattle.scenario.specs.Format.{Said, readRecord}
+use Rattle.scenario.specs.Format.{arrivalKind, Said, readRecord}
 use Rattle.scenario.specs.Reading.{arrival-bytes, arrivalFrom, reading, scenarioForm}
 pub use Rattle.listing.specs.declared.Play.{Play}
 pub use Rattle.listing.specs.declared.Turn.{Turn}
@@ -65,7 +65,7 @@ closedBy s t = says (endText (t .clock .0) (t .admitted) (t .sent) (t .lost) (t 
 abbrev pub turnBy : Said → Play → Turn
 turnBy x p =
     cond
-    (eqb (x .kind) 3 && due (p .state .segment .clock .0) (arrivalFrom (x .values)))
+    (eqb (x .kind) (arrivalKind .kind) && due (p .state .segment .clock .0) (arrivalFrom (x .values)))
     (admittedBy p (arrivalFrom (x .values)) (codedAdmit (p .state) (asks (arrivalFrom (x .values)))))
     (steppedBy p (codedStep (p .state)))
 

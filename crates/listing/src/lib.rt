@@ -15,13 +15,11 @@ use bus::Answer;
 use bus::Slot;
 use bus::State;
 use bus::Totals;
+use scenario::ARRIVAL_BYTES;
 use scenario::Arrival;
 use scenario::Record;
 
 mod text;
-
-// The bytes of an arrival's record.
-const ARRIVAL_BYTES: usize = 16;
 
 // A line: its first `length` bytes, and zeros.
 pub struct Line {

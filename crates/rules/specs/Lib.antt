@@ -1,3 +1,4 @@
+-- The modules of the definitions. Assumes nothing.
 pub mod Lists
 pub mod Bus
 pub mod SetUp

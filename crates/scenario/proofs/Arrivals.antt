@@ -1,4 +1,4 @@
--- The arrivals that stand in a scenario's bytes from an offset on, for who takes them one by one. Assumes nothing.
+-- The arrivals that stand in a scenario's bytes from an offset on, for a caller that takes them one by one. Assumes nothing.
 use Prim.Native.Nat.{ℕ, zero, suc, _+_, _≤_}
 use mathlib.Core.Path.{_≡_, refl, sym, ap, subst, _∙_}
 use mathlib.Core.Bool.{Bool, true, false, cond}

@@ -1,3 +1,4 @@
+-- The modules of the shared laws and theorems. Assumes nothing.
 pub mod Numbers
 pub mod RecordLaws
 pub mod Unique
@@ -6,3 +7,4 @@ pub mod Arrivals
 pub mod WrittenRecords
 pub mod Written
 pub mod Promises
+pub mod Faults

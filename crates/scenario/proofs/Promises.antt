@@ -3,11 +3,14 @@
 use Prim.Native.Nat.{ℕ}
 use mathlib.Core.Path.{_≡_}
 use mathlib.Core.List.{List}
+use mathlib.Core.Option.{none}
 use Rattle.rules.specs.SetUp.{Request}
 use Rattle.scenario.specs.declared.Record.{Record}
 use Rattle.scenario.specs.Format.{Arrival, said}
 use Rattle.scenario.specs.Reading.{accepted, reading}
 use Rattle.scenario.specs.Writing.{Bytes, written, Good}
+use Rattle.scenario.specs.Faults.{faults, firstWrong}
+use Rattle.scenario.proofs.Faults as Faults
 use Rattle.scenario.proofs.Unique as Unique
 use Rattle.scenario.proofs.Written as Written
 
@@ -26,3 +29,7 @@ accepted-only = Written.accepted-only
 -- no two answers to a record read say the same
 pub said-injective : (r r′ : Record) → said r ≡ said r′ → r ≡ r′
 said-injective = Unique.said-injective
+
+-- which number at which offset: the table of refused scenarios holds
+pub all-refused : firstWrong 1 faults ≡ none
+all-refused = Faults.all-refused

@@ -91,10 +91,10 @@ readRecord rest = cond (ltb (length rest) 4) (refusedRecord 18) (readBody (rowOf
 -- What the code's answer to a record read says: for each of its cases the kind and the values, or the number.
 abbrev pub said : Record → Said
 said (Is.Refused n) = refusedRecord n
-said (Is.SetUp g) = record { refusal = 0; kind = 1; values = g .discipline ∷ g .d ∷ g .a ∷ g .q ∷ g .n ∷ [] }
-said (Is.Station s) = record { refusal = 0; kind = 2; values = s .address .0 ∷ s .capability .0 ∷ [] }
-said (Is.Arrival a) = record { refusal = 0; kind = 3; values = a .time .0 ∷ a .address .0 ∷ a .value ∷ a .length ∷ [] }
-said (Is.Run steps) = record { refusal = 0; kind = 4; values = steps ∷ [] }
+said (Is.SetUp g) = record { refusal = 0; kind = setUpKind .kind; values = g .discipline ∷ g .d ∷ g .a ∷ g .q ∷ g .n ∷ [] }
+said (Is.Station s) = record { refusal = 0; kind = stationKind .kind; values = s .address .0 ∷ s .capability .0 ∷ [] }
+said (Is.Arrival a) = record { refusal = 0; kind = arrivalKind .kind; values = a .time .0 ∷ a .address .0 ∷ a .value ∷ a .length ∷ [] }
+said (Is.Run steps) = record { refusal = 0; kind = runKind .kind; values = steps ∷ [] }
 
 -- what refuses a record that is not of the kind that has its place here: its own refusal, or '20: record out of place'
 abbrev pub outOfPlace : Said → ℕ

@@ -23,9 +23,12 @@ isKind kind long = known (rowOf kind long kinds)
 abbrev pub saidByKind : ℕ → List ℕ → Said
 saidByKind kind body =
     cond
-    (eqb kind 1)
+    (eqb kind (setUpKind .kind))
     (saidBy setUpKind body)
-    (cond (eqb kind 2) (saidBy stationKind body) (cond (eqb kind 3) (saidBy arrivalKind body) (saidBy runKind body)))
+    (cond
+    (eqb kind (stationKind .kind))
+    (saidBy stationKind body)
+    (cond (eqb kind (arrivalKind .kind)) (saidBy arrivalKind body) (saidBy runKind body)))
 
 -- an ending but for its arrivals, as the code has it
 abbrev pub endingForm : EndingRead → Ending

@@ -12,7 +12,7 @@ use Rattle.bus.specs.declared.Settings.{Settings}
 use Rattle.bus.specs.State.{form}
 use Rattle.bus.specs.Coded.{requestWith, settingsRefusal, codedSetUp}
 pub use Rattle.scenario.specs.declared.Scenario.{Scenario}
-use Rattle.scenario.specs.Format.{Said, Arrival, readRecord, outOfPlace}
+use Rattle.scenario.specs.Format.{setUpKind, stationKind, arrivalKind, runKind, Said, Arrival, readRecord, outOfPlace}
 
 -- '22: scenario above 65,536 bytes'
 abbrev pub most-bytes : ℕ
@@ -20,16 +20,16 @@ most-bytes = 65_536
 
 -- the bytes that a record takes: the two of its length, and what follows them
 abbrev pub set-up-bytes : ℕ
-set-up-bytes = 16
+set-up-bytes = 2 + setUpKind .length
 
 abbrev pub station-bytes : ℕ
-station-bytes = 8
+station-bytes = 2 + stationKind .length
 
 abbrev pub arrival-bytes : ℕ
-arrival-bytes = 16
+arrival-bytes = 2 + arrivalKind .length
 
 abbrev pub run-bytes : ℕ
-run-bytes = 6
+run-bytes = 2 + runKind .length
 
 -- ---- what the values of a record are
 
@@ -61,7 +61,7 @@ abbrev pub stationsFrom : ℕ → ℕ → List ℕ → StationsRead
 stationsFrom zero offset rest = record { refusal = 0; offset = 0; asked = [] }
 stationsFrom (suc n) offset rest =
     cond
-    (eqb (readRecord rest .kind) 2)
+    (eqb (readRecord rest .kind) (stationKind .kind))
     (withStation (askedFrom (readRecord rest .values)) (stationsFrom n (offset + station-bytes) (drop station-bytes rest)))
     (record { refusal = outOfPlace (readRecord rest); offset = offset; asked = [] })
 
@@ -80,11 +80,11 @@ refusedEnding number offset = record { refusal = number; offset = offset; arriva
 abbrev pub withArrival : Arrival → EndingRead → EndingRead
 withArrival a x = record { refusal = x .refusal; offset = x .offset; arrivals = a ∷ x .arrivals; steps = x .steps }
 
--- 'one run'; '20 if the run record has gone by', which `after` bytes at an offset do
+-- 'one run'; `after` is how many bytes come after it: '20 if the run record has gone by'
 abbrev pub runFrom : Said → ℕ → ℕ → EndingRead
 runFrom x offset after =
     cond
-    (eqb (x .kind) 4)
+    (eqb (x .kind) (runKind .kind))
     (cond
     (eqb after 0)
     (record { refusal = 0; offset = 0; arrivals = []; steps = stepsFrom (x .values) })
@@ -97,7 +97,7 @@ abbrev pub arrivalsFrom : ℕ → ℕ → ℕ → List ℕ → EndingRead
 arrivalsFrom zero previous offset rest = refusedEnding 18 offset
 arrivalsFrom (suc turns) previous offset rest =
     cond
-    (eqb (readRecord rest .kind) 3)
+    (eqb (readRecord rest .kind) (arrivalKind .kind))
     (cond
     (ltb (arrivalFrom (readRecord rest .values) .time .0) previous)
     (refusedEnding 21 offset)
@@ -141,7 +141,7 @@ readSettings g input =
 
 -- 'one set-up' first
 abbrev pub readSetUp : Said → List ℕ → Reading
-readSetUp x input = cond (eqb (x .kind) 1) (readSettings (settingsFrom (x .values)) input) (refused (outOfPlace x) 0)
+readSetUp x input = cond (eqb (x .kind) (setUpKind .kind)) (readSettings (settingsFrom (x .values)) input) (refused (outOfPlace x) 0)
 
 -- '22 first'
 abbrev pub reading : List ℕ → Reading

@@ -29,7 +29,7 @@ const SET_UP_BYTES: usize = 16;
 
 const STATION_BYTES: usize = 8;
 
-const ARRIVAL_BYTES: usize = 16;
+pub const ARRIVAL_BYTES: usize = 16;
 
 const RUN_BYTES: usize = 6;
 
