@@ -1,12 +1,12 @@
 -- Scenarios that are refused, each with its number and its offset: one table, proved by proofs/Faults.antt. The cases are those of docs/DECISIONS.md
 -- and of paper 01's order of checks. Assumes nothing.
 use Prim.Native.Nat.{ℕ, suc}
-use mathlib.Core.Bool.{Bool, true, false, _&&_, cond}
+use mathlib.Core.Bool.{Bool, false, _&&_, cond}
 use mathlib.Core.List.{List, [], _∷_, _++_}
 use mathlib.Core.Option.{Option, none, some}
 use lib.Dec.{eqb}
 use lib.ListN.{take}
-use Rattle.scenario.specs.Format.{Kind, setUpKind, stationKind, arrivalKind, runKind}
+use Rattle.scenario.specs.Format.{setUpKind, stationKind, arrivalKind, runKind}
 use Rattle.scenario.specs.Reading.{Reading, refused, accepted, reading}
 use Rattle.scenario.specs.Writing.{bytesOf, recordBytes}
 
