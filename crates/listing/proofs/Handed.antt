@@ -28,14 +28,15 @@ use Rattle.bus.proofs.Coded.{coded-admit, coded-step}
 use Rattle.scenario.specs.declared.Arrival.{Arrival}
 use Rattle.scenario.specs.Format.{Said, readRecord}
 use Rattle.scenario.specs.Reading.{arrivalFrom, Reading, refused, accepted, reading, stationOffset, scenarioForm}
-use Rattle.scenario.proofs.Arrivals.{ArrivalsAt, arrivals-here, arrivals-none, arrival-within, arrivals-first}
+use Rattle.scenario.proofs.Arrivals.{ArrivalsAt, arrivals-here, arrivals-none}
+use Rattle.scenario.proofs.ReadingLaws.{arrival-within}
+use Rattle.scenario.proofs.Sound.{Sound, sound}
 use Rattle.listing.specs.Text.{refusedText, droppedText, probedText}
 use Rattle.listing.specs.Run.{asks, due, refusalText, Left, admitDue, closingText, runText, listingOf, listing}
 use Rattle.listing.specs.Turns.{Play, Turn, says, over, openedBy, opened, admittedBy, steppedBy, closedBy, turnBy, turn, played}
 use Rattle.listing.specs.Turns.{said, handed, turnsLeft}
 use Rattle.listing.proofs.Lines.{text-of}
 use Rattle.listing.proofs.Keeping.{next-stands}
-use Rattle.listing.proofs.Numbered.{Sound, sound}
 
 -- ---- the turns that are left
 
@@ -257,12 +258,12 @@ module _ (input : List ℕ) where
 
 -- what is handed out of an accepted scenario
 accepted-out :
-    (input : List ℕ) (r : Request) (arrivals : List Arrival) (steps turns : ℕ) → reading input ≡ accepted r arrivals steps
-    → setUp r .0 .refusal ≡ 0 → suc (steps + (length input - stationOffset (r .N))) ≤ turns
+    (input : List ℕ) (r : Request) (arrivals : List Arrival) (steps turns : ℕ) → Sound input (accepted r arrivals steps)
+    → suc (steps + (length input - stationOffset (r .N))) ≤ turns
     → handed turns input (says [] (playing (setUp r .1) (stationOffset (r .N)) steps)) ≡ runText steps (setUp r .1) arrivals
-accepted-out input r arrivals steps zero e fine h = absurd (omega arith)
-accepted-out input r arrivals steps (suc turns) e fine h =
-    rest input turns (setUp r .1) (stationOffset (r .N)) steps arrivals (keepsStanding .set-up r fine) (arrivals-first e) (omega arith)
+accepted-out input r arrivals steps zero fine h = absurd (omega arith)
+accepted-out input r arrivals steps (suc turns) fine h =
+    rest input turns (setUp r .1) (stationOffset (r .N)) steps arrivals (keepsStanding .set-up r (fine .0)) (fine .1) (omega arith)
 
 -- of a refused one
 refused-out :
@@ -279,10 +280,10 @@ refused-out input n offset turns bears =
 -- The lines that are handed out, one after the other, are the listing, whatever the input, once there are turns enough.
 pub handed-out :
     (input : List ℕ) (turns : ℕ) → turnsLeft input (opened input .play) ≤ turns → handed turns input (opened input) ≡ listing input
-handed-out input turns = by-reading (reading input) refl (sound input)
+handed-out input turns = by-reading (reading input) (sound input)
   where
     by-reading :
-        (x : Reading) → reading input ≡ x → Sound input x → turnsLeft input (openedBy (scenarioForm x) .play) ≤ turns
+        (x : Reading) → Sound input x → turnsLeft input (openedBy (scenarioForm x) .play) ≤ turns
         → handed turns input (openedBy (scenarioForm x)) ≡ listingOf x
-    by-reading (refused n offset) e bears h = refused-out input n offset turns bears
-    by-reading (accepted r arrivals steps) e fine h = accepted-out input r arrivals steps turns e (fine .0) h
+    by-reading (refused n offset) bears h = refused-out input n offset turns bears
+    by-reading (accepted r arrivals steps) fine h = accepted-out input r arrivals steps turns fine h

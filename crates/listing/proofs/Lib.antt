@@ -2,7 +2,6 @@
 pub mod Lines
 pub mod Decimals
 pub mod TurnLaws
-pub mod Numbered
 pub mod Keeping
 pub mod Handed
 pub mod NeverRefused

@@ -28,9 +28,9 @@ use Rattle.window.specs.declared.Side.the-variants as Is
 use Rattle.scenario.specs.declared.Arrival.{Arrival}
 use Rattle.scenario.specs.Reading.{accepted, reading}
 use Rattle.scenario.specs.Writing.{Bytes}
+use Rattle.scenario.proofs.Sound.{Sound, sound}
 use Rattle.scenario.proofs.Written.{accepted-only}
 use Rattle.listing.specs.Run.{asks, due, refusalText, Left, after, admitDue, answersOf}
-use Rattle.listing.proofs.Numbered.{Sound, sound}
 use Rattle.listing.proofs.Keeping.{next-stands}
 
 -- ---- the clock

@@ -8,10 +8,10 @@ use Rattle.rules.specs.Lists.{All}
 use Rattle.rules.specs.SetUp.{Request, setUp}
 use Rattle.scenario.specs.declared.Arrival.{Arrival}
 use Rattle.scenario.specs.Reading.{accepted, reading}
-use Rattle.scenario.specs.Writing.{Bytes}
+use Rattle.scenario.specs.Writing.{Bytes, written, Good}
 use Rattle.listing.specs.Run.{listing, answersOf}
 use Rattle.listing.specs.Turns.{Play, opened, turn, handed, turnsLeft, played}
-use Rattle.listing.specs.Worked.{worked-input, worked-output}
+use Rattle.listing.specs.Worked.{worked-input, worked-output, worked-request, worked-arrivals}
 use Rattle.listing.proofs.Handed as Handed
 use Rattle.listing.proofs.NeverRefused as NeverRefused
 use Rattle.listing.proofs.Worked as Worked
@@ -38,3 +38,7 @@ never-refused = NeverRefused.never-refused-bytes
 -- the worked example of paper 01
 pub worked : listing worked-input ≡ worked-output
 worked = Worked.worked
+
+-- it is a good scenario, so that the premises above and those of the reader's theorems are met
+pub worked-good : (worked-input ≡ written worked-request worked-arrivals 14) × Good worked-request worked-arrivals 14
+worked-good = Worked.worked-good

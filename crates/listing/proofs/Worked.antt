@@ -1,11 +1,29 @@
--- The listing of the worked example of paper 01 is the output that the paper gives, by computation. Assumes nothing.
+-- The worked example of paper 01: its listing is the output that the paper gives, by computation; and it is a good scenario, so that what is
+-- proved of good and of accepted scenarios speaks of some. Assumes nothing.
 use mathlib.Core.Path.{_≡_, refl}
+use lib.Dec.{ltb}
+use borrow.Author.Tests.{ltb-true}
 use Rattle.window.specs.Splitting.{exponentOf, isPower}
+use Rattle.rules.proofs.Laws.{each-view}
+use Rattle.scenario.specs.Reading.{accepted, reading}
+use Rattle.scenario.specs.Writing.{Bytes, written, Good}
+use Rattle.scenario.proofs.Written.{accepted-only}
 use Rattle.listing.specs.Text.{decimal}
 use Rattle.listing.specs.Run.{listing}
-use Rattle.listing.specs.Worked.{worked-input, worked-output}
+use Rattle.listing.specs.Worked.{worked-input, worked-output, worked-request, worked-arrivals}
 
 -- the paper's input and output
 pub worked : listing worked-input ≡ worked-output
 unfolding exponentOf isPower decimal
 worked = refl
+
+-- the input is bytes, and accepted
+worked-bytes : Bytes worked-input
+worked-bytes x i = ltb-true x 256 (each-view (λ y. ltb y 256) worked-input refl x i)
+
+worked-accepted : reading worked-input ≡ accepted worked-request worked-arrivals 14
+worked-accepted = refl
+
+-- and so it is the writing of a good scenario
+pub worked-good : (worked-input ≡ written worked-request worked-arrivals 14) × Good worked-request worked-arrivals 14
+worked-good = accepted-only worked-input worked-request worked-arrivals 14 worked-bytes worked-accepted

@@ -1,6 +1,9 @@
--- The worked example of paper 01, 'The scenario and its listing': the bytes of its input and of its output. Assumes nothing.
+-- The worked example of paper 01, 'The scenario and its listing': the bytes of its input and of its output, and
+-- what it asks for. Assumes nothing.
 use Prim.Native.Nat.{ℕ}
 use mathlib.Core.List.{List, [], _∷_}
+use Rattle.rules.specs.SetUp.{Request}
+use Rattle.scenario.specs.declared.Arrival.{Arrival}
 
 -- 'Input, hexadecimal', record by record
 abbrev pub worked-input : List ℕ
@@ -57,3 +60,21 @@ worked-output =
     -- END 17 3 3 0 0
     69 ∷ 78 ∷ 68 ∷ 32 ∷ 49 ∷ 55 ∷ 32 ∷ 51 ∷ 32 ∷ 51 ∷ 32 ∷ 48 ∷ 32 ∷ 48 ∷ 10 ∷
     []
+
+-- what it asks for: the set-up and the arrivals of its 14 steps
+abbrev pub worked-request : Request
+worked-request =
+    record {
+      discipline = 0;
+      D = 4;
+      A = 8;
+      q = 1;
+      N = 3;
+      row = record { address = 1; capability = 0 } ∷ record { address = 5; capability = 0 } ∷ record { address = 6; capability = 0 } ∷ [];
+    }
+
+abbrev arrival : ℕ → ℕ → ℕ → Arrival
+arrival address value long = record { time = record { 0 = 0 }; address = record { 0 = address }; value = value; length = long }
+
+abbrev pub worked-arrivals : List Arrival
+worked-arrivals = arrival 5 2 3 ∷ arrival 6 2 1 ∷ arrival 1 3 2 ∷ []

@@ -6,5 +6,6 @@ pub mod ReadingLaws
 pub mod Arrivals
 pub mod WrittenRecords
 pub mod Written
+pub mod Sound
 pub mod Promises
 pub mod Faults

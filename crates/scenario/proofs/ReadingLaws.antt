@@ -26,7 +26,7 @@ use Rattle.bus.specs.Coded.{askedOf, settingsRefusal}
 use Rattle.bus.proofs.SettingUp.{settings-pass}
 use Rattle.scenario.specs.declared.Record.the-variants as Is
 use Rattle.scenario.specs.Format.{Arrival, Record, said, outOfPlace}
-use Rattle.scenario.specs.Format.{Kind, Said, kinds, rowOf, refusedRecord, lengthIn, kindIn, saidBy, bodyIn, readBody, readRecord}
+use Rattle.scenario.specs.Format.{Kind, arrivalKind, Said, kinds, rowOf, refusedRecord, lengthIn, kindIn, saidBy, bodyIn, readBody, readRecord}
 use Rattle.scenario.specs.Reading.{EndingRead, set-up-bytes, station-bytes, arrival-bytes, run-bytes}
 use Rattle.scenario.specs.Reading.{askedFrom, StationsRead, withStation, stationsFrom, stationOffset, Reading, refused}
 use Rattle.scenario.specs.Reading.{arrivalFrom, refusedEnding, withArrival, runFrom, arrivalsFrom}
@@ -36,8 +36,8 @@ use Rattle.scenario.proofs.Record.{the-type}
 -- ---- the bytes of a record
 
 -- the bytes that a record of a kind takes
-abbrev pub bytesOf : ℕ → ℕ
-bytesOf kind =
+abbrev pub sizeOf : ℕ → ℕ
+sizeOf kind =
     cond
     (eqb kind 1)
     set-up-bytes
@@ -45,45 +45,45 @@ bytesOf kind =
 
 -- whether a row of the table has these bytes: the two of its length, and what follows them
 abbrev sized : Kind → Bool
-sized row = eqb (bytesOf (row .kind)) (2 + row .length)
+sized row = eqb (sizeOf (row .kind)) (2 + row .length)
 
 -- what a body says by a row of the table has its bytes
 rows-fit :
     (rest : List ℕ) (kind long : ℕ) (rows : List Kind) → each-of sized rows ≡ true
-    → bytesOf (readBody (rowOf kind long rows) rest .kind) ≤ length rest
+    → sizeOf (readBody (rowOf kind long rows) rest .kind) ≤ length rest
 rows-fit rest kind long [] e = omega arith
 rows-fit rest kind long (row ∷ rows) e =
     let both = and-true (sized row) (each-of sized rows) e in
     go
     (eqb kind (row .kind) && eqb long (row .length))
-    (eqb-true (bytesOf (row .kind)) (2 + row .length) (both .0))
+    (eqb-true (sizeOf (row .kind)) (2 + row .length) (both .0))
     (rows-fit rest kind long rows (both .1))
   where
     read :
-        (t : Bool) → ltb (length rest) (2 + row .length) ≡ t → bytesOf (row .kind) ≡ 2 + row .length
-        → bytesOf (cond t (refusedRecord 18) (saidBy row (bodyIn (row .length) rest)) .kind) ≤ length rest
+        (t : Bool) → ltb (length rest) (2 + row .length) ≡ t → sizeOf (row .kind) ≡ 2 + row .length
+        → sizeOf (cond t (refusedRecord 18) (saidBy row (bodyIn (row .length) rest)) .kind) ≤ length rest
     read true l s = omega arith
     read false l s = let h = ltb-false (length rest) (2 + row .length) l in rw s h
 
     go :
-        (t : Bool) → bytesOf (row .kind) ≡ 2 + row .length → bytesOf (readBody (rowOf kind long rows) rest .kind) ≤ length rest
-        → bytesOf (readBody (cond t (some row) (rowOf kind long rows)) rest .kind) ≤ length rest
+        (t : Bool) → sizeOf (row .kind) ≡ 2 + row .length → sizeOf (readBody (rowOf kind long rows) rest .kind) ≤ length rest
+        → sizeOf (readBody (cond t (some row) (rowOf kind long rows)) rest .kind) ≤ length rest
     go true s later = read (ltb (length rest) (2 + row .length)) refl s
     go false s later = later
 
 -- a record of a known kind has its bytes in the rest
-record-fits : (rest : List ℕ) → bytesOf (readRecord rest .kind) ≤ length rest
+record-fits : (rest : List ℕ) → sizeOf (readRecord rest .kind) ≤ length rest
 record-fits rest = go (ltb (length rest) 4)
   where
-    go : (t : Bool) → bytesOf (cond t (refusedRecord 18) (readBody (rowOf (kindIn rest) (lengthIn rest) kinds) rest) .kind) ≤ length rest
+    go : (t : Bool) → sizeOf (cond t (refusedRecord 18) (readBody (rowOf (kindIn rest) (lengthIn rest) kinds) rest) .kind) ≤ length rest
     go true = omega arith
     go false = rows-fit rest (kindIn rest) (lengthIn rest) kinds refl
 
 -- and so ends within the input
 pub record-within :
-    (input : List ℕ) (at k : ℕ) → readRecord (drop at input) .kind ≡ k → 0 < bytesOf k → at + bytesOf k ≤ length input
+    (input : List ℕ) (at k : ℕ) → readRecord (drop at input) .kind ≡ k → 0 < sizeOf k → at + sizeOf k ≤ length input
 record-within input at k e some! =
-    let h : bytesOf k ≤ length (drop at input) = subst (λ n. bytesOf n ≤ length (drop at input)) e (record-fits (drop at input)) in
+    let h : sizeOf k ≤ length (drop at input) = subst (λ n. sizeOf n ≤ length (drop at input)) e (record-fits (drop at input)) in
     omega (arith, length-drop at input)
 
 -- ---- the variants of a record
@@ -253,9 +253,8 @@ enough (suc turns) (suc turns′) previous offset rest h h′ =
     go false e same = refl
 
 -- an arrival's record ends within the input
-pub arrival-within :
-    (input : List ℕ) (at : ℕ) (a : Arrival) → said (Is.Arrival a) ≡ readRecord (drop at input) → at + arrival-bytes ≤ length input
-arrival-within input at a e = record-within input at 3 (ap (λ (y : Said). y .kind) (sym e)) (omega arith)
+pub arrival-within : (input : List ℕ) (at : ℕ) → readRecord (drop at input) .kind ≡ arrivalKind .kind → at + arrival-bytes ≤ length input
+arrival-within input at e = record-within input at 3 e (omega arith)
 
 -- one turn where the record is an arrival; t is whether its time is below the previous one's
 pub arrival-turn :
@@ -267,7 +266,7 @@ pub arrival-turn :
     (refusedEnding 21 at)
     (withArrival a (arrivalsFrom (suc (length input)) (a .time .0) (at + arrival-bytes) (drop (at + arrival-bytes) input)))
 arrival-turn input at previous a t e late =
-    let within : at + 16 ≤ length input = arrival-within input at a e in
+    let within : at + 16 ≤ length input = arrival-within input at (ap (λ (y : Said). y .kind) (sym e)) in
     let left = length-drop (at + arrival-bytes) input in
     ap (λ x. arrivalsBy x (length input) previous at (drop at input)) (sym e)
     ∙ ap₂

@@ -10,8 +10,7 @@ use borrow.Author.Needs.{needs}
 use Rattle.bus.specs.Coded.{codedAdmit, codedStep}
 use Rattle.scenario.specs.declared.Record.the-variants as Is
 use Rattle.scenario.specs.Format.{Said, said, readRecord}
-use Rattle.scenario.proofs.ReadingLaws.{other-kind}
-use Rattle.scenario.proofs.Arrivals.{arrival-within}
+use Rattle.scenario.proofs.ReadingLaws.{other-kind, arrival-within}
 use Rattle.listing.specs.Run.{asks}
 use Rattle.listing.specs.Turns.{admittedBy, steppedBy, turnBy, turn}
 use Rattle.listing.proofs.TurnLaws.{flipped, turn-over, turn-ends, turn-goes-on, turn-other, turn-arrival}

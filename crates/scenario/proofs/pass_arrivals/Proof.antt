@@ -7,7 +7,7 @@ use mathlib.Core.List.{[], _∷_}
 use native.Mathlib.Omega.{arith}
 use lib.ListN.{length, drop}
 use borrow.Author.Needs.{needs}
-use Rattle.scenario.specs.Format.{said, readRecord}
+use Rattle.scenario.specs.Format.{Said, said, readRecord}
 use Rattle.scenario.specs.Reading.{arrival-bytes, arrivalsFrom, refusedEnding, withArrival}
 use Rattle.scenario.specs.Parts.{endingForm, endingAt}
 use Rattle.scenario.specs.declared.Record.the-variants as Is
@@ -33,7 +33,7 @@ found-here c = ap said (sym (c .found .given .1)) ∙ c .before .before .record-
 found-within :
     (c : tie.After-found Inv-loop μ-loop)
     → let at = c .before .before .before in at .loop .at + 16 ≤ length (at .before .before .args .input .now)
-found-within c = let at = c .before .before .before in arrival-within (at .before .before .args .input .now) (at .loop .at) _ (found-here c)
+found-within c = let at = c .before .before .before in arrival-within (at .before .before .args .input .now) (at .loop .at) (ap (λ (y : Said). y .kind) (sym (found-here c)))
 
 -- one turn
 turn :
