@@ -1,28 +1,31 @@
 -- Admission in the code's terms: the tests of refusals 11 to 16 by the place of the station with an address, the state that a packet has
--- joined, and what a call gives back. Assumes nothing.
-use Prim.Native.Nat.{ℕ, zero, suc, _+_, _-_, _≤_, _<_}
+-- joined, what a call gives back, and the same where the packet joins in place. Assumes nothing.
+use Prim.Native.Nat.{ℕ, zero, suc, _+_, _-_, _*_, _≤_, _<_}
 use mathlib.Core.Path.{_≡_, refl, sym, ap, ap₂, _∙_, subst}
-use mathlib.Core.Bool.{Bool, true, false, not, _&&_, _||_, cond}
+use mathlib.Core.Bool.{Bool, true, false, _&&_, _||_, cond}
 use mathlib.Core.List.{List, [], _∷_, _++_}
+use native.Mathlib.Nat.{zero-add, suc-add}
+use native.Mathlib.Numerals.{add-one}
 use native.Mathlib.Omega.{arith}
 use lib.Dec.{eqb, leb, ltb}
-use lib.ListN.{length, getD, length-append}
-use borrow.Author.Tests.{ltb-true, ltb-false, eqb-true, eqb-false, eq-eqb, ne-eqb}
+use lib.ListN.{length, getD, take, drop, set, length-append, take-append-drop}
+use lib.Seq.{length-take-le, set-append-left}
+use borrow.Author.Tests.{leb-true, leb-false, ltb-true, ltb-false, eqb-true, eqb-false, eq-eqb, ne-eqb}
 use Rattle.rules.specs.Lists.{some-of, firstOf}
-use Rattle.rules.specs.Bus.{places, most-admitted, late, Station, Bus}
-use Rattle.rules.specs.SetUp.{disciplineOf}
-use Rattle.rules.specs.Standing.{value-fits, length-fits, Standing}
+use Rattle.rules.specs.Bus.{places, Station, Bus}
+use Rattle.rules.specs.Standing.{Standing}
 use Rattle.rules.specs.declared.Admitted.{Admitted}
 use Rattle.rules.specs.Admission.{Arrival, named, admissionRefusal, newPacket, queued, joined, withPacket, admit}
 use Rattle.rules.proofs.Tests.{told}
 use Rattle.rules.proofs.Standing.{stands-exactly, admission-accepted, admit-is}
-use Rattle.bus.specs.State.{Address, Packet, State, queueAt, stationWith, stationAt, valuesFrom, stationsOf, meaning, form}
-use Rattle.bus.specs.Coded.{standing, arrivalOf, codedAdmit, admissionResult}
-use Rattle.bus.specs.Parts.{firstPlace, addressPlace, accepted}
+use Rattle.bus.specs.State.{Address, Packet, Queues, State, queueAt, stationWith, stationAt, valuesFrom, stationsOf, meaning, form}
+use Rattle.bus.specs.Coded.{Admission, standing, arrivalOf, codedAdmit, admissionResult}
+use Rattle.bus.specs.Parts.{Queue, queueOf, queueForm, withQueue, firstPlace, addressPlace, refusalTests, refusalAt, accepted}
 use Rattle.bus.proofs.Rows.{among-values, first-place-holds, first-place-before}
 use Rattle.bus.proofs.Form.{Held, parts-padded, queue-length, to-form}
 use Rattle.bus.proofs.Coded.{hands-back-admission, admit-bears, standing-exactly-admission}
-use Rattle.bus.proofs.Changed.{Lent, address-of, own-address, segmentCounting, recounted, requeued, requeued-held, requeued-padded, stations-now}
+use Rattle.bus.proofs.QueueLaws.{form-joined}
+use Rattle.bus.proofs.Changed.{Lent, queue-formed, address-of, own-address, segmentCounting, recounted, requeued, requeued-held, requeued-padded, stations-now}
 
 -- ---- a test of some value
 
@@ -103,16 +106,6 @@ counted s admitted =
       queues = s .queues;
     }
 
--- the tests of 12 to 16 as the code makes them, for the station at a place
-abbrev pub laterTests : State → ℕ → ℕ → ℕ → List (ℕ × Bool)
-laterTests s place value len =
-    (12, not (value-fits (disciplineOf (s .segment .settings .discipline)) (s .segment .settings .d) value))
-    ∷ (13, not (length-fits len))
-    ∷ (14, late (disciplineOf (s .segment .settings .discipline)) (s .segment .clock .0) value)
-    ∷ (15, leb places (getD (s .queues .lengths) place 0))
-    ∷ (16, leb most-admitted (s .segment .admitted))
-    ∷ []
-
 -- an arrival at the address of which this is the place
 module _ (s : State) (r : Lent s) (place : ℕ) (address : Address) (sought : place ≡ addressPlace s address) (value len : ℕ) where
   abbrev arrival : Arrival
@@ -120,7 +113,11 @@ module _ (s : State) (r : Lent s) (place : ℕ) (address : Address) (sought : pl
 
   -- ---- refusals 11 to 16
 
-  pub refused-11 : s .segment .settings .n ≤ place → 11 ≡ admissionRefusal (meaning s) arrival
+  -- the tests as the code makes them
+  abbrev tests : List (ℕ × Bool)
+  tests = refusalTests (s .segment .settings) (s .segment .clock) (s .segment .admitted) (s .queues .lengths) place value len
+
+  refused-11 : s .segment .settings .n ≤ place → 11 ≡ admissionRefusal (meaning s) arrival
   refused-11 past = rw (told (stands-exactly (meaning s)) (r .stands), none-named s address (omega arith))
 
   -- where no refusal is given, a station has the address
@@ -165,7 +162,7 @@ module _ (s : State) (r : Lent s) (place : ℕ) (address : Address) (sought : pl
     waiting-here : length (queueAt (s .queues) place) ≡ getD (s .queues .lengths) place 0
     waiting-here = queue-length s (r .held) (r .zeros) place (omega arith)
 
-    pub refused-later : firstOf 0 (laterTests s place value len) ≡ admissionRefusal (meaning s) arrival
+    refused-later : firstOf 0 (drop 1 tests) ≡ admissionRefusal (meaning s) arrival
     refused-later =
         rw (
           told (stands-exactly (meaning s)) (r .stands),
@@ -174,7 +171,7 @@ module _ (s : State) (r : Lent s) (place : ℕ) (address : Address) (sought : pl
         )
 
     -- where no refusal is given, there is room
-    pub room-left : admissionRefusal (meaning s) arrival ≡ 0 → getD (s .queues .lengths) place 0 < places
+    room-left : admissionRefusal (meaning s) arrival ≡ 0 → getD (s .queues .lengths) place 0 < places
     room-left none! =
         let n = waiting-here in
         let mine = eqb-true (address .0) (address-of s place) has-name in
@@ -228,6 +225,22 @@ module _ (s : State) (r : Lent s) (place : ℕ) (address : Address) (sought : pl
           (parts-padded next-state (requeued-padded (counted s number) (r .held) (r .zeros) (r .few) place here longer fits))
           means
 
+-- the refusal of the code is that of the rules
+pub refusal-is :
+    (s : State) (r : Lent s) (place : ℕ) (address : Address) (sought : place ≡ addressPlace s address) (value len : ℕ)
+    → refusalAt (s .segment .settings) (s .segment .clock) (s .segment .admitted) (s .queues .lengths) place value len
+    ≡ admissionRefusal (meaning s) (arrivalOf address value len)
+refusal-is s r place address sought value len = go (leb (s .segment .settings .n) place) refl
+  where
+    later : List (ℕ × Bool)
+    later = drop 1 (refusalTests (s .segment .settings) (s .segment .clock) (s .segment .admitted) (s .queues .lengths) place value len)
+
+    go :
+        (t : Bool) → leb (s .segment .settings .n) place ≡ t
+        → firstOf 0 ((11, t) ∷ later) ≡ admissionRefusal (meaning s) (arrivalOf address value len)
+    go true e = refused-11 s r place address sought value len (leb-true (s .segment .settings .n) place e)
+    go false e = refused-later s r place address sought value len (leb-false (s .segment .settings .n) place e)
+
 -- ---- what a call gives back
 
 -- a refused call: its number, and the state as lent
@@ -262,3 +275,88 @@ module _ (s : State) (r : Lent s) (a : Arrival) where
   takes-in none! =
       sym
       (ap admissionResult of-rules ∙ ap (λ (o : Admitted × Bus). admissionResult (o .0, form (o .1))) (admit-is (meaning s) a none!))
+
+-- ---- the packet joins in place
+
+-- a store within a part of a list
+set-part :
+    (xs : List Packet) (f m j : ℕ) (p : Packet) → f + m ≤ length xs → j < m
+    → set xs (f + j) p ≡ take f xs ++ set (take m (drop f xs)) j p ++ drop (f + m) xs
+set-part xs zero m j p h l =
+    ap (λ n. set xs n p) (zero-add j)
+    ∙ ap (λ ys. set ys j p) (sym (take-append-drop m xs))
+    ∙ set-append-left (take m xs) (drop m xs) j p (omega (arith, length-take-le m xs (omega arith)))
+    ∙ ap (λ n. set (take m xs) j p ++ drop n xs) (sym (zero-add m))
+set-part [] (suc f) m j p h l = absurd (omega arith)
+set-part (x ∷ xs) (suc f) m j p h l =
+    ap (λ n. set (x ∷ xs) n p) (suc-add f j)
+    ∙ ap (λ ys. x ∷ ys) (set-part xs f m j p (omega arith) l)
+    ∙ ap (λ n. (x ∷ (take f xs ++ set (take m (drop f xs)) j p)) ++ drop n (x ∷ xs)) (sym (suc-add f m))
+
+-- the row in which a packet has taken the first free place of station i's
+abbrev pub rowWith : Queues → ℕ → Packet → Queues
+rowWith qs i p =
+    record {
+      lengths = set (qs .lengths) i (getD (qs .lengths) i 0 + 1);
+      packets = set (qs .packets) (16 * i + getD (qs .lengths) i 0) p;
+    }
+
+-- it is the row with the longer queue put back
+pub row-joined :
+    (qs : Queues) (i : ℕ) (p : Packet) → i < 64 → length (qs .packets) ≡ 1024 → queueOf qs i ≡ queueForm (queueAt qs i)
+    → getD (qs .lengths) i 0 < 16 → rowWith qs i p ≡ withQueue qs i (queueForm (queueAt qs i ++ (p ∷ [])))
+row-joined qs i p h row e room =
+    let n = getD (qs .lengths) i 0 in
+    let m = ap (λ (queue : Queue). queue .length) e in
+    let here = set-part (qs .packets) (16 * i) 16 n p (omega arith) room in
+    ap (λ ps. made-row (set (qs .lengths) i (n + 1)) ps) here
+    ∙ ap (withQueue qs i) (form-joined (queueOf qs i) (queueAt qs i) p e (omega arith))
+  where
+    made-row : List ℕ → List Packet → Queues
+    made-row lengths packets = record { lengths = lengths; packets = packets }
+
+-- the state in which a packet of this number has taken the first free place of the station at a place
+abbrev pub joinedAt : State → ℕ → ℕ → ℕ → ℕ → State
+joinedAt s place number value len =
+    record {
+      segment = counted s number .segment;
+      queues = rowWith (s .queues) place (record { number = number; value = value; length = len });
+    }
+
+-- what is given back with this number and this state
+abbrev pub taken : ℕ → State → Admission
+taken number state = record { answer = record { refusal = 0; number = number }; state = state }
+
+-- an arrival that is not refused, at the address of which this is the place
+module _
+    (s : State)
+    (r : Lent s)
+    (place : ℕ)
+    (address : Address)
+    (sought : place ≡ addressPlace s address)
+    (value len : ℕ)
+    (none! : admissionRefusal (meaning s) (arrivalOf address value len) ≡ 0)
+  where
+    here! : place < s .segment .settings .n
+    here! = at-station s r place address sought value len none!
+
+    pub in-row : place < 64
+    in-row = let h = here! in omega (arith, r .few)
+
+    pub room-at : getD (s .queues .lengths) place 0 < 16
+    room-at = room-left s r place address sought value len here! none!
+
+    pub count-left : s .segment .admitted < 4294967295
+    count-left = admission-accepted (meaning s) (arrivalOf address value len) none! .count-left
+
+    pub joined-in-place :
+        (number : ℕ) → number ≡ s .segment .admitted + 1
+        → taken number (joinedAt s place number value len) ≡ admissionResult (codedAdmit s (arrivalOf address value len))
+    joined-in-place number e =
+        let next = e ∙ add-one (s .segment .admitted) in
+        let packet : Packet = record { number = number; value = value; length = len } in
+        let formed = queue-formed s (r .held) (r .zeros) place in-row in
+        ap (λ queues. taken number (record { segment = counted s number .segment; queues = queues }))
+        (row-joined (s .queues) place packet in-row (r .held .packets) formed room-at)
+        ∙ ap₂ taken next (state-joined s r place address sought value len here! number next room-at)
+        ∙ takes-in s r (arrivalOf address value len) none!

@@ -1,25 +1,27 @@
 -- A contention begins: late packets leave the queues, each station takes its place among the contenders, and what becomes of the state.
 -- Assumes nothing.
 use Prim.Native.Nat.{ℕ, zero, suc, _+_, _≤_, _<_}
-use mathlib.Core.Path.{_≡_, refl, sym, ap, _∙_, subst}
-use mathlib.Core.Bool.{Bool, true, false, not, _&&_, cond}
+use mathlib.Core.Path.{_≡_, refl, sym, ap, ap₂, _∙_, subst}
+use mathlib.Core.Bool.{Bool, true, false, not, _&&_, _||_, cond}
 use mathlib.Core.Option.{Option, none, some}
 use mathlib.Core.List.{List, [], _∷_}
+use native.Mathlib.Nat.{add-zero}
 use native.Mathlib.Omega.{arith}
 use lib.Dec.{eqb, ltb}
-use lib.ListN.{length, getD, take, set, replicate, length-take}
-use borrow.Author.Tests.{eqb-true, eqb-false, ltb-true, ltb-false, lt-ltb, le-ltb}
+use lib.ListN.{length, getD, take, set, replicate}
+use borrow.Author.Tests.{eqb-true, eqb-false, ltb-true, ltb-false, lt-ltb, le-ltb, not-true}
 use Rattle.window.specs.Splitting.{firstWindow}
 use Rattle.rules.specs.Lists.{kept, keep, count, total}
-use Rattle.rules.specs.Bus.{Discipline, PRI, RTDG, RTVC, Station, most-admitted, late}
+use Rattle.rules.specs.Bus.{Discipline, PRI, RTDG, RTVC, Offer, Station, Bus, most-admitted, late}
 use Rattle.rules.specs.SetUp.{disciplineOf}
+use Rattle.rules.specs.Standing.{OfferStands}
 use Rattle.rules.specs.Begin.{sits-out, parameterOf, offers, choice, entered, dropsOf, begin}
-use Rattle.rules.proofs.Laws.{and-true, true-and, keep-all, kept-failed, count-le, total-mono}
-use Rattle.bus.specs.State.{Slot, Settings, Listed, Contender, Round, Segment, Queues, State, Packet, noContender, nobody, placesAt, queueAt, offerOf, stationAt, valuesFrom, stationsOf, lastOf, meaning, form, row, queue-padded, contender-padded, no-station}
+use Rattle.rules.proofs.Laws.{and-true, true-and, keep-all, kept-failed, count-le, total-among, total-mono}
+use Rattle.bus.specs.State.{Slot, Settings, Listed, Contender, Contention, Round, Segment, Queues, State, Packet, noContender, nobody, placesAt, queueAt, offerOf, stationAt, valuesFrom, stationsOf, lastOf, contentionOf, meaning, contenderForm, form, row, queue-padded, contender-padded, no-station}
 use Rattle.bus.specs.Parts.{Queue, Begun, Late, queueOf, packetsOf, queueForm, withQueue, stays, chosenForm, parameterFor, contenderOn, contenderFor}
-use Rattle.bus.proofs.Rows.{values-take, values-map, values-same, row-length, row-at, row-replicate, row-same, row-set}
-use Rattle.bus.proofs.Form.{Held, Padded, parts-padded, queue-length, to-form}
-use Rattle.bus.proofs.QueueLaws.{kept-length, packets-of-form, form-padded, form-places, queue-of-with}
+use Rattle.bus.proofs.Rows.{values-take, values-map, values-same, among-values, row-length, row-at, row-ext, row-replicate, row-same, row-set}
+use Rattle.bus.proofs.Form.{Held, Padded, parts-padded, contender-form, queue-length, to-form}
+use Rattle.bus.proofs.QueueLaws.{places-count, kept-length, kept-room, packets-of-form, form-padded, form-places, queue-of-with}
 use Rattle.bus.proofs.Changed.{Lent, few-packets, queue-formed, segmentCounting, recounted}
 
 -- another station is before i + 1 if it is before i
@@ -50,9 +52,38 @@ pub contender-on :
 contender-on g clock round l none = refl
 contender-on g clock round l (some p) = refl
 
+-- it does not if it sits out
+sitting :
+    (g : Settings) (clock : Slot) (round : Round) (l : Listed) (o : Option Packet)
+    → sits-out (disciplineOf (g .discipline)) (lastOf round) (l .capability .0) ≡ true → contenderOn g clock round l o ≡ noContender
+sitting g clock round l none h = refl
+sitting g clock round l (some p) h = rw h
+
 -- the place of station j
 abbrev pub placeFor : Segment → Queues → ℕ → Contender
 placeFor g qs j = contenderFor (g .settings) (g .clock) (g .round) (getD (g .listed) j nobody) (queueAt qs j)
+
+-- with no packet, or where it sits out, it does not contend
+pub nothing-offered :
+    (g : Segment) (qs : Queues) (j : ℕ)
+    → (eqb (getD (qs .lengths) j 0) 0
+    || sits-out (disciplineOf (g .settings .discipline)) (lastOf (g .round)) (getD (g .listed) j nobody .capability .0))
+    ≡ true
+    → placeFor g qs j ≡ noContender
+nothing-offered g qs j = go (eqb (getD (qs .lengths) j 0) 0) refl
+  where
+    l : Listed
+    l = getD (g .listed) j nobody
+
+    go :
+        (t : Bool) → eqb (getD (qs .lengths) j 0) 0 ≡ t
+        → (t || sits-out (disciplineOf (g .settings .discipline)) (lastOf (g .round)) (l .capability .0)) ≡ true
+        → placeFor g qs j ≡ noContender
+    go true e h =
+        ap
+        (λ n. contenderFor (g .settings) (g .clock) (g .round) l (take n (placesAt qs j)))
+        (eqb-true (getD (qs .lengths) j 0) 0 e)
+    go false e h = sitting (g .settings) (g .clock) (g .round) l (choice (disciplineOf (g .settings .discipline)) (queueAt qs j)) h
 
 -- the places of the stations before i; the others do not contend
 abbrev pub placeTo : (ℕ → Contender) → ℕ → ℕ → Contender
@@ -80,6 +111,15 @@ module _ (f : ℕ → Contender) where
           let same = eqb-true j i e in ap f (sym same) ∙ ap (λ t. cond t (f j) noContender) (sym (lt-ltb j (i + 1) (omega arith)))
       place j false e = ap (λ t. cond t (f j) noContender) (before-more j i (eqb-false j i e))
 
+  -- one station more, which does not contend
+  pub places-same : (i : ℕ) → f i ≡ noContender → placesTo f i ≡ placesTo f (i + 1)
+  places-same i still = row-same 64 (placeTo f i) (placeTo f (i + 1)) (λ j l. place j (eqb j i) refl)
+    where
+      place : (j : ℕ) (t : Bool) → eqb j i ≡ t → placeTo f i j ≡ placeTo f (i + 1) j
+      place j true e =
+          let same = eqb-true j i e in rw (le-ltb j i (omega arith), lt-ltb j (i + 1) (omega arith)) (sym (ap f same ∙ still))
+      place j false e = ap (λ t. cond t (f j) noContender) (before-more j i (eqb-false j i e))
+
 -- ---- late packets leave one queue
 
 -- the queue of station j, without the packets that leave, if so
@@ -101,12 +141,8 @@ all-kept f (p ∷ ps) e = go (f p) e (all-kept f ps)
 formed : (queue : Queue) (ps : List Packet) → queue ≡ queueForm ps → queue ≡ queueForm (packetsOf queue)
 formed queue ps e = e ∙ ap queueForm (sym (ap packetsOf e ∙ packets-of-form ps))
 
--- those kept of a queue that has room have room
-kept-room : (f : Packet → Bool) (qs : Queues) (i : ℕ) → getD (qs .lengths) i 0 ≤ 16 → length (keep f (queueAt qs i)) ≤ 16
-kept-room f qs i room = omega (arith, kept-length f (queueAt qs i), length-take (getD (qs .lengths) i 0) (placesAt qs i))
-
 -- where no packet of station i leaves, its queue is as it was
-pub none-leaves :
+none-leaves :
     (f : Packet → Bool) (qs : Queues) (i : ℕ) → i < 64 → ((j : ℕ) → j < 64 → queueOf qs j ≡ queueForm (queueAt qs j))
     → length (keep f (queueAt qs i)) ≡ getD (qs .lengths) i 0
     → (j : ℕ) → j < 64 → queueOf qs j ≡ queueIf (eqb j i) f qs j
@@ -176,6 +212,18 @@ module _ (f : Packet → Bool) (qs : Queues) where
       go true e = formed (queueOf next j) (keep f (queueAt qs j)) e
       go false e = formed (queueOf next j) (queueAt qs j) (e ∙ all j l)
 
+  -- station i's queue still has its places and its room
+  pub left-places :
+      (i : ℕ) (next : Queues) → i < 64 → length (qs .packets) ≡ 1024 → LeftTo f qs i next → length (placesAt next i) ≡ 16
+  left-places i next h row left =
+      ap (λ (queue : Queue). length (queue .packets)) (left-past i next left i h (omega arith)) ∙ places-count qs i h row
+
+  pub left-room :
+      (i : ℕ) (next : Queues) → i < 64 → ((j : ℕ) → j < 64 → getD (qs .lengths) j 0 ≤ 16) → LeftTo f qs i next
+      → getD (next .lengths) i 0 ≤ 16
+  left-room i next h room left =
+      omega (arith, ap (λ (queue : Queue). queue .length) (left-past i next left i h (omega arith)), room i h)
+
   -- one station more
   pub left-more :
       (i : ℕ) (next after : Queues) → i < 64 → LeftTo f qs i next
@@ -194,6 +242,12 @@ module _ (f : Packet → Bool) (qs : Queues) where
           ap (λ ps. queueForm (keep f ps)) (here same)
           ∙ ap (λ t. queueIf t f qs j) (sym (lt-ltb j (i + 1) (omega arith)))
       go false e = left j l ∙ ap (λ t. queueIf t f qs j) (before-more j i (eqb-false j i e))
+
+  -- one station more, none of whose packets leaves
+  pub left-same :
+      (i : ℕ) (next : Queues) → i < 64 → ((j : ℕ) → j < 64 → queueOf qs j ≡ queueForm (queueAt qs j)) → LeftTo f qs i next
+      → length (keep f (queueAt next i)) ≡ getD (next .lengths) i 0 → LeftTo f qs (i + 1) next
+  left-same i next h all left e = left-more i next next h left (none-leaves f next i h (left-formed i next all left) e)
 
 -- ---- a place among the contenders is zero or contends, and its offer is the offer of the rules
 
@@ -235,6 +289,10 @@ module _ (s : State) (i : ℕ) where
 
 -- ---- the state in which a contention has begun
 
+-- the contention that opens
+abbrev pub openingOf : State → Contention
+openingOf s = record { begun = true; window = firstWindow (s .segment .settings .d); tied = false; tie = 0 }
+
 -- the state with the packets that are left, and with so many packets more lost
 abbrev pub begunState : State → Queues → ℕ → State
 begunState s rest drops =
@@ -244,7 +302,7 @@ begunState s rest drops =
           (s .segment)
           (s .segment .admitted)
           (s .segment .lost + drops)
-          (record { begun = true; window = firstWindow (s .segment .settings .d); tied = false; tie = 0 })
+          (openingOf s)
           (placesTo (placeFor (s .segment) rest) (s .segment .settings .n));
       queues = rest;
     }
@@ -441,3 +499,133 @@ module _ (s : State) (r : Lent s) where
             held
             (parts-padded (begunState s rest drops) (begun-padded drops))
             (meaning-begun drops e)
+
+-- ---- no packet leaves
+
+-- the state with nothing but the contention opened
+abbrev pub opened : State → State
+opened s =
+    record {
+      segment = segmentCounting (s .segment) (s .segment .admitted) (s .segment .lost) (openingOf s) (s .segment .contenders);
+      queues = s .queues;
+    }
+
+-- no packets
+none-long : (ps : List Packet) → length ps ≡ 0 → ps ≡ []
+none-long [] e = refl
+none-long (p ∷ ps) e = absurd (omega arith)
+
+-- between contentions a station that stands has no offer
+none-offered : (b : Bus) (x : Station) (o : Option Offer) → OfferStands b x none o → o ≡ none
+none-offered b x none h = refl
+none-offered b x (some o) h = absurd h
+
+module _ (s : State) (r : Lent s) where
+  -- outside RTDG the queues stay as they are
+  pub all-in-time : ¬ (s .segment .settings .discipline ≡ 1) → LeftTo (inTimeAt s) (s .queues) (s .segment .settings .n) (s .queues)
+  all-in-time other =
+      none-late
+      (inTimeAt s)
+      (s .queues)
+      (s .segment .settings .n)
+      (in-time (s .segment .settings .discipline) (s .segment .clock) other)
+      (all-formed s r)
+
+  -- nothing waits, between contentions
+  module _ (between : s .segment .contention .begun ≡ false) (idle : s .segment .sent + s .segment .lost ≡ s .segment .admitted) where
+    none-waits : (j : ℕ) → j < s .segment .settings .n → queueAt (s .queues) j ≡ []
+    none-waits j l =
+        let among = among-values (stationAt s) 0 (s .segment .settings .n) j (omega arith) (omega arith) in
+        none-long
+        (queueAt (s .queues) j)
+        (omega (arith, r .stands .counts, total-among (λ x. length (x .queue)) (meaning s .stations) among))
+
+    -- so the queues stay as they are
+    pub left-idle : LeftTo (inTimeAt s) (s .queues) (s .segment .settings .n) (s .queues)
+    left-idle j l = go (ltb j (s .segment .settings .n)) refl
+      where
+        go : (t : Bool) → ltb j (s .segment .settings .n) ≡ t → queueOf (s .queues) j ≡ queueIf t (inTimeAt s) (s .queues) j
+        go true e =
+            let waits = none-waits j (ltb-true j (s .segment .settings .n) e) in
+            all-formed s r j l ∙ ap queueForm (waits ∙ sym (ap (keep (inTimeAt s)) waits))
+        go false e = refl
+
+    pub none-dropped : dropsOf (meaning s) ≡ 0
+    none-dropped = omega (arith, waiting-dropped s r (s .queues) left-idle (r .held .lengths))
+
+    -- and none contends, before or after
+    none-contends : (j : ℕ) → j < 64 → getD (s .segment .contenders) j noContender ≡ noContender
+    none-contends j l =
+        contender-form (getD (s .segment .contenders) j noContender) (r .zeros .contenders j l)
+        ∙ ap contenderForm (go (ltb j (s .segment .settings .n)) refl)
+      where
+        place : Contender
+        place = getD (s .segment .contenders) j noContender
+
+        begun-by : Bool → Contention
+        begun-by t =
+            record {
+              begun = t;
+              window = s .segment .contention .window;
+              tied = s .segment .contention .tied;
+              tie = s .segment .contention .tie;
+            }
+
+        go : (t : Bool) → ltb j (s .segment .settings .n) ≡ t → offerOf place ≡ none
+        go true e =
+            let here = ltb-true j (s .segment .settings .n) e in
+            let among = among-values (stationAt s) 0 (s .segment .settings .n) j (omega arith) (omega arith) in
+            none-offered
+            (meaning s)
+            (stationAt s j)
+            (offerOf place)
+            (subst
+            (λ t. OfferStands (meaning s) (stationAt s j) (contentionOf (begun-by t)) (offerOf place))
+            between
+            (r .stands .each-station (stationAt s j) among .offered))
+        go false e =
+            let who = getD (s .segment .listed) j nobody in
+            let nothing-there = eqb (who .address .0) 0 && eqb (who .capability .0) 0 && eqb (getD (s .queues .lengths) j 0) 0 in
+            let past = r .zeros .past-N j (ltb-false j (s .segment .settings .n) e) l in
+            let still = not-true (place .contends) (and-true nothing-there (not (place .contends)) past .1) in
+            ap (λ t. cond t (some (record { parameter = place .parameter; packet = place .packet })) none) still
+
+    contenders-still : s .segment .contenders ≡ placesTo (placeFor (s .segment) (s .queues)) (s .segment .settings .n)
+    contenders-still =
+        row-ext
+        64
+        (placeTo (placeFor (s .segment) (s .queues)) (s .segment .settings .n))
+        (s .segment .contenders)
+        noContender
+        (r .held .contenders)
+        (λ j l. none-contends j l ∙ sym (go j (ltb j (s .segment .settings .n)) refl))
+      where
+        go :
+            (j : ℕ) (t : Bool) → ltb j (s .segment .settings .n) ≡ t
+            → cond t (placeFor (s .segment) (s .queues) j) noContender ≡ noContender
+        go j true e =
+            ap
+            (contenderFor (s .segment .settings) (s .segment .clock) (s .segment .round) (getD (s .segment .listed) j nobody))
+            (none-waits j (ltb-true j (s .segment .settings .n) e))
+        go j false e = refl
+
+    -- the state with the opening contention is the state of the rules
+    pub begun-idle :
+        _≡_
+        {A = Begun}
+        (record { state = opened s; drops = 0 })
+        (record { state = form (begin (meaning s)); drops = dropsOf (meaning s) })
+    begun-idle =
+        ap₂ (λ lost contenders. begun-with lost contenders) (sym (add-zero (s .segment .lost))) contenders-still
+        ∙ begun-is s r (s .queues) left-idle 0 (sym none-dropped) (r .held .lengths) (r .held .packets)
+      where
+        begun-with : ℕ → List Contender → Begun
+        begun-with lost contenders =
+            record {
+              state =
+                  record {
+                    segment = segmentCounting (s .segment) (s .segment .admitted) lost (openingOf s) contenders;
+                    queues = s .queues;
+                  };
+              drops = 0;
+            }

@@ -21,9 +21,9 @@ use Rattle.rules.specs.Standing.{OfferStands, StationStands, WindowStands, Cont
 use Rattle.rules.specs.Probe as Probe
 use Rattle.rules.specs.Probe.{contending, contenders, transmits, transmitters, phaseOf, tie-phase, parameter-phase, idle, collision, success, answered, unsent, sentBy, goesOn, withdrawn, unwon, left, lastWinner, tiedAt, split, heard, probe}
 use Rattle.rules.proofs.Laws.{and-true, true-and, count-some, count-le, total-among}
-use Rattle.bus.specs.State.{Packet, Address, Capability, Contention, Round, Queues, State, noContender, noRound, noContention, nobody, queueAt, offerOf, stationWith, stationAt, valuesFrom, stationsOf, lastOf, tieOf, contentionOf, meaning, form, contender-padded, no-station, round-padded, no-window, contention-padded}
+use Rattle.bus.specs.State.{Packet, Address, Capability, Listed, Contention, Round, Segment, Queues, State, noPacket, noContender, noRound, noContention, nobody, queueAt, offerOf, stationWith, stationAt, valuesFrom, stationsOf, lastOf, tieOf, contentionOf, meaning, form, contender-padded, no-station, round-padded, no-window, contention-padded}
 use Rattle.bus.specs.Coded.{Stepped, answerForm, stepResult}
-use Rattle.bus.specs.Parts.{Probed, Sent, stays, queueForm, withQueue, firstPlace, noContenders, contenderAt, transmitsAt, nextTransmitter, openOf, answerTo, segmentWith, onward, splitBy, splitAt, collidedAt, unheardAt, roundAfter, wonAt, probed}
+use Rattle.bus.specs.Parts.{Probed, Heard, Progress, Moved, Sent, stays, queueForm, withQueue, firstPlace, noContenders, contenderAt, transmitsAt, nextTransmitter, openOf, progressOf, answerAt, splitOf, collidedOn, unheardOn, roundAfter, wonOn, movedBy, segmentWith, probedWith, probed}
 use Rattle.bus.proofs.Rows.{values-map, values-same, row-length, row-at, among-values, first-place-le}
 use Rattle.bus.proofs.Form.{Held, Padded, parts-padded, to-form}
 use Rattle.bus.proofs.QueueLaws.{kept-length}
@@ -119,9 +119,15 @@ moved b stations clock sent last contention =
 
 -- ---- the contention goes on
 
+-- the state one slot later, with another contention
+abbrev onward : State → Contention → State
+onward s c =
+    let g = s .segment in
+    record { segment = segmentWith g (g .clock .0 + 1) (g .sent) (g .round) c (g .contenders); queues = s .queues }
+
 goes-on :
     (s : State) → Lent s → (c : Contention) (m : Machine.Contention) → contention-padded c ≡ true → contentionOf c ≡ some m
-    → record { segment = onward (s .segment) c; queues = s .queues } ≡ form (goesOn (meaning s) m)
+    → onward s c ≡ form (goesOn (meaning s) m)
 goes-on s r c m z e =
     to-form
     next
@@ -146,14 +152,18 @@ goes-on s r c m z e =
     p = r .zeros
 
     next : State
-    next = record { segment = onward (s .segment) c; queues = s .queues }
+    next = onward s c
 
 module _ (s : State) where
   abbrev now : Contention
   now = s .segment .contention
 
-  -- what a collision makes of the contention is what the machine makes of it
-  split-is : contentionOf (splitAt (s .segment)) ≡ some (split (meaning s) (under-way s))
+  -- what a collision makes of the contention
+  abbrev splitNow : Contention
+  splitNow = splitOf (s .segment .settings .a) now (leb 2 (now .window .size)) (now .tied)
+
+  -- is what the machine makes of it
+  split-is : contentionOf splitNow ≡ some (split (meaning s) (under-way s))
   split-is = go (leb 2 (now .window .size)) (now .tied)
     where
       tie-value : Bool → Option ℕ
@@ -161,7 +171,7 @@ module _ (s : State) where
 
       go :
           (large tied : Bool)
-          → contentionOf (splitBy (s .segment) large tied)
+          → contentionOf (splitOf (s .segment .settings .a) now large tied)
           ≡ some
           (cond
           large
@@ -175,10 +185,10 @@ module _ (s : State) where
   tie-padded : Lent s → (now .tied || eqb (now .tie) 0) ≡ true
   tie-padded r = and-true (now .begun || (no-window (now .window) && not (now .tied))) (now .tied || eqb (now .tie) 0) (r .zeros .contention) .1
 
-  split-padded : Lent s → contention-padded (splitAt (s .segment)) ≡ true
+  split-padded : Lent s → contention-padded splitNow ≡ true
   split-padded r = go (leb 2 (now .window .size))
     where
-      go : (large : Bool) → contention-padded (splitBy (s .segment) large (now .tied)) ≡ true
+      go : (large : Bool) → contention-padded (splitOf (s .segment .settings .a) now large (now .tied)) ≡ true
       go true = tie-padded r
       go false = refl
 
@@ -364,7 +374,7 @@ phase-is c = go (c .tied)
 
 answer-is :
     (s : State) (drops event : ℕ) (address : Address) (number length ended : ℕ)
-    → answerTo (s .segment) drops event address number length (not (eqb ended 0))
+    → answerAt (progressOf (s .segment)) drops event address number length (not (eqb ended 0))
     ≡ answerForm (answered (openOf s drops) event (address .0) number length ended)
 answer-is s drops event address number length ended =
     λ i.
@@ -382,18 +392,61 @@ answer-is s drops event address number length ended =
       ended = not (eqb ended 0);
     }
 
+-- who transmits, by whether one does
+abbrev pub heardWhere : Segment → Bool → Heard
+heardWhere g silent =
+    let k = nextTransmitter g 0 in
+    cond
+    silent
+    (record { first = k; second = g .settings .n; listed = nobody; packet = noPacket })
+    (record { first = k; second = nextTransmitter g (suc k); listed = getD (g .listed) k nobody; packet = contenderAt g k .packet })
+
+module _ (s : State) (drops : ℕ) where
+  abbrev progress : Progress
+  progress = progressOf (s .segment)
+
+  -- what is moved where one transmits, and where two or more do
+  abbrev one : Listed → Packet → Moved
+  one = wonOn (meaning s .discipline) progress drops
+
+  abbrev two : Moved
+  two = collidedOn (s .segment .settings .a) progress drops
+
+  -- what is probed, by whether nobody transmits, or one alone
+  abbrev probedWhere : Bool → Bool → Side → Probed
+  probedWhere silent alone side =
+      probedWith
+      (s .segment)
+      (cond
+      silent
+      (unheardOn progress drops side)
+      (cond alone (one (getD (s .segment .listed) (first s) nobody) (contenderAt (s .segment) (first s) .packet)) two))
+      (first s)
+
+  abbrev its-side : Side
+  its-side = s .segment .contention .window .side
+
+  probed-where : probed (s .segment) drops ≡ probedWhere (eqb (first s) (n s)) (eqb (second s) (n s)) its-side
+  probed-where = go (eqb (first s) (n s)) refl
+    where
+      go :
+          (silent : Bool) → eqb (first s) (n s) ≡ silent
+          → (let h = heardWhere (s .segment) silent in probedWith (s .segment) (movedBy (s .segment .settings) progress drops h) (h .first))
+          ≡ probedWhere silent (eqb (second s) (n s)) its-side
+      go true e =
+          let other = cond (eqb (n s) (n s)) (one nobody noPacket) two in
+          ap (λ t. probedWith (s .segment) (cond t (unheardOn progress drops its-side) other) (first s)) e
+      go false e = ap (λ t. probedWhere t (eqb (second s) (n s)) its-side) e
+
 -- the winner is a station, and 0 stands for none
 pub winner-there : (s : State) → Lent s → (drops : ℕ) (p : Probed) → p ≡ probed (s .segment) drops → p .winner < most-stations
 winner-there s r drops p is =
     subst
     (λ (q : Probed). q .winner < most-stations)
-    (sym is)
-    (go (eqb (first s) (n s)) refl (eqb (second s) (n s)) (s .segment .contention .window .side))
+    (sym (is ∙ probed-where s drops))
+    (go (eqb (first s) (n s)) refl (eqb (second s) (n s)) (its-side s drops))
   where
-    go :
-        (t : Bool) → eqb (first s) (n s) ≡ t → (u : Bool) (side : Side)
-        → cond t (unheardAt (s .segment) drops side) (cond u (wonAt (s .segment) drops (first s)) (collidedAt (s .segment) drops)) .winner
-        < most-stations
+    go : (t : Bool) → eqb (first s) (n s) ≡ t → (u : Bool) (side : Side) → probedWhere s drops t u side .winner < most-stations
     go true e u Left = omega arith
     go true e u Right = omega arith
     go false e true side = omega (arith, first-there s e, r .few)
@@ -440,7 +493,7 @@ module _ (s : State) (r : Lent s) (begun : s .segment .contention .begun ≡ tru
         omega (arith, r .stands .counts, r .stands .admitted-in)
 
   module _ (drops : ℕ) where
-    unheard-is : (side : Side) → slotOf s (unheardAt (s .segment) drops side) ≡ stepped (Probe.unheard (openOf s drops) side)
+    unheard-is : (side : Side) → slotOf s (probedWhere s drops true false side) ≡ stepped (Probe.unheard (openOf s drops) side)
     unheard-is Left =
         let c = now s in
         λ i.
@@ -464,31 +517,31 @@ module _ (s : State) (r : Lent s) (begun : s .segment .contention .begun ≡ tru
         }
 
     collided-is :
-        slotOf s (collidedAt (s .segment) drops)
+        slotOf s (probedWhere s drops false false (its-side s drops))
         ≡ stepped (unsent (openOf s drops) collision 0, goesOn (meaning s) (split (meaning s) (under-way s)))
     collided-is =
         λ i.
         record {
           answer = answer-is s drops collision (record { 0 = 0 }) 0 0 0 i;
-          state = goes-on s r (splitAt (s .segment)) (split (meaning s) (under-way s)) (split-padded s r) (split-is s) i;
+          state = goes-on s r (splitNow s) (split (meaning s) (under-way s)) (split-padded s r) (split-is s) i;
         }
 
     sent-is :
-        (j : ℕ) → j < n s
-        → slotOf s (wonAt (s .segment) drops j)
-        ≡ stepped (sentBy (openOf s drops) (contenderAt (s .segment) j), Probe.won (meaning s) (contenderAt (s .segment) j))
-    sent-is j l =
-        let x = contenderAt (s .segment) j in
+        first s < n s
+        → slotOf s (probedWhere s drops false true (its-side s drops))
+        ≡ stepped (sentBy (openOf s drops) (contenderAt (s .segment) (first s)), Probe.won (meaning s) (contenderAt (s .segment) (first s)))
+    sent-is l =
+        let x = contenderAt (s .segment) (first s) in
         λ i.
         record {
-          answer = answer-is s drops success (getD (s .segment .listed) j nobody .address) (x .packet .number) (x .packet .length) 1 i;
-          state = won-is s r j l i;
+          answer = answer-is s drops success (getD (s .segment .listed) (first s) nobody .address) (x .packet .number) (x .packet .length) 1 i;
+          state = won-is s r (first s) l i;
         }
 
     -- by the first and the second station that transmit
     pub probed-is : (p : Probed) → p ≡ probed (s .segment) drops → slotOf s p ≡ stepped (probe (openOf s drops))
     probed-is p is =
-        ap (slotOf s) is
+        ap (slotOf s) (is ∙ probed-where s drops)
         ∙ none-or-more (eqb (first s) (n s)) refl (eqb (second s) (n s)) refl
         ∙ sym (ap (λ xs. stepped (heard (openOf s drops) xs)) (all-heard s))
       where
@@ -501,21 +554,16 @@ module _ (s : State) (r : Lent s) (begun : s .segment .contention .begun ≡ tru
 
         one-or-more :
             (u : Bool) → first s < n s
-            → slotOf s (cond u (wonAt (s .segment) drops (first s)) (collidedAt (s .segment) drops))
+            → slotOf s (probedWhere s drops false u (its-side s drops))
             ≡ stepped (heard (openOf s drops) (x ∷ cond u [] (contenderAt (s .segment) (second s) ∷ more)))
-        one-or-more true l = sent-is (first s) l
+        one-or-more true l = sent-is l
         one-or-more false l = collided-is
 
         none-or-more :
             (t : Bool) → eqb (first s) (n s) ≡ t → (u : Bool) → eqb (second s) (n s) ≡ u
-            → slotOf
-            s
-            (cond
-            t
-            (unheardAt (s .segment) drops (s .segment .contention .window .side))
-            (cond u (wonAt (s .segment) drops (first s)) (collidedAt (s .segment) drops)))
+            → slotOf s (probedWhere s drops t u (its-side s drops))
             ≡ stepped (heard (openOf s drops) (cond t [] (x ∷ heardFrom s (suc (first s)) (n s - suc (first s)))))
-        none-or-more true e u f = unheard-is (s .segment .contention .window .side)
+        none-or-more true e u f = unheard-is (its-side s drops)
         none-or-more false e u f =
             let l = first-there s e in
             one-or-more u l

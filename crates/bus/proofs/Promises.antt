@@ -1,10 +1,12 @@
 -- What is proved of the code, in one place. The contracts of src/lib.rt cite `codedSetUp`, `codedAdmit`, `codedStep` and `totalsOf`
--- (specs/Coded.antt); each function is proved to meet its contract, and here stands what those functions are worth. What the words mean is
--- in specs/ here and in the crate rules; docs/PROMISES.md says which sentence each theorem answers. Assumes nothing.
+-- (specs/Coded.antt), and that of `play` cites `stretchOf` (specs/Stretch.antt), which is made of them; each function is proved to meet
+-- its contract, and here stands what those functions are worth. What the words mean is in specs/ here and in the crate rules;
+-- docs/PROMISES.md says which sentence each theorem answers. Assumes nothing.
+use Prim.Native.Nat.{ℕ, _≤_}
 use mathlib.Core.Path.{_≡_}
 use mathlib.Core.Logic.{_↔_}
-use mathlib.Core.Bool.{false}
-use mathlib.Core.List.{List}
+use mathlib.Core.Bool.{Bool, false}
+use mathlib.Core.List.{List, [], _++_}
 use Rattle.rules.specs.Bus.{nothing}
 use Rattle.rules.specs.Standing.{Standing}
 use Rattle.rules.specs.SetUp.{Request}
@@ -16,6 +18,9 @@ use Rattle.rules.proofs.Tests.{Whether}
 use Rattle.bus.specs.State.{State, meaning, form}
 use Rattle.bus.specs.Coded.{standing, codedSetUp, codedAdmit, codedStep, coded, answerForm, answerOf}
 use Rattle.bus.proofs.Form.{Held}
+use Rattle.bus.specs.Stretch.{course, stepReports, afterSteps}
+use Rattle.bus.specs.Stretch.{Arrival as Timed}
+use Rattle.bus.proofs.SingleCalls.{Called, called, still-reached, steps-alone}
 use Rattle.bus.proofs.Coded as Coded
 
 -- ---- demand 2, and what follows from it: the winner is least, events and counts are true, probes are bounded, and demand 3
@@ -63,3 +68,23 @@ caught = Coded.caught
 -- an answer in the code's sorts says all that the engine's answer says
 pub answer-read : (s : State) → answerOf (answerForm (codedStep s .0)) ≡ codedStep s .0
 answer-read = Coded.answer-read
+
+-- ---- a stretch, from any state: single calls, one after the other. `Called s c` has the calls of the course c from s, with what they
+-- hand back and reply.
+
+pub stretch-called :
+    (calls : ℕ) (s : State) (arrivals : List Timed) (more : Bool) (left : ℕ) → Called s (course calls s arrivals more left)
+stretch-called = called
+
+-- from a state that calls have reached it comes to a state that calls reach
+pub stretch-reached :
+    (r : Request) (calls : List Call) (n : ℕ) (arrivals : List Timed) (more : Bool) (left : ℕ)
+    → course n (reach coded r calls) arrivals more left .state
+    ≡ reach coded r (calls ++ called n (reach coded r calls) arrivals more left .calls)
+stretch-reached = still-reached
+
+-- where no arrival comes it is that many steps
+pub stretch-steps :
+    (calls steps : ℕ) (s : State) → steps ≤ calls
+    → course calls s [] false steps ≡ record { reports = stepReports steps s; taken = 0; left = 0; state = afterSteps steps s }
+stretch-steps = steps-alone

@@ -3,7 +3,7 @@
 use Prim.Native.Nat.{ℕ, zero, suc, _+_, _-_, _*_, _≤_, _<_}
 use mathlib.Core.Path.{_≡_, refl, sym, ap, ap₂, _∙_}
 use mathlib.Core.Bool.{Bool, true, false, _&&_, cond}
-use mathlib.Core.List.{List, [], _∷_, _++_, append-assoc}
+use mathlib.Core.List.{List, [], _∷_, _++_, append-assoc, append-nil}
 use native.Mathlib.Numerals.{add-one}
 use native.Mathlib.Omega.{arith}
 use mir.Val.{Val}
@@ -16,7 +16,7 @@ use lib.Seq.{length-take-le, take-all, take-suc, take-at, drop-at, set-at, getD-
 use lib.Seq.{take-append-seam, drop-append-seam, take-append-le, drop-append-le, drop-append-add, append-snoc, paste, paste-suc}
 use Rattle.rules.specs.Lists.{kept, keep, each-of}
 use Rattle.rules.proofs.Laws.{and-true, true-and, length-keep, count-le}
-use Rattle.bus.specs.State.{Queues, Packet, noPacket, placesAt, no-packet, queue-padded}
+use Rattle.bus.specs.State.{Queues, Packet, noPacket, placesAt, queueAt, no-packet, queue-padded}
 use Rattle.bus.specs.Parts.{Queue, queueOf, withQueue, packetsOf, queueForm}
 use Rattle.bus.proofs.Queues as queues
 use Rattle.bus.proofs.Queue as queue
@@ -55,6 +55,22 @@ pub copied-all :
 copied-all d at s j n e done h =
     e ∙ ap (λ k. paste d at s k) done ∙ ap (λ t. take at d ++ t ++ drop (at + n) d) (take-all n s (omega arith))
 
+-- station i's places taken out of the row: one place more
+pub taken-one :
+    (qs : Queues) (i j : ℕ) {places : List Packet} → i < 64 → length (qs .packets) ≡ 1024 → j < 16
+    → places ≡ paste (replicate 16 noPacket) 0 (placesAt qs i) j
+    → set places j (getD (qs .packets) (16 * i + j) noPacket) ≡ paste (replicate 16 noPacket) 0 (placesAt qs i) (j + 1)
+taken-one qs i j here row h e =
+    let n = places-count qs i here row in
+    copied-one (replicate 16 noPacket) 0 (placesAt qs i) j e (sym (place-at qs i j h)) (omega arith) (omega arith) (omega arith)
+
+-- all of them
+pub taken-all :
+    (qs : Queues) (i j : ℕ) {places : List Packet} → i < 64 → length (qs .packets) ≡ 1024 → j ≡ 16
+    → places ≡ paste (replicate 16 noPacket) 0 (placesAt qs i) j → places ≡ placesAt qs i
+taken-all qs i j here row done e =
+    copied-all (replicate 16 noPacket) 0 (placesAt qs i) j 16 e done (places-count qs i here row) ∙ append-nil (placesAt qs i)
+
 -- ---- queues by their packets
 
 -- the queue of these places and this length
@@ -87,9 +103,30 @@ pub kept-one :
     → keep f (take (j + 1) ps) ≡ keep f (take j ps) ++ kept (f (getD ps j noPacket)) (getD ps j noPacket) []
 kept-one f ps j h = rw (add-one, take-suc ps j noPacket h) (keep-append f (take j ps) (getD ps j noPacket ∷ []))
 
+-- how many are kept of one place more of station i's
+pub kept-count :
+    (f : Packet → Bool) (qs : Queues) (i j : ℕ) → length (placesAt qs i) ≡ 16 → j < 16 → (t : Bool) (n : ℕ)
+    → f (getD (qs .packets) (16 * i + j) noPacket) ≡ t → n ≡ length (keep f (take j (placesAt qs i)))
+    → cond t (n + 1) n ≡ length (keep f (take (j + 1) (placesAt qs i)))
+kept-count f qs i j full h t n e before = go t (ap f (place-at qs i j h) ∙ e)
+  where
+    p : Packet
+    p = getD (placesAt qs i) j noPacket
+
+    one : length (keep f (take (j + 1) (placesAt qs i))) ≡ length (keep f (take j (placesAt qs i))) + length (kept (f p) p [])
+    one = ap length (kept-one f (placesAt qs i) j (omega arith)) ∙ length-append (keep f (take j (placesAt qs i))) (kept (f p) p [])
+
+    go : (u : Bool) → f p ≡ u → cond u (n + 1) n ≡ length (keep f (take (j + 1) (placesAt qs i)))
+    go true k = omega (arith, one, ap (λ u. length (kept u p [])) k)
+    go false k = omega (arith, one, ap (λ u. length (kept u p [])) k)
+
 -- no more are kept than were there
 pub kept-length : (f : Packet → Bool) (ps : List Packet) → length (keep f ps) ≤ length ps
 kept-length f ps = omega (arith, length-keep f ps, count-le f ps)
+
+-- those kept of a queue that has room have room
+pub kept-room : (f : Packet → Bool) (qs : Queues) (i : ℕ) → getD (qs .lengths) i 0 ≤ 16 → length (keep f (queueAt qs i)) ≤ 16
+kept-room f qs i room = omega (arith, kept-length f (queueAt qs i), length-take (getD (qs .lengths) i 0) (placesAt qs i))
 
 pub packets-of-form : (ps : List Packet) → packetsOf (queueForm ps) ≡ ps
 packets-of-form ps = take-append-seam ps (replicate (16 - length ps) noPacket)

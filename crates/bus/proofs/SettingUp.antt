@@ -3,7 +3,7 @@
 use Prim.Native.Nat.{ℕ, zero, suc, _+_, _/_, _%_, _≤_, _<_, min}
 use mathlib.Core.Path.{_≡_, refl, sym, ap, ap₂, _∙_}
 use mathlib.Core.Logic.{inl, inr}
-use mathlib.Core.Bool.{Bool, true, false, not, _||_, cond}
+use mathlib.Core.Bool.{Bool, true, false, not, _||_, cond, or-assoc, or-false}
 use mathlib.Core.List.{List, [], _∷_, _++_, map, map-append}
 use native.Mathlib.Numerals.{add-one}
 use native.Mathlib.Omega.{arith}
@@ -52,21 +52,30 @@ stations-count stations vs owned = owned .1 .0 .1
 abbrev pub sharedFrom : Compared → List Listed → ℕ → ℕ → Bool
 sharedFrom compared stations i e = shared compared (getD stations i nobody) (slice e i stations)
 
--- one turn of the search for it; t is whether station e has it
+-- one turn of the search for it; b is whether one before e has it, t whether one up to e has
 pub earlier-turn :
-    (compared : Compared) (stations : List Listed) (i e : ℕ) (t : Bool) → length stations ≡ 64 → e < i → i < 64
-    → t ≡ eqb (numberOf compared (askedOf (getD stations i nobody))) (numberOf compared (askedOf (getD stations e nobody)))
-    → sharedFrom compared stations i e ≡ (t || sharedFrom compared stations i (e + 1))
-earlier-turn compared stations i e t count h l same =
-    ap (shared compared (getD stations i nobody)) (slice-cons e i stations nobody h (omega arith))
-    ∙ ap₂ (λ b k. b || sharedFrom compared stations i k) (sym same) (sym (add-one e))
+    (compared : Compared) (stations : List Listed) (i e : ℕ) (b t : Bool) → length stations ≡ 64 → e < i → i < 64
+    → t ≡ (b || eqb (numberOf compared (askedOf (getD stations i nobody))) (numberOf compared (askedOf (getD stations e nobody))))
+    → sharedFrom compared stations i 0 ≡ (b || sharedFrom compared stations i e)
+    → sharedFrom compared stations i 0 ≡ (t || sharedFrom compared stations i (e + 1))
+earlier-turn compared stations i e b t count h l same so-far =
+    let has-it = eqb (numberOf compared (askedOf (getD stations i nobody))) (numberOf compared (askedOf (getD stations e nobody))) in
+    so-far
+    ∙ ap (λ xs. b || shared compared (getD stations i nobody) xs) (slice-cons e i stations nobody h (omega arith))
+    ∙ sym (or-assoc b has-it (sharedFrom compared stations i (suc e)))
+    ∙ ap₂ (λ x k. x || sharedFrom compared stations i k) (sym same) (sym (add-one e))
 
 -- and its end
 pub earlier-end :
-    (compared : Compared) (stations : List Listed) (i e : ℕ) → e ≤ i → i ≤ e → sharedFrom compared stations i e ≡ false
-earlier-end compared stations i e h l =
+    (compared : Compared) (stations : List Listed) (i e : ℕ) (b : Bool) → e ≤ i → i ≤ e
+    → sharedFrom compared stations i 0 ≡ (b || sharedFrom compared stations i e) → b ≡ sharedFrom compared stations i 0
+earlier-end compared stations i e b h l so-far =
     let s : e ≡ i = omega arith in
-    ap (sharedFrom compared stations i) s ∙ ap (shared compared (getD stations i nobody)) (slice-empty i stations)
+    sym
+    (so-far
+    ∙ ap (λ k. b || sharedFrom compared stations i k) s
+    ∙ ap (λ xs. b || shared compared (getD stations i nobody) xs) (slice-empty i stations)
+    ∙ or-false b)
 
 -- ---- tests in turn
 

@@ -4,7 +4,7 @@ use Prim.Native.Nat.{ℕ, zero, suc, _+_, _-_, _*_, _≤_, _<_}
 use mathlib.Core.Path.{_≡_, refl, sym, ap, ap₂, _∙_}
 use mathlib.Core.Bool.{Bool, true, false, not, _&&_, _||_, cond, and-true as and-last-true, and-false, and-assoc, and-comm}
 use mathlib.Core.Option.{none, some}
-use mathlib.Core.List.{List, [], _∷_, _++_, map}
+use mathlib.Core.List.{List, _++_, map}
 use native.Mathlib.Nat.{zero-add, add-zero, suc-add, add-suc}
 use native.Mathlib.Omega.{arith}
 use mir.Val.{Val}
@@ -12,17 +12,17 @@ use denote.Laws.{Is}
 use lib.Dec.{leb, ltb, eqb}
 use lib.ListN.{length, getD, take, drop, length-take, length-map}
 use lib.Seq.{length-take-le}
-use borrow.Author.Tests.{eqb-true, leb-true, ltb-true, le-leb, lt-ltb, le-ltb, eq-eqb, ne-eqb}
+use borrow.Author.Tests.{eqb-true, leb-true, le-leb, lt-ltb, le-ltb, eq-eqb, ne-eqb}
 use Rattle.window.specs.Splitting.{placed}
 use Rattle.rules.specs.Lists.{each-of, some-of, total, distinct}
 use Rattle.rules.specs.Bus as Machine
 use Rattle.rules.specs.Bus.{places, most-stations, clock-end, most-admitted, Discipline, PRI, RTDG, RTVC, waiting, numbers, numbersIn}
 use Rattle.rules.specs.SetUp.{Request, disciplineOf, setUpVerdict}
-use Rattle.rules.specs.Standing.{value-fits, length-fits, rising, Rising, same-packet, parameter-fits, offer-stands, station-stands, last-stands, contention-stands, stands, askedFor, Standing}
+use Rattle.rules.specs.Standing.{value-fits, length-fits, rising, same-packet, parameter-fits, offer-stands, station-stands, last-stands, contention-stands, stands, askedFor, Standing}
 use Rattle.rules.proofs.Laws.{clash, and-true, true-and}
 use Rattle.rules.proofs.Tests.{Whether, holds, fails}
 use Rattle.rules.proofs.Standing.{stands-exactly}
-use Rattle.bus.specs.State.{Packet, Contender, Contention, Segment, Queues, State, noContender, nobody, placesAt, queueAt, stationAt, stationsOf, valuesFrom, tieOf, meaning, no-packet, queue-padded, contender-padded, station-padded, no-station, each-place, round-padded, contention-padded, padded}
+use Rattle.bus.specs.State.{Contender, Contention, Segment, Queues, State, noContender, nobody, placesAt, queueAt, stationAt, stationsOf, valuesFrom, tieOf, meaning, no-packet, queue-padded, contender-padded, station-padded, no-station, each-place, round-padded, contention-padded, padded}
 use Rattle.bus.specs.Coded.{standing, askedOf, requestWith}
 use Rattle.bus.specs.Parts.{parameterFits, contenderSound, stationSound, nobodyAt, placeSound, numbersFrom, queuesSound, roundSound, contentionSound}
 use Rattle.bus.proofs.State as state
@@ -457,29 +457,16 @@ module _
     (i : ℕ)
     (here : i < g .settings .n)
   where
-    sound-queue : (leb (getD (qs .lengths) i 0) places ≡ true) × (rising 0 (g .admitted) (queueAt qs i) ≡ true)
-    sound-queue =
+    pub sound-room : getD (qs .lengths) i 0 ≤ places
+    sound-room =
         let k = getD (qs .lengths) i 0 in
         let zeros = each-of no-packet (drop k (placesAt qs i)) in
-        let rises = rising 0 (g .admitted) (queueAt qs i) in
         let place = each-place-all (placeSound g qs) 0 most-stations sound i (omega arith) (omega arith) in
         let station = ap (λ t. cond t (stationSound g qs i) (nobodyAt g qs i)) (sym (lt-ltb i (g .settings .n) here)) ∙ place in
-        let three = and-true (leb k places && zeros && rises && _) _ station in
-        let two = and-true (leb k places && zeros && rises) _ (three .0) in
-        let both = and-true (leb k places && zeros) rises (two .0) in
-        (and-true (leb k places) zeros (both .0) .0, both .1)
-
-    pub sound-room : getD (qs .lengths) i 0 ≤ places
-    sound-room = leb-true (getD (qs .lengths) i 0) places (sound-queue .0)
-
-    pub sound-rises : Rising 0 (g .admitted) (queueAt qs i)
-    sound-rises = rises 0 (queueAt qs i) (sound-queue .1)
-      where
-        rises : (before : ℕ) (queue : List Packet) → rising before (g .admitted) queue ≡ true → Rising before (g .admitted) queue
-        rises before [] h = leb-true before (g .admitted) h
-        rises before (p ∷ queue) h =
-            let both = and-true (ltb before (p .number)) (rising (p .number) (g .admitted) queue) h in
-            (ltb-true before (p .number) (both .0), rises (p .number) queue (both .1))
+        let three = and-true (leb k places && zeros && _ && _) _ station in
+        let two = and-true (leb k places && zeros && _) _ (three .0) in
+        let both = and-true (leb k places && zeros) _ (two .0) in
+        leb-true k places (and-true (leb k places) zeros (both .0) .0)
 
 -- the tests of the code after the set-up: from the admitted count on, from the round on, from the contention on
 abbrev pub from-contention : State → Bool

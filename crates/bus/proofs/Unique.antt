@@ -5,6 +5,7 @@ use Rattle.window.proofs.Unique.{unique}
 use Rattle.rules.specs.Bus.{nothing}
 use Rattle.bus.specs.State.{State, Settings, Address, form}
 use Rattle.bus.specs.Coded.{Row, SetUp, Admission, Stepped, Totals, settingsRefusal, requestOf, arrivalOf, codedSetUp, codedAdmit, codedStep, setUpResult, admissionResult, stepResult, totalsOf}
+use Rattle.bus.specs.Stretch.{Arrivals, Stretch, stretchOf, stretchForm}
 
 pub all-zero-unique : (r r′ : State) → r ≡ form nothing → r′ ≡ form nothing → r ≡ r′
 all-zero-unique r r′ = unique
@@ -26,6 +27,11 @@ admit-unique s address value length r r′ = unique
 
 pub step-unique : (s : State) (r r′ : Stepped) → r ≡ stepResult (codedStep s) → r′ ≡ stepResult (codedStep s) → r ≡ r′
 step-unique s r r′ = unique
+
+pub play-unique :
+    (s : State) (arrivals : Arrivals) (steps : ℕ) (r r′ : Stretch) → r ≡ stretchForm (stretchOf s arrivals steps)
+    → r′ ≡ stretchForm (stretchOf s arrivals steps) → r ≡ r′
+play-unique s arrivals steps r r′ = unique
 
 pub closing-unique : (s : State) (r r′ : Totals) → r ≡ totalsOf s → r′ ≡ totalsOf s → r ≡ r′
 closing-unique s r r′ = unique

@@ -1,4 +1,5 @@
 -- The modules of the definitions. Assumes nothing.
 pub mod State
 pub mod Coded
+pub mod Stretch
 pub mod Parts

@@ -1,15 +1,17 @@
 -- The parts that the code is made of, as functions: what the contracts of the private functions cite. Assumes nothing.
-use Prim.Native.Nat.{ℕ, zero, suc, _+_, _-_, _*_, _/_, min}
+use Prim.Native.Nat.{ℕ, zero, suc, _+_, _-_, _*_, _/_, _%_, _≤_, _<_, min}
+use mathlib.Core.Path.{_≡_}
+use mathlib.Core.Logic.{_≢_}
 use mathlib.Core.Bool.{Bool, true, false, not, _&&_, _||_, cond}
 use mathlib.Core.Option.{Option, none, some}
-use mathlib.Core.List.{List, [], _++_, map}
+use mathlib.Core.List.{List, [], _∷_, _++_, map}
 use lib.Dec.{leb, ltb, eqb}
 use lib.ListN.{length, getD, take, drop, set, replicate}
 use Rattle.window.specs.declared.Side.{Side}
 use Rattle.window.specs.declared.Side.the-variants.{Left, Right}
 use Rattle.window.specs.Splitting.{firstWindow, leftHalf, movedRight, placed}
-use Rattle.rules.specs.Lists.{each-of, some-of, has, total, distinct}
-use Rattle.rules.specs.Bus.{places, Discipline, PRI, RTDG, RTVC, late, numbersIn}
+use Rattle.rules.specs.Lists.{firstOf, each-of, some-of, has, total, distinct}
+use Rattle.rules.specs.Bus.{places, most-admitted, Discipline, PRI, RTDG, RTVC, late, numbersIn}
 use Rattle.rules.specs.SetUp.{Asked, disciplineOf}
 use Rattle.rules.specs.Standing.{value-fits, length-fits, rising, same-packet}
 use Rattle.rules.specs.Begin.{sits-out, choice}
@@ -26,6 +28,9 @@ pub use Rattle.bus.specs.declared.Compared.the-variants.{Addresses, Capa
 pub use Rattle.bus.specs.declared.Chosen.{Chosen}
 pub use Rattle.bus.specs.declared.Begun.{Begun}
 pub use Rattle.bus.specs.declared.Probed.{Probed}
+pub use Rattle.bus.specs.declared.Heard.{Heard}
+pub use Rattle.bus.specs.declared.Progress.{Progress}
+pub use Rattle.bus.specs.declared.Moved.{Moved}
 
 -- ---- the disciplines
 
@@ -121,6 +126,21 @@ abbrev pub addressPlace : State → Address → ℕ
 addressPlace s address =
     firstPlace (λ i. eqb (address .0) (getD (s .segment .listed) i nobody .address .0)) 0 (s .segment .settings .n)
 
+-- 11 to 16 of the table for a packet at a station's place, or N where no station has the address, of the numbers that they read
+abbrev pub refusalTests : Settings → Slot → ℕ → List ℕ → ℕ → ℕ → ℕ → List (ℕ × Bool)
+refusalTests g clock admitted lengths place value len =
+    (11, leb (g .n) place)
+    ∷ (12, not (value-fits (disciplineOf (g .discipline)) (g .d) value))
+    ∷ (13, not (length-fits len))
+    ∷ (14, late (disciplineOf (g .discipline)) (clock .0) value)
+    ∷ (15, leb places (getD lengths place 0))
+    ∷ (16, leb most-admitted admitted)
+    ∷ []
+
+-- the first of them that holds, or 0
+abbrev pub refusalAt : Settings → Slot → ℕ → List ℕ → ℕ → ℕ → ℕ → ℕ
+refusalAt g clock admitted lengths place value len = firstOf 0 (refusalTests g clock admitted lengths place value len)
+
 -- an accepted admission
 abbrev pub accepted : State → Arrival → Admission
 accepted s a =
@@ -183,6 +203,20 @@ abbrev pub numbersFrom : Queues → ℕ → ℕ → List ℕ
 numbersFrom qs i zero = []
 numbersFrom qs i (suc k) = numbersIn (queueAt qs i) ++ numbersFrom qs (suc i) k
 
+-- what a number leaves: those that leave the same stand on one chain
+abbrev pub remainder : ℕ → ℕ
+remainder n = n % 2039
+
+-- a link to the latest of the first `count` numbers that leave r: its place and one more, and 0 where none does
+pub record Latest (numbers : List ℕ) (r link count : ℕ) : Type 0 where
+  pub inside : link ≤ count
+  pub none-later : (p : ℕ) → link ≤ p → p < count → remainder (getD numbers p 0) ≢ r
+  pub leaves : 0 < link → remainder (getD numbers (link - 1) 0) ≡ r
+
+-- each of the first `count` numbers has a link to the latest before it that leaves the same
+abbrev pub Linked : List ℕ → List ℕ → ℕ → Type 0
+Linked numbers links count = (p : ℕ) → p < count → Latest numbers (remainder (getD numbers p 0)) (getD links p 0) p
+
 -- the places of stations, the counts, and 'none twice over all queues'
 abbrev pub queuesSound : Segment → Queues → Bool
 queuesSound g qs =
@@ -223,24 +257,30 @@ contenderOn g clock round l (some p) =
 abbrev pub contenderFor : Settings → Slot → Round → Listed → List Packet → Contender
 contenderFor g clock round l queue = contenderOn g clock round l (choice (disciplineOf (g .discipline)) queue)
 
+-- the contention as it begins: 'the first window of D, start 0, side right'
+abbrev pub openingOf : ℕ → Contention
+openingOf d = record { begun = true; window = firstWindow d; tied = false; tie = 0 }
+
 -- ---- a slot is probed
 
--- the contender that station i is, if it contends
-abbrev pub contenderAt : Segment → ℕ → Probe.Contender
-contenderAt g i =
-    record {
-      address = getD (g .listed) i nobody .address .0;
-      capability = getD (g .listed) i nobody .capability .0;
-      parameter = getD (g .contenders) i noContender .parameter;
-      packet = getD (g .contenders) i noContender .packet;
-    }
+-- the contender that a station is, if it contends
+abbrev pub contenderOf : Listed → Contender → Probe.Contender
+contenderOf l c =
+    record { address = l .address .0; capability = l .capability .0; parameter = c .parameter; packet = c .packet }
 
--- whether station i transmits
+-- whether it transmits, of the numbers that it reads
+abbrev pub transmitsOf : ℕ → Slot → Contention → Listed → Contender → Bool
+transmitsOf discipline clock contention l c =
+    c .contends
+    && (lies-in (contention .window) (tieOf contention) (contenderOf l c) && able (disciplineOf discipline) (clock .0) (contenderOf l c))
+
+-- the same of station i
+abbrev pub contenderAt : Segment → ℕ → Probe.Contender
+contenderAt g i = contenderOf (getD (g .listed) i nobody) (getD (g .contenders) i noContender)
+
 abbrev pub transmitsAt : Segment → ℕ → Bool
 transmitsAt g i =
-    getD (g .contenders) i noContender .contends
-    && (lies-in (g .contention .window) (tieOf (g .contention)) (contenderAt g i)
-    && able (disciplineOf (g .settings .discipline)) (g .clock .0) (contenderAt g i))
+    transmitsOf (g .settings .discipline) (g .clock) (g .contention) (getD (g .listed) i nobody) (getD (g .contenders) i noContender)
 
 -- the next station from place i on that transmits; N where there is none
 abbrev pub nextTransmitter : Segment → ℕ → ℕ
@@ -255,22 +295,113 @@ openOf s drops =
       drops = drops;
     }
 
--- an answer to a probe
-abbrev pub answerTo : Segment → ℕ → ℕ → Address → ℕ → ℕ → Bool → Answer
-answerTo g drops event address number length ended =
+-- who transmits, by the first that does
+abbrev pub heardBy : Segment → ℕ → Heard
+heardBy g first =
+    cond
+    (eqb first (g .settings .n))
+    (record { first = first; second = g .settings .n; listed = nobody; packet = noPacket })
+    (record {
+      first = first;
+      second = nextTransmitter g (suc first);
+      listed = getD (g .listed) first nobody;
+      packet = contenderAt g first .packet;
+    })
+
+abbrev pub heardIn : Segment → Heard
+heardIn g = heardBy g (nextTransmitter g 0)
+
+-- what a probe moves, of a segment
+abbrev pub progressOf : Segment → Progress
+progressOf g = record { clock = g .clock; sent = g .sent; round = g .round; contention = g .contention }
+
+-- an answer to a probe, by the progress so far
+abbrev pub answerAt : Progress → ℕ → ℕ → Address → ℕ → ℕ → Bool → Answer
+answerAt p drops event address number length ended =
     record {
       refusal = 0;
       drops = drops;
-      slot = g .clock;
-      phase = cond (g .contention .tied) tie-phase parameter-phase;
-      start = g .contention .window .start;
-      size = g .contention .window .size;
+      slot = p .clock;
+      phase = cond (p .contention .tied) tie-phase parameter-phase;
+      start = p .contention .window .start;
+      size = p .contention .window .size;
       event = event;
       address = address;
       number = number;
       length = length;
       ended = ended;
     }
+
+-- the progress with another clock and contention
+abbrev pub wentOn : Progress → Contention → Progress
+wentOn p c = record { clock = record { 0 = p .clock .0 + 1 }; sent = p .sent; round = p .round; contention = c }
+
+-- what a collision makes of a contention, by whether its window has size 2 or more and whether it is in the tie phase
+abbrev pub splitOf : ℕ → Contention → Bool → Bool → Contention
+splitOf a c large tied =
+    cond
+    large
+    (record { begun = true; window = leftHalf (c .window); tied = tied; tie = c .tie })
+    (record { begun = true; window = firstWindow a; tied = true; tie = cond tied (c .tie) (c .window .start) })
+
+-- two or more transmit
+abbrev pub collidedOn : ℕ → Progress → ℕ → Moved
+collidedOn a p drops =
+    record {
+      answer = answerAt p drops collision (record { 0 = 0 }) 0 0 false;
+      progress = wentOn p (splitOf a (p .contention) (leb 2 (p .contention .window .size)) (p .contention .tied));
+    }
+
+-- none transmits
+abbrev pub unheardOn : Progress → ℕ → Side → Moved
+unheardOn p drops Left =
+    record {
+      answer = answerAt p drops idle (record { 0 = 0 }) 0 0 false;
+      progress =
+          wentOn
+          p
+          (record { begun = true; window = movedRight (p .contention .window); tied = p .contention .tied; tie = p .contention .tie });
+    }
+unheardOn p drops Right =
+    record {
+      answer = answerAt p drops idle (record { 0 = 0 }) 0 0 true;
+      progress = record { clock = record { 0 = p .clock .0 + 1 }; sent = p .sent; round = noRound; contention = noContention };
+    }
+
+-- a round in which a circuit has won
+abbrev pub wonRound : Capability → Round
+wonRound c = record { won = true; last = c }
+
+-- the round after a success: 'In RTVC the last winner is set.'
+abbrev pub roundAfter : Discipline → Capability → Round
+roundAfter PRI c = noRound
+roundAfter RTDG c = noRound
+roundAfter RTVC c = wonRound c
+
+-- one transmits, this station with this packet
+abbrev pub wonOn : Discipline → Progress → ℕ → Listed → Packet → Moved
+wonOn d p drops l packet =
+    record {
+      answer = answerAt p drops success (l .address) (packet .number) (packet .length) true;
+      progress =
+          record {
+            clock = record { 0 = p .clock .0 + packet .length };
+            sent = p .sent + 1;
+            round = roundAfter d (l .capability);
+            contention = noContention;
+          };
+    }
+
+-- what one probe moves, by who transmits
+abbrev pub movedBy : Settings → Progress → ℕ → Heard → Moved
+movedBy g p drops heard =
+    cond
+    (eqb (heard .first) (g .n))
+    (unheardOn p drops (p .contention .window .side))
+    (cond
+    (eqb (heard .second) (g .n))
+    (wonOn (disciplineOf (g .discipline)) p drops (heard .listed) (heard .packet))
+    (collidedOn (g .a) p drops))
 
 -- the segment with another clock, sent count, round, contention and contenders
 abbrev pub segmentWith : Segment → ℕ → ℕ → Round → Contention → List Contender → Segment
@@ -287,90 +418,22 @@ segmentWith g clock sent round contention contenders =
       contenders = contenders;
     }
 
--- the contention goes on with another window, one slot later
-abbrev pub onward : Segment → Contention → Segment
-onward g c = segmentWith g (g .clock .0 + 1) (g .sent) (g .round) c (g .contenders)
+-- the segment with what a probe has moved; no contenders where the contention has ended
+abbrev pub withMoved : Segment → Moved → Segment
+withMoved g m =
+    segmentWith
+    g
+    (m .progress .clock .0)
+    (m .progress .sent)
+    (m .progress .round)
+    (m .progress .contention)
+    (cond (m .answer .ended) noContenders (g .contenders))
 
--- what a collision makes of the contention, by whether its window has size 2 or more and whether it is in the tie phase
-abbrev pub splitBy : Segment → Bool → Bool → Contention
-splitBy g large tied =
-    cond
-    large
-    (record { begun = true; window = leftHalf (g .contention .window); tied = tied; tie = g .contention .tie })
-    (record {
-      begun = true;
-      window = firstWindow (g .settings .a);
-      tied = true;
-      tie = cond tied (g .contention .tie) (g .contention .window .start);
-    })
+-- the same with the answer, and the winner's place where one has won
+abbrev pub probedWith : Segment → Moved → ℕ → Probed
+probedWith g m first =
+    record { answer = m .answer; segment = withMoved g m; winner = cond (eqb (m .answer .event) success) first 0 }
 
-abbrev pub splitAt : Segment → Contention
-splitAt g = splitBy g (leb 2 (g .contention .window .size)) (g .contention .tied)
-
--- two or more transmit
-abbrev pub collidedAt : Segment → ℕ → Probed
-collidedAt g drops =
-    record { answer = answerTo g drops collision (record { 0 = 0 }) 0 0 false; segment = onward g (splitAt g); winner = 0 }
-
--- none transmits
-abbrev pub unheardAt : Segment → ℕ → Side → Probed
-unheardAt g drops Left =
-    record {
-      answer = answerTo g drops idle (record { 0 = 0 }) 0 0 false;
-      segment =
-          onward
-          g
-          (record { begun = true; window = movedRight (g .contention .window); tied = g .contention .tied; tie = g .contention .tie });
-      winner = 0;
-    }
-unheardAt g drops Right =
-    record {
-      answer = answerTo g drops idle (record { 0 = 0 }) 0 0 true;
-      segment = segmentWith g (g .clock .0 + 1) (g .sent) noRound noContention noContenders;
-      winner = 0;
-    }
-
--- a round in which a circuit has won
-abbrev pub wonRound : Capability → Round
-wonRound c = record { won = true; last = c }
-
--- the round after a success: 'In RTVC the last winner is set.'
-abbrev pub roundAfter : Discipline → Capability → Round
-roundAfter PRI c = noRound
-roundAfter RTDG c = noRound
-roundAfter RTVC c = wonRound c
-
--- station i alone transmits
-abbrev pub wonAt : Segment → ℕ → ℕ → Probed
-wonAt g drops i =
-    record {
-      answer =
-          answerTo
-          g
-          drops
-          success
-          (getD (g .listed) i nobody .address)
-          (contenderAt g i .packet .number)
-          (contenderAt g i .packet .length)
-          true;
-      segment =
-          segmentWith
-          g
-          (g .clock .0 + contenderAt g i .packet .length)
-          (g .sent + 1)
-          (roundAfter (disciplineOf (g .settings .discipline)) (getD (g .listed) i nobody .capability))
-          noContention
-          noContenders;
-      winner = i;
-    }
-
--- what one probe makes of a segment: by the first and the second station that transmit
-abbrev pub probedBy : Segment → ℕ → ℕ → ℕ → Probed
-probedBy g drops first second =
-    cond
-    (eqb first (g .settings .n))
-    (unheardAt g drops (g .contention .window .side))
-    (cond (eqb second (g .settings .n)) (wonAt g drops first) (collidedAt g drops))
-
+-- one probe of a segment
 abbrev pub probed : Segment → ℕ → Probed
-probed g drops = probedBy g drops (nextTransmitter g 0) (nextTransmitter g (suc (nextTransmitter g 0)))
+probed g drops = probedWith g (movedBy (g .settings) (progressOf g) drops (heardIn g)) (heardIn g .first)

@@ -1,5 +1,6 @@
 // Beginning a contention: late packets are dropped, each station offers one packet, and parameters and the first window are fixed.
 use crate::Begun;
+use crate::Capability;
 use crate::Contender;
 use crate::Contention;
 use crate::Leaving;
@@ -15,20 +16,29 @@ use crate::disciplines;
 use crate::standing;
 use crate::waiting;
 use crate::zeros;
-use window::Window;
 ghost use Prim.Native.Nat.{ℕ, _<_, _≤_};
 ghost use mathlib.Core.Path.{_≡_};
-ghost use mathlib.Core.Bool.{true, false, cond};
+ghost use mathlib.Core.Bool.{true, false, _||_, cond};
 ghost use lib.Dec.{ltb, eqb};
 ghost use lib.ListN.{getD};
-ghost use Rattle.window.specs.Splitting.{firstWindow};
 ghost use Rattle.rules.specs.Lists.{keep};
-ghost use Rattle.rules.specs.Begin.{begin, dropsOf};
-ghost use Rattle.bus.specs.State.{meaning, form, row, nobody, noContender, queueAt};
+ghost use Rattle.rules.specs.SetUp.{disciplineOf};
+ghost use Rattle.rules.specs.Begin.{sits-out, begin, dropsOf};
+ghost use Rattle.bus.specs.State.{meaning, form, row, nobody, noContender, queueAt, lastOf};
 ghost use Rattle.bus.specs.Coded.{standing};
-ghost use Rattle.bus.specs.Parts.{Late, queueOf, packetsOf, queueForm, stays, contenderFor};
+ghost use Rattle.bus.specs.Parts.{Late, queueOf, packetsOf, queueForm, stays, contenderFor, openingOf};
 
-// A station's place among the contenders, of the packets that it has in time.
+// Whether a station has no packet, or sits out.
+fn offers_nothing(discipline: u32, round: Round, capability: Capability, length: usize) -> bool
+    ensures { λ r. ⌜ r ≡ (eqb length 0 || sits-out (disciplineOf discipline) (lastOf round) (capability .0)) ⌝ }
+{
+    if length == 0 {
+        return true;
+    }
+    disciplines::sits_out(discipline, round, capability)
+}
+
+// A station's place among the contenders, of the packets that it has in time, where it does not sit out.
 fn contender_for(
     settings: Settings,
     clock: Slot,
@@ -39,13 +49,11 @@ fn contender_for(
     requires { ⌜ queue .length ≤ 16 ⌝ }
     requires { ⌜ 1 ≤ settings .q ⌝ }
     requires { ⌜ 1 ≤ settings .d ⌝ }
+    requires { ⌜ sits-out (disciplineOf (settings .discipline)) (lastOf round) (l .capability .0) ≡ false ⌝ }
     ensures { λ r. ⌜ r ≡ contenderFor settings clock round l (packetsOf queue) ⌝ }
 {
     let chosen = waiting::chosen(queue, settings.discipline);
     if !chosen.found {
-        return zeros::NO_CONTENDER;
-    }
-    if disciplines::sits_out(settings.discipline, round, l.capability) {
         return zeros::NO_CONTENDER;
     }
     let packet = chosen.packet;
@@ -57,8 +65,9 @@ fn contender_for(
     }
 }
 
-// Each station's place among the contenders.
-fn offers_of(g: Segment, queues: Queues) -> [Contender; 64]
+// Each station's place among the contenders. Only the queues to choose from are taken out, and in the loop itself: a call of `queue_at`
+// copies the whole row.
+pub fn offers_of(g: Segment, queues: Queues) -> [Contender; 64]
     requires { ⌜ g .settings .n ≤ 64 ⌝ }
     requires { ⌜ ((i : ℕ) → i < g .settings .n → getD (queues .lengths) i 0 ≤ 16) ⌝ }
     requires { ⌜ 1 ≤ g .settings .q ⌝ }
@@ -71,7 +80,20 @@ fn offers_of(g: Segment, queues: Queues) -> [Contender; 64]
     let mut contenders = [zeros::NO_CONTENDER; 64];
     for i in 0..n {
         let l = g.listed[i];
-        let queue = waiting::queue_at(queues, i);
+        let length = queues.lengths[i];
+        if offers_nothing(settings.discipline, round, l.capability, length) {
+            continue;
+        }
+        let mut places = [zeros::NO_PACKET; 16];
+        let first = 16 * i;
+        for j in 0..16 {
+            let at = first + j;
+            places[j] = queues.packets[at];
+        }
+        let queue = Queue {
+            packets: places,
+            length,
+        };
         contenders[i] = contender_for(settings, g.clock, round, l, queue);
     }
     contenders
@@ -84,16 +106,12 @@ fn without_late(queues: Queues, i: usize, discipline: u32, clock: Slot) -> Queue
     requires { ⌜ getD (queues .lengths) i 0 ≤ 16 ⌝ }
     ensures { λ r. ⌜ ((j : ℕ) → j < 64 → queueOf r j ≡ cond (eqb j i) (queueForm (keep (stays (Late discipline clock)) (queueAt queues j))) (queueOf queues j)) ⌝ }
 {
-    let queue = waiting::queue_at(queues, i);
     let leaving = Leaving::Late(discipline, clock);
-    let rest = waiting::kept(queue, leaving);
-    if rest.length == queue.length {
-        return queues;
-    }
-    waiting::with_queue(queues, i, rest)
+    waiting::without(queues, i, leaving)
 }
 
-// 'In RTDG every queued packet with latest start below T is dropped'
+// 'In RTDG every queued packet with latest start below T is dropped'. The queue of a station all of whose packets are in time is only
+// read.
 fn drop_late(queues: Queues, n: usize, discipline: u32, clock: Slot) -> Queues
     requires { ⌜ n ≤ 64 ⌝ }
     requires { ⌜ ((j : ℕ) → j < 64 → queueOf queues j ≡ queueForm (queueAt queues j)) ⌝ }
@@ -105,16 +123,34 @@ fn drop_late(queues: Queues, n: usize, discipline: u32, clock: Slot) -> Queues
     }
     let mut next = queues;
     for i in 0..n {
-        next = without_late(next, i, discipline, clock);
+        let length = next.lengths[i];
+        let first = 16 * i;
+        let mut in_time = 0;
+        for j in 0..length {
+            let at = first + j;
+            let p = next.packets[at];
+            if !disciplines::late(discipline, clock, p.value) {
+                in_time += 1;
+            }
+        }
+        if in_time < length {
+            next = without_late(next, i, discipline, clock);
+        }
     }
     next
 }
 
-// 'The window is the first window of D, start 0, side right.'
-fn opening_window(d: u32) -> Window
-    ensures { λ r. ⌜ r ≡ firstWindow d ⌝ }
+// A contention's beginning: 'The window is the first window of D, start 0, side right.'
+pub fn opening(d: u32) -> Contention
+    ensures { λ r. ⌜ r ≡ openingOf d ⌝ }
 {
-    window::first_window(d)
+    let window = window::first_window(d);
+    Contention {
+        begun: true,
+        window,
+        tied: false,
+        tie: 0,
+    }
 }
 
 // 'If no contention is under way, a step first begins one at the present slot T.'
@@ -134,13 +170,7 @@ pub fn begin(s: State) -> Begun
     let after = standing::waiting_in(lengths_after, n);
     let drops = (before - after) as u64;
     let contenders = offers_of(g, rest);
-    let first = opening_window(settings.d);
-    let contention = Contention {
-        begun: true,
-        window: first,
-        tied: false,
-        tie: 0,
-    };
+    let contention = opening(settings.d);
     let mut next = g;
     next.lost = g.lost + drops;
     next.contention = contention;

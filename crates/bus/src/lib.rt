@@ -4,16 +4,18 @@ ghost use mathlib.Core.Path.{_≡_};
 ghost use Rattle.rules.specs.Bus.{nothing};
 ghost use Rattle.rules.specs.Probe.{refusedAnswer};
 ghost use Rattle.bus.specs.State.{form};
+ghost use Rattle.bus.specs.Stretch.{stretchOf, stretchForm};
 ghost use Rattle.bus.specs.Coded.{settingsRefusal, codedSetUp, codedAdmit, codedStep, setUpResult, admissionResult, stepResult, requestOf, arrivalOf, answerForm, totalsOf};
 use rules::Admitted;
 use rules::Packet;
 use rules::Verdict;
 use window::Window;
 
-mod arrival;
 mod beginning;
 mod disciplines;
-mod merging;
+mod joining;
+mod numbers;
+mod playing;
 mod probing;
 mod sorts;
 mod standing;
@@ -157,10 +159,68 @@ pub struct Stepped {
     pub state: State,
 }
 
+// An arrival: an admission that is asked for once the clock has come to its time.
+pub struct Arrival {
+    pub time: Slot,
+    pub address: Address,
+    pub value: u32,
+    pub length: u32,
+}
+
+// The arrivals that come next in a run: the first `length` of the places; a length above 64 counts as 64. Where all are filled there
+// may be more.
+pub struct Arrivals {
+    pub row: [Arrival; 64],
+    pub length: usize,
+}
+
+// What is said of a call in a stretch: of an arrival the clock, its address and the answer to its admission; of a step the clock and
+// its answer. What has no meaning is zero.
+pub struct Report {
+    pub arrival: bool,
+    pub clock: Slot,
+    pub address: Address,
+    pub admitted: Admitted,
+    pub answer: Answer,
+}
+
+// A stretch of a run: the reports of the calls made, zeros past them; how many arrivals have been taken, how many steps are left, and
+// the state.
+pub struct Stretch {
+    pub reports: [Report; 512],
+    pub made: usize,
+    pub taken: usize,
+    pub left: u32,
+    pub state: State,
+}
+
 // A contention that has begun, and how many packets were dropped.
 struct Begun {
     pub state: State,
     pub drops: u64,
+}
+
+// Who transmits in a slot: the first station's place, how it is listed and its packet, and the second one's place; N and zeros where
+// there is none.
+struct Heard {
+    pub first: usize,
+    pub second: usize,
+    pub listed: Listed,
+    pub packet: Packet,
+}
+
+// What a probe moves.
+struct Progress {
+    pub clock: Slot,
+    pub sent: u64,
+    pub round: Round,
+    pub contention: Contention,
+}
+
+// A probe's answer, and what it has moved.
+struct Moved {
+    pub answer: Answer,
+    pub progress: Progress,
 }
 
 // A probe's answer, the segment after it, and on success the winner's place.
@@ -228,12 +288,14 @@ pub fn admit(s: State, address: Address, value: u32, length: u32) -> Admission
     let settings = g.settings;
     let listed = g.listed;
     let place = stations::station_of(listed, settings.n, address);
-    let refusal = arrival::refusal(s, place, value, length);
+    let queues = s.queues;
+    let lengths = queues.lengths;
+    let refusal = joining::refusal(settings, g.clock, g.admitted, lengths, place, value, length);
     if refusal != 0 {
         let answer = Admitted { refusal, number: 0 };
         return Admission { answer, state: s };
     }
-    arrival::join(s, place, value, length)
+    joining::join(s, place, value, length)
 }
 
 // The answer to a refused step: 'zero in the answer's other fields'.
@@ -275,6 +337,18 @@ pub fn step(s: State) -> Stepped
     let begun = beginning::begin(s);
     let state = begun.state;
     probing::probe_slot(state, begun.drops)
+}
+
+// Up to 512 calls, one after the other: 'Before each step it admits, in file order, the arrivals whose time is not above the clock.' It
+// ends before that where no step is left, or where all of a full row of arrivals have been taken. Each call's answer, and the state, are
+// those of `admit` and `step`.
+pub fn play(s: State, arrivals: Arrivals, steps: u32) -> Stretch
+    ensures { λ r. ⌜ r ≡ stretchForm (stretchOf s arrivals steps) ⌝ }
+{
+    if standing::stands(s) {
+        return playing::at_once(s, arrivals, steps);
+    }
+    playing::one_by_one(s, arrivals, steps)
 }
 
 // 'END clock admitted sent lost waiting', of a state that stands; 1 of any other.

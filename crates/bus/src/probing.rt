@@ -2,12 +2,18 @@
 use crate::Address;
 use crate::Answer;
 use crate::Capability;
+use crate::Contender;
 use crate::Contention;
+use crate::Heard;
 use crate::Leaving;
+use crate::Listed;
+use crate::Moved;
 use crate::Probed;
+use crate::Progress;
 use crate::Queues;
 use crate::Round;
 use crate::Segment;
+use crate::Settings;
 use crate::Slot;
 use crate::State;
 use crate::Stepped;
@@ -15,89 +21,105 @@ use crate::disciplines;
 use crate::sorts;
 use crate::waiting;
 use crate::zeros;
+use rules::Packet;
 use window::Side;
 use window::Window;
 ghost use Prim.Native.Nat.{ℕ, _+_, _<_, _≤_};
 ghost use mathlib.Core.Path.{_≡_};
 ghost use mathlib.Core.Bool.{true};
+ghost use lib.Dec.{leb};
 ghost use lib.ListN.{getD};
 ghost use Rattle.window.specs.Splitting.{firstWindow};
 ghost use Rattle.rules.specs.Lists.{keep};
 ghost use Rattle.rules.specs.SetUp.{disciplineOf};
 ghost use Rattle.rules.specs.Probe.{probe};
-ghost use Rattle.bus.specs.State.{form, noContention, queueAt};
+ghost use Rattle.bus.specs.State.{form, queueAt};
 ghost use Rattle.bus.specs.Coded.{standing, stepResult};
-ghost use Rattle.bus.specs.Parts.{Sent, transmitsAt, nextTransmitter, answerTo, collidedAt, unheardAt, wonAt, roundAfter, wonRound, splitAt, onward, segmentWith, noContenders, contenderAt, probed, withQueue, queueForm, stays, openOf};
+ghost use Rattle.bus.specs.Parts.{Sent, transmitsOf, transmitsAt, contenderAt, heardIn, answerAt, wentOn, splitOf, collidedOn, unheardOn, wonRound, roundAfter, wonOn, movedBy, withMoved, probed, withQueue, queueForm, stays, openOf};
 
 // The events as numbers.
-pub const IDLE: u32 = 0;
+const IDLE: u32 = 0;
 
-pub const COLLISION: u32 = 1;
+const COLLISION: u32 = 1;
 
 pub const SUCCESS: u32 = 2;
 
-// The parameter of station i, which contends: as it was when the contention began, 'fixed for the whole contention'.
-fn parameter_of(g: Segment, i: usize) -> u64
-    requires { ⌜ i < 64 ⌝ }
-    ensures { λ r. ⌜ r ≡ contenderAt g i .parameter ⌝ }
+// A contender's parameter: as it was when the contention began, 'fixed for the whole contention'.
+fn parameter_of(c: Contender) -> u64
+    ensures { λ r. ⌜ r ≡ c .parameter ⌝ }
 {
-    let c = g.contenders[i];
     c.parameter
 }
 
-// Whether station i transmits: 'its parameter (in the tie phase: its address) lies in the window and, in RTDG, its latest start is
+// Whether a station transmits: 'its parameter (in the tie phase: its address) lies in the window and, in RTDG, its latest start is
 // not below the slot being probed'.
-fn transmits(g: Segment, i: usize) -> bool
-    requires { ⌜ i < 64 ⌝ }
-    ensures { λ r. ⌜ r ≡ transmitsAt g i ⌝ }
+fn transmits(discipline: u32, clock: Slot, contention: Contention, l: Listed, c: Contender) -> bool
+    ensures { λ r. ⌜ r ≡ transmitsOf discipline clock contention l c ⌝ }
 {
-    let settings = g.settings;
-    let contention = g.contention;
     let window = contention.window;
-    let c = g.contenders[i];
     if !c.contends {
         return false;
     }
-    if disciplines::late(settings.discipline, g.clock, c.packet.value) {
+    if disciplines::late(discipline, clock, c.packet.value) {
         return false;
     }
-    let parameter = parameter_of(g, i);
+    let parameter = parameter_of(c);
     if contention.tied {
         if parameter != contention.tie {
             return false;
         }
-        let l = g.listed[i];
         return window::in_window(window, sorts::address_number(l.address));
     }
     window::in_window(window, parameter)
 }
 
-// The next station from a place on that transmits; N where there is none.
-fn next_transmitter(g: Segment, from: usize) -> usize
+// Who transmits: nobody, one station, or two and maybe more.
+pub fn heard(g: Segment) -> Heard
     requires { ⌜ g .settings .n ≤ 64 ⌝ }
-    requires { ⌜ from ≤ g .settings .n ⌝ }
-    ensures { λ r. ⌜ r ≡ nextTransmitter g from ⌝ }
+    ensures { λ r. ⌜ r ≡ heardIn g ⌝ }
 {
     let settings = g.settings;
+    let contention = g.contention;
     let n = settings.n;
-    for i in from..n {
-        if transmits(g, i) {
-            return i;
+    let mut first = n;
+    let mut listed = zeros::NOBODY;
+    let mut packet = zeros::NO_PACKET;
+    for i in 0..n {
+        let l = g.listed[i];
+        let c = g.contenders[i];
+        if transmits(settings.discipline, g.clock, contention, l, c) {
+            if first < n {
+                return Heard {
+                    first,
+                    second: i,
+                    listed,
+                    packet,
+                };
+            }
+            first = i;
+            listed = l;
+            let p = c.packet;
+            packet = p;
         }
     }
-    n
+    Heard {
+        first,
+        second: n,
+        listed,
+        packet,
+    }
 }
 
 // The answer to a probe without a winner.
-fn unsent(g: Segment, drops: u64, event: u32, ended: bool) -> Answer
-    ensures { λ r. ⌜ r ≡ answerTo g drops event (record { 0 = 0 }) 0 0 ended ⌝ }
+fn unsent(progress: Progress, drops: u64, event: u32, ended: bool) -> Answer
+    ensures { λ r. ⌜ r ≡ answerAt progress drops event (record { 0 = 0 }) 0 0 ended ⌝ }
 {
-    sent_by(g, drops, event, Address(0), 0, 0, ended)
+    answer_to(progress, drops, event, Address(0), 0, 0, ended)
 }
 
 // The answer to a probe.
-fn sent_by(
-    g: Segment,
+fn answer_to(
+    progress: Progress,
     drops: u64,
     event: u32,
     address: Address,
@@ -105,11 +127,11 @@ fn sent_by(
     length: u32,
     ended: bool,
 ) -> Answer
-    ensures { λ r. ⌜ r ≡ answerTo g drops event address number length ended ⌝ }
+    ensures { λ r. ⌜ r ≡ answerAt progress drops event address number length ended ⌝ }
 {
-    let contention = g.contention;
+    let contention = progress.contention;
     let window = contention.window;
-    let slot = g.clock;
+    let slot = progress.clock;
     let mut phase = 0;
     if contention.tied {
         phase = 1;
@@ -130,15 +152,18 @@ fn sent_by(
 }
 
 // The contention goes on, one slot later.
-fn onward(g: Segment, c: Contention) -> Segment
-    requires { ⌜ g .clock .0 + 1 ≤ 4294967295 ⌝ }
-    ensures { λ r. ⌜ r ≡ onward g c ⌝ }
+fn went_on(progress: Progress, c: Contention) -> Progress
+    requires { ⌜ progress .clock .0 + 1 ≤ 4294967295 ⌝ }
+    ensures { λ r. ⌜ r ≡ wentOn progress c ⌝ }
 {
-    let clock = sorts::later(g.clock, 1);
-    let mut next = g;
-    next.clock = clock;
-    next.contention = c;
-    next
+    let clock = sorts::later(progress.clock, 1);
+    let round = progress.round;
+    Progress {
+        clock,
+        sent: progress.sent,
+        round,
+        contention: c,
+    }
 }
 
 // The tie phase's first window: 'the first window of A, start 0, side right'.
@@ -150,11 +175,9 @@ fn tie_window(a: u32) -> Window
 
 // 'A window of size 2 or more becomes its left half, side left. A window of size 1 starts the tie phase among the contenders of that
 // parameter: the first window of A, start 0, side right.'
-fn split(g: Segment) -> Contention
-    ensures { λ r. ⌜ r ≡ splitAt g ⌝ }
+fn split(a: u32, c: Contention) -> Contention
+    ensures { λ r. ⌜ r ≡ splitOf a c (leb 2 (c .window .size)) (c .tied) ⌝ }
 {
-    let settings = g.settings;
-    let c = g.contention;
     let w = c.window;
     if 2 <= w.size {
         let half = window::left_half(w);
@@ -165,7 +188,7 @@ fn split(g: Segment) -> Contention
             tie: c.tie,
         };
     }
-    let first = tie_window(settings.a);
+    let first = tie_window(a);
     let mut tie = w.start;
     if c.tied {
         tie = c.tie;
@@ -179,68 +202,55 @@ fn split(g: Segment) -> Contention
 }
 
 // 'Two or more: collision.'
-fn collided(g: Segment, drops: u64) -> Probed
-    requires { ⌜ g .clock .0 + 1 ≤ 4294967295 ⌝ }
-    ensures { λ r. ⌜ r ≡ collidedAt g drops ⌝ }
+fn collided(a: u32, progress: Progress, drops: u64) -> Moved
+    requires { ⌜ progress .clock .0 + 1 ≤ 4294967295 ⌝ }
+    ensures { λ r. ⌜ r ≡ collidedOn a progress drops ⌝ }
 {
-    let c = split(g);
-    let segment = onward(g, c);
-    let answer = unsent(g, drops, COLLISION, false);
-    Probed {
+    let c = split(a, progress.contention);
+    let next = went_on(progress, c);
+    let answer = unsent(progress, drops, COLLISION, false);
+    Moved {
         answer,
-        segment,
-        winner: 0,
+        progress: next,
     }
 }
 
-// The contention ends: no contenders, no window.
-fn ended(g: Segment, clock: Slot, sent: u64, round: Round) -> Segment
-    ensures { λ r. ⌜ r ≡ segmentWith g (clock .0) sent round noContention noContenders ⌝ }
-{
-    let contention = zeros::NO_CONTENTION;
-    let contenders = [zeros::NO_CONTENDER; 64];
-    let mut next = g;
-    next.clock = clock;
-    next.sent = sent;
-    next.round = round;
-    next.contention = contention;
-    next.contenders = contenders;
-    next
-}
-
 // 'None: idle. Side left: the window moves right by its size, side right. Side right: the contention ends without a winner.'
-fn unheard(g: Segment, drops: u64) -> Probed
-    requires { ⌜ g .clock .0 + 1 ≤ 4294967295 ⌝ }
-    ensures { λ r. ⌜ r ≡ unheardAt g drops (g .contention .window .side) ⌝ }
+fn unheard(progress: Progress, drops: u64) -> Moved
+    requires { ⌜ progress .clock .0 + 1 ≤ 4294967295 ⌝ }
+    ensures { λ r. ⌜ r ≡ unheardOn progress drops (progress .contention .window .side) ⌝ }
 {
-    let c = g.contention;
+    let c = progress.contention;
     let w = c.window;
     let side = w.side;
     match side {
         Side::Left => {
-            let moved = window::move_right(w);
+            let window = window::move_right(w);
             let onto = Contention {
                 begun: true,
-                window: moved,
+                window,
                 tied: c.tied,
                 tie: c.tie,
             };
-            let segment = onward(g, onto);
-            let answer = unsent(g, drops, IDLE, false);
-            Probed {
+            let next = went_on(progress, onto);
+            let answer = unsent(progress, drops, IDLE, false);
+            Moved {
                 answer,
-                segment,
-                winner: 0,
+                progress: next,
             }
         }
         Side::Right => {
-            let clock = sorts::later(g.clock, 1);
-            let segment = ended(g, clock, g.sent, zeros::NO_ROUND);
-            let answer = unsent(g, drops, IDLE, true);
-            Probed {
+            let clock = sorts::later(progress.clock, 1);
+            let answer = unsent(progress, drops, IDLE, true);
+            let next = Progress {
+                clock,
+                sent: progress.sent,
+                round: zeros::NO_ROUND,
+                contention: zeros::NO_CONTENTION,
+            };
+            Moved {
                 answer,
-                segment,
-                winner: 0,
+                progress: next,
             }
         }
     }
@@ -267,21 +277,15 @@ fn round_after(discipline: u32, capability: Capability) -> Round
 }
 
 // 'One transmits: success. .. The probed slot is its first, so the clock moves on by its length.'
-fn won(g: Segment, drops: u64, i: usize) -> Probed
-    requires { ⌜ i < 64 ⌝ }
-    requires { ⌜ g .clock .0 + contenderAt g i .packet .length ≤ 4294967295 ⌝ }
-    requires { ⌜ g .sent < 4294967295 ⌝ }
-    ensures { λ r. ⌜ r ≡ wonAt g drops i ⌝ }
+fn won(discipline: u32, progress: Progress, drops: u64, l: Listed, packet: Packet) -> Moved
+    requires { ⌜ progress .clock .0 + packet .length ≤ 4294967295 ⌝ }
+    requires { ⌜ progress .sent < 4294967295 ⌝ }
+    ensures { λ r. ⌜ r ≡ wonOn (disciplineOf discipline) progress drops l packet ⌝ }
 {
-    let settings = g.settings;
-    let l = g.listed[i];
-    let c = g.contenders[i];
-    let packet = c.packet;
-    let clock = sorts::later(g.clock, packet.length);
-    let round = round_after(settings.discipline, l.capability);
-    let segment = ended(g, clock, g.sent + 1, round);
-    let answer = sent_by(
-        g,
+    let clock = sorts::later(progress.clock, packet.length);
+    let round = round_after(discipline, l.capability);
+    let answer = answer_to(
+        progress,
         drops,
         SUCCESS,
         l.address,
@@ -289,11 +293,60 @@ fn won(g: Segment, drops: u64, i: usize) -> Probed
         packet.length,
         true,
     );
-    Probed {
+    let next = Progress {
+        clock,
+        sent: progress.sent + 1,
+        round,
+        contention: zeros::NO_CONTENTION,
+    };
+    Moved {
         answer,
-        segment,
-        winner: i,
+        progress: next,
     }
+}
+
+// What a probe moves, by who transmits.
+pub fn moved(settings: Settings, progress: Progress, drops: u64, heard: Heard) -> Moved
+    requires { ⌜ progress .clock .0 ≤ 1073741824 ⌝ }
+    requires { ⌜ heard .packet .length ≤ 4096 ⌝ }
+    requires { ⌜ (((heard .first ≡ settings .n) → ⊥) → progress .sent < 4294967295) ⌝ }
+    ensures { λ r. ⌜ r ≡ movedBy settings progress drops heard ⌝ }
+{
+    let n = settings.n;
+    if heard.first == n {
+        return unheard(progress, drops);
+    }
+    if heard.second == n {
+        return won(
+            settings.discipline,
+            progress,
+            drops,
+            heard.listed,
+            heard.packet,
+        );
+    }
+    collided(settings.a, progress, drops)
+}
+
+// What a probe has moved, stored; no contenders where the contention has ended.
+fn with_moved(g: Segment, m: Moved) -> Segment
+    ensures { λ r. ⌜ r ≡ withMoved g m ⌝ }
+{
+    let answer = m.answer;
+    let progress = m.progress;
+    let clock = progress.clock;
+    let round = progress.round;
+    let contention = progress.contention;
+    let mut next = g;
+    next.clock = clock;
+    next.sent = progress.sent;
+    next.round = round;
+    next.contention = contention;
+    if answer.ended {
+        let contenders = [zeros::NO_CONTENDER; 64];
+        next.contenders = contenders;
+    }
+    next
 }
 
 // One probe of a segment; the row of packets has no part in it.
@@ -305,16 +358,28 @@ fn probe(g: Segment, drops: u64) -> Probed
     ensures { λ r. ⌜ r ≡ probed g drops ⌝ }
 {
     let settings = g.settings;
-    let n = settings.n;
-    let first = next_transmitter(g, 0);
-    if first == n {
-        return unheard(g, drops);
+    let clock = g.clock;
+    let round = g.round;
+    let contention = g.contention;
+    let progress = Progress {
+        clock,
+        sent: g.sent,
+        round,
+        contention,
+    };
+    let who = heard(g);
+    let m = moved(settings, progress, drops, who);
+    let segment = with_moved(g, m);
+    let answer = m.answer;
+    let mut winner = 0;
+    if answer.event == SUCCESS {
+        winner = who.first;
     }
-    let second = next_transmitter(g, first + 1);
-    if second == n {
-        return won(g, drops, first);
+    Probed {
+        answer,
+        segment,
+        winner,
     }
-    collided(g, drops)
 }
 
 // 'That packet leaves its queue'
@@ -323,10 +388,8 @@ fn without_sent(queues: Queues, i: usize, number: u64) -> Queues
     requires { ⌜ getD (queues .lengths) i 0 ≤ 16 ⌝ }
     ensures { λ r. ⌜ r ≡ withQueue queues i (queueForm (keep (stays (Sent number)) (queueAt queues i))) ⌝ }
 {
-    let queue = waiting::queue_at(queues, i);
     let leaving = Leaving::Sent(number);
-    let rest = waiting::kept(queue, leaving);
-    waiting::with_queue(queues, i, rest)
+    waiting::without(queues, i, leaving)
 }
 
 // 'Every step then probes one slot.'

@@ -10,10 +10,9 @@ use crate::Settings;
 use crate::Slot;
 use crate::State;
 use crate::disciplines;
-use crate::merging;
+use crate::numbers;
 use crate::sorts;
 use crate::stations;
-use crate::waiting;
 use crate::zeros;
 use rules::Packet;
 use window::Side;
@@ -228,7 +227,7 @@ fn place_stands(
     nobody_at(l, c, queue)
 }
 
-// Each of the 64 places.
+// Each of the 64 places. The queues are taken out in the loop itself: a call of `queue_at` copies the whole row.
 fn places_stand(g: Segment, queues: Queues) -> bool
     ensures { λ r. ⌜ r ≡ each-place (placeSound g queues) 0 64 ⌝ }
 {
@@ -237,7 +236,17 @@ fn places_stand(g: Segment, queues: Queues) -> bool
     for i in 0..64 {
         let l = g.listed[i];
         let c = g.contenders[i];
-        let queue = waiting::queue_at(queues, i);
+        let mut places = [zeros::NO_PACKET; 16];
+        let first = 16 * i;
+        for j in 0..16 {
+            let at = first + j;
+            places[j] = queues.packets[at];
+        }
+        let length = queues.lengths[i];
+        let queue = Queue {
+            packets: places,
+            length,
+        };
         if !place_stands(settings, contention.begun, g.admitted, i, l, c, queue) {
             return false;
         }
@@ -361,7 +370,7 @@ fn queues_stand(g: Segment, queues: Queues) -> bool
     if !counts_stand(g.admitted, g.sent, g.lost, waiting) {
         return false;
     }
-    merging::none_twice(queues, n)
+    numbers::none_twice(queues, n)
 }
 
 // The test that refusal 1 goes by: the set-up, 'clock and admitted count within range', the round, the contention, the queues.

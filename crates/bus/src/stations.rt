@@ -12,7 +12,7 @@ use crate::disciplines;
 use crate::sorts;
 use crate::zeros;
 use rules::Verdict;
-ghost use Prim.Native.Nat.{_<_, _≤_, min};
+ghost use Prim.Native.Nat.{_≤_, min};
 ghost use mathlib.Core.Path.{_≡_};
 ghost use mathlib.Core.Bool.{_||_, cond};
 ghost use mathlib.Core.List.{List, [], map};
@@ -23,7 +23,7 @@ ghost use Rattle.rules.specs.Bus.{most-stations, least-space, most-space};
 ghost use Rattle.rules.specs.SetUp.{Asked, fine, step-outside, capability-outside, settingsTests, stationTests, rowTests, setUpVerdict};
 ghost use Rattle.bus.specs.State.{nobody, row};
 ghost use Rattle.bus.specs.Coded.{askedOf, requestWith};
-ghost use Rattle.bus.specs.Parts.{numberOf, shared, firstPlace, freshState};
+ghost use Rattle.bus.specs.Parts.{Addresses, Capabilities, numberOf, shared, firstPlace, freshState};
 
 // 'stations N: 1 to 64'
 pub const MOST_STATIONS: usize = 64;
@@ -111,19 +111,14 @@ fn same(compared: Compared, s: Listed, t: Listed) -> bool
     }
 }
 
-// Whether an earlier station has the address of station i, or its capability.
-fn earlier_same(compared: Compared, stations: [Listed; 64], i: usize) -> bool
-    requires { ⌜ i < 64 ⌝ }
-    ensures { λ r. ⌜ r ≡ shared compared (getD stations i nobody) (take i stations) ⌝ }
+// Whether the address of s, or its capability, has been seen already, or t has it.
+fn earlier_same(compared: Compared, already: bool, s: Listed, t: Listed) -> bool
+    ensures { λ r. ⌜ r ≡ (already || eqb (numberOf compared (askedOf s)) (numberOf compared (askedOf t))) ⌝ }
 {
-    let s = stations[i];
-    for e in 0..i {
-        let t = stations[e];
-        if same(compared, s, t) {
-            return true;
-        }
+    if already {
+        return true;
     }
-    false
+    same(compared, s, t)
 }
 
 // 'RTVC: 0 to D - 1, distinct; otherwise 0'
@@ -136,16 +131,20 @@ fn capability_outside(discipline: u32, d: u32, capability: Capability) -> bool
     !sorts::same_capability(capability, Capability(0))
 }
 
-// 7 to 10, of station i.
-fn station_verdict(settings: Settings, stations: [Listed; 64], i: usize) -> Verdict
-    requires { ⌜ i < 64 ⌝ }
-    ensures { λ r. ⌜ r ≡ firstOf fine (stationTests (requestWith settings []) i (map askedOf (take i stations)) (askedOf (getD stations i nobody))) ⌝ }
+// 7 to 10, of station i; `address` and `capability` tell whether an earlier station has that of s.
+fn station_verdict(
+    settings: Settings,
+    i: usize,
+    s: Listed,
+    address: bool,
+    capability: bool,
+) -> Verdict
+    ensures { λ r. ⌜ ((earlier : List Listed) → address ≡ shared Addresses s earlier → capability ≡ shared Capabilities s earlier → r ≡ firstOf fine (stationTests (requestWith settings []) i (map askedOf earlier) (askedOf s))) ⌝ }
 {
-    let s = stations[i];
     if sorts::address_past(settings.a, s.address) {
         return fault(7, i);
     }
-    if earlier_same(Compared::Addresses, stations, i) {
+    if address {
         return fault(8, i);
     }
     if capability_outside(settings.discipline, settings.d, s.capability) {
@@ -154,20 +153,28 @@ fn station_verdict(settings: Settings, stations: [Listed; 64], i: usize) -> Verd
     if settings.discipline != disciplines::RTVC {
         return fault(0, 0);
     }
-    if earlier_same(Compared::Capabilities, stations, i) {
+    if capability {
         return fault(10, i);
     }
     fault(0, 0)
 }
 
-// 'the first faulty station in the listed order decides'
+// 'the first faulty station in the listed order decides'. The earlier stations are gone through in the loop itself: a call copies the row.
 fn first_faulty(settings: Settings, stations: [Listed; 64]) -> Verdict
     requires { ⌜ settings .n ≤ 64 ⌝ }
     ensures { λ r. ⌜ r ≡ firstOf fine (rowTests (requestWith settings []) 0 [] (map askedOf (take (settings .n) stations))) ⌝ }
 {
     let n = settings.n;
     for i in 0..n {
-        let v = station_verdict(settings, stations, i);
+        let s = stations[i];
+        let mut address = false;
+        let mut capability = false;
+        for e in 0..i {
+            let t = stations[e];
+            address = earlier_same(Compared::Addresses, address, s, t);
+            capability = earlier_same(Compared::Capabilities, capability, s, t);
+        }
+        let v = station_verdict(settings, i, s, address, capability);
         if v.refusal != 0 {
             return v;
         }

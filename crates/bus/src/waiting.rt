@@ -10,9 +10,11 @@ ghost use Prim.Native.Nat.{_<_, _≤_};
 ghost use mathlib.Core.Path.{_≡_};
 ghost use mathlib.Core.Bool.{cond};
 ghost use mathlib.Core.List.{[], _∷_, _++_};
+ghost use lib.ListN.{getD};
 ghost use Rattle.rules.specs.Lists.{keep};
 ghost use Rattle.rules.specs.SetUp.{disciplineOf};
 ghost use Rattle.rules.specs.Begin.{goes-before, choice};
+ghost use Rattle.bus.specs.State.{queueAt};
 ghost use Rattle.bus.specs.Parts.{queueOf, withQueue, packetsOf, queueForm, stays, chosenForm};
 
 // The queue of station i, taken out of the row.
@@ -40,9 +42,9 @@ pub fn with_queue(qs: Queues, i: usize, queue: Queue) -> Queues
 {
     let mut next = qs;
     let first = 16 * i;
-    for k in 0..16 {
-        let at = first + k;
-        next.packets[at] = queue.packets[k];
+    for j in 0..16 {
+        let at = first + j;
+        next.packets[at] = queue.packets[j];
     }
     next.lengths[i] = queue.length;
     next
@@ -59,7 +61,7 @@ fn stays(leaving: Leaving, p: Packet) -> bool
 }
 
 // The queue without the packets that leave; those that stay close up, and freed places are cleared.
-pub fn kept(queue: Queue, leaving: Leaving) -> Queue
+fn kept(queue: Queue, leaving: Leaving) -> Queue
     requires { ⌜ queue .length ≤ 16 ⌝ }
     ensures { λ r. ⌜ r ≡ queueForm (keep (stays leaving) (packetsOf queue)) ⌝ }
 {
@@ -77,6 +79,44 @@ pub fn kept(queue: Queue, leaving: Leaving) -> Queue
         packets,
         length: filled,
     }
+}
+
+// The queue of station i without the packets that leave.
+pub fn left(queues: Queues, i: usize, leaving: Leaving) -> Queue
+    requires { ⌜ i < 64 ⌝ }
+    requires { ⌜ getD (queues .lengths) i 0 ≤ 16 ⌝ }
+    ensures { λ r. ⌜ r ≡ queueForm (keep (stays leaving) (queueAt queues i)) ⌝ }
+{
+    let queue = queue_at(queues, i);
+    kept(queue, leaving)
+}
+
+// The row without the packets of station i that leave. Its queue is taken out and put back here: calls of `queue_at` and `with_queue`
+// copy the whole row.
+pub fn without(queues: Queues, i: usize, leaving: Leaving) -> Queues
+    requires { ⌜ i < 64 ⌝ }
+    requires { ⌜ getD (queues .lengths) i 0 ≤ 16 ⌝ }
+    ensures { λ r. ⌜ r ≡ withQueue queues i (queueForm (keep (stays leaving) (queueAt queues i))) ⌝ }
+{
+    let mut next = queues;
+    let first = 16 * i;
+    let mut places = [zeros::NO_PACKET; 16];
+    for j in 0..16 {
+        let at = first + j;
+        places[j] = queues.packets[at];
+    }
+    let length = queues.lengths[i];
+    let queue = Queue {
+        packets: places,
+        length,
+    };
+    let rest = kept(queue, leaving);
+    for k in 0..16 {
+        let at = first + k;
+        next.packets[at] = rest.packets[k];
+    }
+    next.lengths[i] = rest.length;
+    next
 }
 
 // The queue with one packet more.

@@ -1,7 +1,10 @@
 // Lines of what the calls answer: a label, a colon, and numbers.
 use bus::Address;
+use bus::Arrival;
+use bus::Arrivals;
 use bus::Row;
 use bus::Settings;
+use bus::Slot;
 use bus::State;
 
 fn word(n: u64) {
@@ -73,16 +76,51 @@ pub fn stepped(text: &[u8], s: State) {
     newline();
 }
 
-// A state lent to each call: the refusals of an admission, a step and the closing numbers.
+// A row with so many arrivals that are due at once: a packet of length 1 and value 0 at address 1.
+fn coming(length: usize) -> Arrivals {
+    let a = Arrival {
+        time: Slot(0),
+        address: Address(1),
+        value: 0,
+        length: 1,
+    };
+    Arrivals {
+        row: [a; 64],
+        length,
+    }
+}
+
+// A step made in a stretch: its refusal, how many calls were made, and the steps that are left.
+pub fn in_stretch(text: &[u8], s: State) {
+    let arrivals = coming(0);
+    let d = bus::play(s, arrivals, 1);
+    let r = d.reports[0];
+    let a = r.answer;
+    label(text);
+    number(a.refusal);
+    place(d.made);
+    number(d.left);
+    newline();
+}
+
+// A state lent to an admission, to a step and for the closing numbers, and then to an admission and a step in one stretch: their refusals.
 pub fn lent(text: &[u8], s: State) {
     let a = bus::admit(s, Address(1), 0, 1);
     let b = bus::step(s);
     let c = bus::closing(s);
+    let arrivals = coming(1);
+    let d = bus::play(s, arrivals, 1);
     label(text);
     let x = a.answer;
     number(x.refusal);
     let y = b.answer;
     number(y.refusal);
     number(c.refusal);
+    let first = d.reports[0];
+    let v = first.admitted;
+    number(v.refusal);
+    let second = d.reports[1];
+    let w = second.answer;
+    number(w.refusal);
     newline();
 }

@@ -12,6 +12,8 @@ fn clock_end() {
     lines::stepped(b"clock 1073737728 steps", last);
     let past = edits::with_clock(s, 1_073_737_729);
     lines::stepped(b"clock 1073737729 gives 17", past);
+    lines::in_stretch(b"clock 1073737728 in a stretch", last);
+    lines::in_stretch(b"clock 1073737729 in a stretch", past);
 }
 
 // 'Length 4,096 passes, 0 and 4,097 give 13.'

@@ -61,8 +61,8 @@ offers-of-requires c κs =
     let spaces = set-up-stands (meaning (start .args .s)) (r .stands) in
     (r .few, (room (c .before .before .before .before), (spaces .q-least, omega (arith, spaces .D-least))))
 
-opening-window-requires : tie.Need-opening-window-requires
-opening-window-requires c κs = search needs
+opening-requires : tie.Need-opening-requires
+opening-requires c κs = search needs
 
 add-next : tie.Need-add-next
 add-next c =
@@ -78,7 +78,7 @@ returns c =
     let before = c .before .before .before .before .waiting-in .result in
     let after = c .before .before .before .waiting-in2 .result in
     let drops : before - after ≡ dropsOf (meaning s) = omega (arith, dropped (c .before .before .before)) in
-    rw (c .before .opening-window .ensures, c .before .before .offers-of .ensures)
+    rw (c .before .opening .ensures, c .before .before .offers-of .ensures)
     (begun-is s (here start) (rest .result) (rest .ensures) (before - after) drops (n .0) (n .1))
 
 pub begin-spec : {M : Type 1} → statement M
@@ -90,6 +90,6 @@ begin-spec =
     waiting-in-requires-2
     sub-drops
     offers-of-requires
-    opening-window-requires
+    opening-requires
     add-next
     returns)

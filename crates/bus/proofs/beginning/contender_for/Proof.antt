@@ -13,26 +13,17 @@ returns c =
     let chosen = c .before .before .chosen in
     rw (contender-on, ← chosen .ensures, not-true (chosen .result .found) (c .if1 .taken))
 
-sits-out-requires : tie.Need-sits-out-requires
-sits-out-requires c κs = search needs
-
-returns-2 : tie.Need-returns-2
-returns-2 c =
-    let chosen = c .before .before .before .before .chosen in
-    let found = not-false (chosen .result .found) (c .before .before .if1 .left) in
-    rw (contender-on, ← chosen .ensures, found, ← c .before .sits-out .ensures, c .if2 .taken)
-
 parameter-requires : tie.Need-parameter-requires
 parameter-requires c κs = search needs
 
-returns-3 : tie.Need-returns-3
-returns-3 c =
-    let chosen = c .before .before .before .before .before .before .chosen in
-    let found = not-false (chosen .result .found) (c .before .before .before .before .if1 .left) in
-    let sits-out = c .before .before .before .sits-out in
-    rw (contender-on, ← chosen .ensures, found, ← sits-out .ensures, c .before .before .if2 .left, ← c .parameter .ensures)
+returns-2 : tie.Need-returns-2
+returns-2 c =
+    let start = c .before .before .before .before .before in
+    let chosen = c .before .before .before .before .chosen in
+    let found = not-false (chosen .result .found) (c .before .before .if1 .left) in
+    rw (contender-on, ← chosen .ensures, found, start .pre .1 .1 .1, ← c .parameter .ensures)
 
 pub contender-for-spec : {M : Type 1} → statement M
 contender-for-spec =
     tie.close
-    (tie.spec chosen-requires returns sits-out-requires returns-2 parameter-requires returns-3)
+    (tie.spec chosen-requires returns parameter-requires returns-2)

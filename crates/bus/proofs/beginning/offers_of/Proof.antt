@@ -1,78 +1,172 @@
 -- `beginning::offers_of` meets its contract. The loop's invariant: the stations before i have their places, the others do not contend.
--- Assumes nothing.
+-- That of the loop in it: the first j of station i's places are copied. Assumes nothing.
 use Prim.Native.Nat.{_≤_, _-_}
-use mathlib.Core.Path.{_≡_, ap, _∙_}
+use mathlib.Core.Path.{_≡_, sym, ap, _∙_}
 use native.Mathlib.Omega.{arith}
 use borrow.Author.Needs.{needs}
-use Rattle.bus.proofs.BeginningLaws.{placeFor, placesTo, places-none, places-more}
+use lib.Dec.{eqb}
+use lib.ListN.{getD}
+use lib.Seq.{paste}
+use Rattle.rules.proofs.Laws.{or-false}
+use Rattle.bus.specs.State.{placesAt}
+use Rattle.bus.proofs.QueueLaws.{queues-arrays, taken-one, taken-all}
+use Rattle.bus.proofs.BeginningLaws.{nothing-offered, placeFor, placesTo, places-none, places-more, places-same}
 use Rattle.bus.proofs.beginning.offers_of.Statement.{statement}
 use Rattle.bus.proofs.beginning.offers_of.Tie as tie
 
+abbrev Inv-loop2 : tie.InvT-loop2
+Inv-loop2 g queues settings round n contenders i l length places₀ first j₀ places j =
+    (j ≤ 16) × (places ≡ paste places₀ 0 (placesAt queues i) j)
+
+abbrev μ-loop2 : tie.MeasureT-loop2
+μ-loop2 g queues settings round n contenders i l length places₀ first j₀ places j = 16 - j
+
 abbrev Inv-loop : tie.InvT-loop
-Inv-loop queues g settings round n contenders₀ i₀ contenders i =
+Inv-loop g queues settings round n contenders₀ i₀ contenders i =
     (i ≤ n) × (contenders ≡ placesTo (placeFor g queues) i)
 
 abbrev μ-loop : tie.MeasureT-loop
-μ-loop queues g settings round n contenders₀ i₀ contenders i = n - i
+μ-loop g queues settings round n contenders₀ i₀ contenders i = n - i
 
-loop-holds : tie.Need-loop-holds Inv-loop μ-loop
-loop-holds c = let start = c .before .before in (omega arith, places-none (placeFor (start .args .t1) (start .args .queues)))
+loop-holds : tie.Need-loop-holds Inv-loop2 μ-loop2 Inv-loop μ-loop
+loop-holds c = let start = c .before .before in (omega arith, places-none (placeFor (start .args .t1) (start .args .t2)))
 
-mul-l : tie.Need-mul-l Inv-loop μ-loop
+mul-l : tie.Need-mul-l Inv-loop2 μ-loop2 Inv-loop μ-loop
 mul-l c = search needs
 
-element-copy-out-l : tie.Need-element-copy-out-l Inv-loop μ-loop
+element-copy-out-l : tie.Need-element-copy-out-l Inv-loop2 μ-loop2 Inv-loop μ-loop
 element-copy-out-l c = search needs
 
-queue-at-requires : tie.Need-queue-at-requires Inv-loop μ-loop
-queue-at-requires c κs = search needs
+mul-length : tie.Need-mul-length Inv-loop2 μ-loop2 Inv-loop μ-loop
+mul-length c = search needs
 
-contender-for-requires : tie.Need-contender-for-requires Inv-loop μ-loop
-contender-for-requires c κs =
-    let start = c .before .before .before .before .before .before .before in
-    let i = c .before .before .before .before .loop .i in
-    (rw (c .before .queue-at .ensures) (start .pre .1 .0 i (omega arith)), start .pre .1 .1)
+element-copy-out-length : tie.Need-element-copy-out-length Inv-loop2 μ-loop2 Inv-loop μ-loop
+element-copy-out-length c = search needs
 
-mul-contenders : tie.Need-mul-contenders Inv-loop μ-loop
-mul-contenders c = search needs
+offers-nothing-requires : tie.Need-offers-nothing-requires Inv-loop2 μ-loop2 Inv-loop μ-loop
+offers-nothing-requires c κs = search needs
 
-array-set-from-contenders : tie.Need-array-set-from-contenders Inv-loop μ-loop
-array-set-from-contenders c = search needs
-
-add-i : tie.Need-add-i Inv-loop μ-loop
+add-i : tie.Need-add-i Inv-loop2 μ-loop2 Inv-loop μ-loop
 add-i c = search needs
 
-loop-less : tie.Need-loop-less Inv-loop μ-loop
+loop-less : tie.Need-loop-less Inv-loop2 μ-loop2 Inv-loop μ-loop
 loop-less c = search needs
 
-loop-again : tie.Need-loop-again Inv-loop μ-loop
+loop-again : tie.Need-loop-again Inv-loop2 μ-loop2 Inv-loop μ-loop
 loop-again c =
-    let start = c .before .before .before .before .before .before .before .before in
-    let turn = c .before .before .before .before .before .loop in
-    let more = places-more (placeFor (start .args .t1) (start .args .queues)) (turn .i) (omega arith) in
-    (omega arith, rw (turn .inv .1, c .contender-for .ensures, c .before .before .queue-at .ensures) more)
+    let at = c .before .before .before .before .before in
+    let start = at .before .before .before in
+    let g = start .args .t1 in
+    let qs = start .args .t2 in
+    let still = nothing-offered g qs (at .loop .i) (sym (c .before .offers-nothing .ensures) ∙ c .if1 .taken) in
+    (omega arith, at .loop .inv .1 ∙ places-same (placeFor g qs) (at .loop .i) still)
 
-returns : tie.Need-returns Inv-loop μ-loop
+mul-first : tie.Need-mul-first Inv-loop2 μ-loop2 Inv-loop μ-loop
+mul-first c = search needs
+
+loop2-holds : tie.Need-loop2-holds Inv-loop2 μ-loop2 Inv-loop μ-loop
+loop2-holds c = search needs
+
+add-at : tie.Need-add-at Inv-loop2 μ-loop2 Inv-loop μ-loop
+add-at c = search needs
+
+mul-places : tie.Need-mul-places Inv-loop2 μ-loop2 Inv-loop μ-loop
+mul-places c = search needs
+
+element-copy-out-places : tie.Need-element-copy-out-places Inv-loop2 μ-loop2 Inv-loop μ-loop
+element-copy-out-places c = search needs
+
+mul-places-2 : tie.Need-mul-places-2 Inv-loop2 μ-loop2 Inv-loop μ-loop
+mul-places-2 c = search needs
+
+array-set-from-places : tie.Need-array-set-from-places Inv-loop2 μ-loop2 Inv-loop μ-loop
+array-set-from-places c = search needs
+
+add-j : tie.Need-add-j Inv-loop2 μ-loop2 Inv-loop μ-loop
+add-j c = search needs
+
+loop2-less : tie.Need-loop2-less Inv-loop2 μ-loop2 Inv-loop μ-loop
+loop2-less c = search needs
+
+loop2-again : tie.Need-loop2-again Inv-loop2 μ-loop2 Inv-loop μ-loop
+loop2-again c =
+    let turn = c .before .before in
+    let at = turn .before .before .before .before .before .before in
+    let start = at .before .before .before in
+    let qs = start .args .t2 in
+    let row = queues-arrays qs _ (start .good .1 .0) .1 in
+    (search needs, taken-one qs (at .loop .i) (turn .loop2 .j) (omega arith) row (omega arith) (turn .loop2 .inv .1))
+
+contender-for-requires : tie.Need-contender-for-requires Inv-loop2 μ-loop2 Inv-loop μ-loop
+contender-for-requires c κs =
+    let tested = c .before .before .before in
+    let at = tested .before .before .before .before .before in
+    let start = at .before .before .before in
+    let none = eqb (getD (start .args .t2 .lengths) (at .loop .i) 0) 0 in
+    let sits = or-false none _ (sym (tested .before .offers-nothing .ensures) ∙ tested .if1 .left) .1 in
+    (start .pre .1 .0 (at .loop .i) (omega arith), (start .pre .1 .1 .0, (start .pre .1 .1 .1, sits)))
+
+mul-contenders : tie.Need-mul-contenders Inv-loop2 μ-loop2 Inv-loop μ-loop
+mul-contenders c = search needs
+
+array-set-from-contenders : tie.Need-array-set-from-contenders Inv-loop2 μ-loop2 Inv-loop μ-loop
+array-set-from-contenders c = search needs
+
+add-i-2 : tie.Need-add-i-2 Inv-loop2 μ-loop2 Inv-loop μ-loop
+add-i-2 c = search needs
+
+loop-less-2 : tie.Need-loop-less-2 Inv-loop2 μ-loop2 Inv-loop μ-loop
+loop-less-2 c = search needs
+
+loop-again-2 : tie.Need-loop-again-2 Inv-loop2 μ-loop2 Inv-loop μ-loop
+loop-again-2 c =
+    let inner = c .before .before .before in
+    let at = inner .before .before .before .before .before .before in
+    let start = at .before .before .before in
+    let qs = start .args .t2 in
+    let row = queues-arrays qs _ (start .good .1 .0) .1 in
+    let all = taken-all qs (at .loop .i) (inner .loop2 .j) (omega arith) row (omega arith) (inner .loop2 .inv .1) in
+    let more = places-more (placeFor (start .args .t1) qs) (at .loop .i) (omega arith) in
+    (omega arith, rw (at .loop .inv .1, c .contender-for .ensures, all) more)
+
+returns : tie.Need-returns Inv-loop2 μ-loop2 Inv-loop μ-loop
 returns c =
     let start = c .before .before .before .before in
     let turn = c .before .loop in
     let all : turn .i ≡ start .args .t1 .settings .n = omega arith in
-    turn .inv .1 ∙ ap (placesTo (placeFor (start .args .t1) (start .args .queues))) all
+    turn .inv .1 ∙ ap (placesTo (placeFor (start .args .t1) (start .args .t2))) all
 
 pub offers-of-spec : {M : Type 1} → statement M
 offers-of-spec =
     tie.close
     (tie.spec
+    Inv-loop2
+    μ-loop2
     Inv-loop
     μ-loop
     loop-holds
     mul-l
     element-copy-out-l
-    queue-at-requires
-    contender-for-requires
-    mul-contenders
-    array-set-from-contenders
+    mul-length
+    element-copy-out-length
+    offers-nothing-requires
     add-i
     loop-less
     loop-again
+    mul-first
+    loop2-holds
+    add-at
+    mul-places
+    element-copy-out-places
+    mul-places-2
+    array-set-from-places
+    add-j
+    loop2-less
+    loop2-again
+    contender-for-requires
+    mul-contenders
+    array-set-from-contenders
+    add-i-2
+    loop-less-2
+    loop-again-2
     returns)

@@ -6,8 +6,8 @@ use Rattle.bus.proofs.probing.collided.Tie as tie
 split-requires : tie.Need-split-requires
 split-requires c κs = search needs
 
-onward-requires : tie.Need-onward-requires
-onward-requires c κs = search needs
+went-on-requires : tie.Need-went-on-requires
+went-on-requires c κs = search needs
 
 unsent-requires : tie.Need-unsent-requires
 unsent-requires c κs = search needs
@@ -16,4 +16,4 @@ returns : tie.Need-returns
 returns c = cc
 
 pub collided-spec : {M : Type 1} → statement M
-collided-spec = tie.close (tie.spec split-requires onward-requires unsent-requires returns)
+collided-spec = tie.close (tie.spec split-requires went-on-requires unsent-requires returns)

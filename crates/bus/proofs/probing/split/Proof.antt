@@ -18,7 +18,7 @@ left-half-requires c κs = search needs
 
 returns : tie.Need-returns
 returns c =
-    let now = c .before .before .before .before .before .before .args .g .contention in
+    let now = c .before .before .before .before .args .c in
     simp (le-leb 2 (now .window .size) (c .before .if1 .taken)) (ap (under-way (now .tied) (now .tie)) (c .left-half .ensures))
 
 tie-window-requires : tie.Need-tie-window-requires
@@ -27,13 +27,13 @@ tie-window-requires c κs = search needs
 returns-2 : tie.Need-returns-2
 returns-2 c =
     let first = c .before in
-    let now = first .before .before .before .before .before .before .args .g .contention in
+    let now = first .before .before .before .before .args .c in
     simp (lt-leb 2 (now .window .size) (first .before .if1 .left), c .if2 .taken) (ap (under-way true (now .tie)) (first .tie-window .ensures))
 
 returns-3 : tie.Need-returns-3
 returns-3 c =
     let first = c .before in
-    let now = first .before .before .before .before .before .before .args .g .contention in
+    let now = first .before .before .before .before .args .c in
     simp
     (lt-leb 2 (now .window .size) (first .before .if1 .left), c .if2 .left)
     (ap (under-way true (now .window .start)) (first .tie-window .ensures))

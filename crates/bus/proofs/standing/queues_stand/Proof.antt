@@ -1,12 +1,12 @@
--- `standing::queues_stand` meets its contract: each test that fails makes the conjunction fail, and the queues of sound places have room
--- and rise. Assumes nothing.
+-- `standing::queues_stand` meets its contract: each test that fails makes the conjunction fail, and the queues of sound places have room.
+-- Assumes nothing.
 use mathlib.Core.Path.{_≡_}
 use mathlib.Core.Bool.{true}
 use borrow.Author.Needs.{needs}
 use Rattle.bus.specs.State.{each-place}
 use Rattle.bus.specs.Parts.{placeSound}
 use Rattle.bus.proofs.Tested.{denied, granted}
-use Rattle.bus.proofs.StandingParts.{sound-room, sound-rises}
+use Rattle.bus.proofs.StandingParts.{sound-room}
 use Rattle.bus.proofs.standing.queues_stand.Statement.{statement}
 use Rattle.bus.proofs.standing.queues_stand.Tie as tie
 
@@ -37,13 +37,7 @@ none-twice-requires : tie.Need-none-twice-requires
 none-twice-requires c κs =
     let one = c .before .before .before .before .before in
     let start = one .before .before in
-    let g = start .args .g in (
-      start .pre,
-      (
-        sound-room g (start .args .queues) (start .pre) (sound one),
-        λ i h. (g .admitted, sound-rises g (start .args .queues) (start .pre) (sound one) i h),
-      ),
-    )
+    (start .pre, sound-room (start .args .g) (start .args .queues) (start .pre) (sound one))
 
 returns-3 : tie.Need-returns-3
 returns-3 c =

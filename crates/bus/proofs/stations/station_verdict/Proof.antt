@@ -2,51 +2,47 @@
 use Prim.Native.Nat.{ℕ}
 use mathlib.Core.Path.{_≡_, refl, sym, ap₂, _∙_}
 use mathlib.Core.Bool.{Bool, true, false, _&&_}
-use mathlib.Core.List.{[], map}
-use lib.ListN.{getD, take, drop}
+use mathlib.Core.List.{List, [], map}
+use lib.ListN.{drop}
 use borrow.Author.Tests.{eq-eqb, ne-eqb}
 use borrow.Author.Needs.{needs}
 use Rattle.rules.specs.Lists.{firstOf, verdict}
 use Rattle.rules.specs.declared.Verdict.{Verdict}
 use Rattle.rules.specs.SetUp.{fine, fault, stationTests}
-use Rattle.bus.specs.State.{nobody}
+use Rattle.bus.specs.State.{Listed}
 use Rattle.bus.specs.Coded.{askedOf, requestWith}
+use Rattle.bus.specs.Parts.{Addresses, Capabilities, shared}
 use Rattle.bus.proofs.SettingUp.{tested}
 use Rattle.bus.proofs.stations.station_verdict.Statement.{statement}
 use Rattle.bus.proofs.stations.station_verdict.Tie as tie
 
--- the verdict of all tests but the first k
-abbrev but : tie.Start → ℕ → Verdict
-but c k =
-    let i = c .args .i in
-    let stations = c .args .t2 in
+-- the verdict of all tests but the first k, after these earlier stations
+abbrev but : tie.Start → List Listed → ℕ → Verdict
+but c earlier k =
     let r = requestWith (c .args .settings) [] in
-    firstOf fine (drop k (stationTests r i (map askedOf (take i stations)) (askedOf (getD stations i nobody))))
+    firstOf fine (drop k (stationTests r (c .args .i) (map askedOf earlier) (askedOf (c .args .s))))
 
 -- it decides where 7 fails, where 7 and 8 fail, where 7 to 9 fail
-not-7 : (c : tie.Else1) → let start = c .before .before .before in but start 1 ≡ but start 0
-not-7 c = tested _ _ (c .before .address-past .ensures) (c .if1 .left)
+not-7 : (c : tie.Else1) (earlier : List Listed) → let start = c .before .before in but start earlier 1 ≡ but start earlier 0
+not-7 c earlier = tested _ _ (c .before .address-past .ensures) (c .if1 .left)
 
-not-8 : (c : tie.Else2) → let start = c .before .before .before .before .before in but start 2 ≡ but start 0
-not-8 c = tested _ _ (c .before .earlier-same .ensures) (c .if2 .left) ∙ not-7 (c .before .before)
+not-8 :
+    (c : tie.Else2) (earlier : List Listed) → let start = c .before .before .before in
+    start .args .address ≡ shared Addresses (start .args .s) earlier → but start earlier 2 ≡ but start earlier 0
+not-8 c earlier a = tested _ _ a (c .if2 .left) ∙ not-7 (c .before) earlier
 
-not-9 : (c : tie.Else3) → let start = c .before .before .before .before .before .before .before in but start 3 ≡ but start 0
-not-9 c = tested _ _ (c .before .capability-outside .ensures) (c .if3 .left) ∙ not-8 (c .before .before)
+not-9 :
+    (c : tie.Else3) (earlier : List Listed) → let start = c .before .before .before .before .before in
+    start .args .address ≡ shared Addresses (start .args .s) earlier → but start earlier 3 ≡ but start earlier 0
+not-9 c earlier a = tested _ _ (c .before .capability-outside .ensures) (c .if3 .left) ∙ not-8 (c .before .before) earlier a
 
 -- the test of 10 in RTVC
 last :
-    (c : tie.After-earlier-same2) (t : Bool) → c .earlier-same2 .result ≡ t
-    → let start = c .before .before .before .before .before .before .before .before .before .before in
-    verdict t (fault 10 (start .args .i)) fine ≡ but start 0
-last c t told =
-    tested _ _ (sym (ap₂ _&&_ (eq-eqb _ _ (c .before .if4 .left)) (sym (c .earlier-same2 .ensures)))) told
-    ∙ not-9 (c .before .before .before)
-
-mul-s : tie.Need-mul-s
-mul-s c = search needs
-
-array-copy-out-s : tie.Need-array-copy-out-s
-array-copy-out-s c = search needs
+    (c : tie.Else4) (earlier : List Listed) (t : Bool) → let start = c .before .before .before .before .before .before .before in
+    start .args .address ≡ shared Addresses (start .args .s) earlier → start .args .capability ≡ shared Capabilities (start .args .s) earlier
+    → start .args .capability ≡ t → verdict t (fault 10 (start .args .i)) fine ≡ but start earlier 0
+last c earlier t a b told =
+    tested _ _ (sym (ap₂ _&&_ (eq-eqb _ _ (c .if4 .left)) (sym b))) told ∙ not-9 (c .before .before) earlier a
 
 address-past-requires : tie.Need-address-past-requires
 address-past-requires c κs = search needs
@@ -55,18 +51,15 @@ fault-requires : tie.Need-fault-requires
 fault-requires c κs = search needs
 
 returns : tie.Need-returns
-returns c = let at = c .before in c .fault .ensures ∙ tested _ _ (at .before .address-past .ensures) (at .if1 .taken)
-
-earlier-same-requires : tie.Need-earlier-same-requires
-earlier-same-requires c κs = search needs
+returns c earlier a b =
+    let at = c .before in c .fault .ensures ∙ tested _ _ (at .before .address-past .ensures) (at .if1 .taken)
 
 fault-requires-2 : tie.Need-fault-requires-2
 fault-requires-2 c κs = search needs
 
 returns-2 : tie.Need-returns-2
-returns-2 c =
-    let at = c .before in
-    c .fault2 .ensures ∙ tested _ _ (at .before .earlier-same .ensures) (at .if2 .taken) ∙ not-7 (at .before .before)
+returns-2 c earlier a b =
+    let at = c .before in c .fault2 .ensures ∙ tested _ _ a (at .if2 .taken) ∙ not-7 (at .before) earlier
 
 capability-outside-requires : tie.Need-capability-outside-requires
 capability-outside-requires c κs = search needs
@@ -75,43 +68,37 @@ fault-requires-3 : tie.Need-fault-requires-3
 fault-requires-3 c κs = search needs
 
 returns-3 : tie.Need-returns-3
-returns-3 c =
+returns-3 c earlier a b =
     let at = c .before in
-    c .fault3 .ensures ∙ tested _ _ (at .before .capability-outside .ensures) (at .if3 .taken) ∙ not-8 (at .before .before)
+    c .fault3 .ensures ∙ tested _ _ (at .before .capability-outside .ensures) (at .if3 .taken) ∙ not-8 (at .before .before) earlier a
 
 fault-requires-4 : tie.Need-fault-requires-4
 fault-requires-4 c κs = search needs
 
 returns-4 : tie.Need-returns-4
-returns-4 c =
+returns-4 c earlier a b =
     let at = c .before in
-    c .fault4 .ensures ∙ tested _ _ (sym (ap₂ _&&_ (ne-eqb _ _ (at .if4 .taken)) refl)) refl ∙ not-9 (at .before .before)
-
-earlier-same-requires-2 : tie.Need-earlier-same-requires-2
-earlier-same-requires-2 c κs = search needs
+    c .fault4 .ensures ∙ tested _ _ (sym (ap₂ _&&_ (ne-eqb _ _ (at .if4 .taken)) refl)) refl ∙ not-9 (at .before .before) earlier a
 
 fault-requires-5 : tie.Need-fault-requires-5
 fault-requires-5 c κs = search needs
 
 returns-5 : tie.Need-returns-5
-returns-5 c = c .fault5 .ensures ∙ last (c .before .before) true (c .before .if5 .taken)
+returns-5 c earlier a b = c .fault5 .ensures ∙ last (c .before .before) earlier true a b (c .before .if5 .taken)
 
 fault-requires-6 : tie.Need-fault-requires-6
 fault-requires-6 c κs = search needs
 
 returns-6 : tie.Need-returns-6
-returns-6 c = c .fault6 .ensures ∙ last (c .before .before) false (c .before .if5 .left)
+returns-6 c earlier a b = c .fault6 .ensures ∙ last (c .before .before) earlier false a b (c .before .if5 .left)
 
 pub station-verdict-spec : {M : Type 1} → statement M
 station-verdict-spec =
     tie.close
     (tie.spec
-    mul-s
-    array-copy-out-s
     address-past-requires
     fault-requires
     returns
-    earlier-same-requires
     fault-requires-2
     returns-2
     capability-outside-requires
@@ -119,7 +106,6 @@ station-verdict-spec =
     returns-3
     fault-requires-4
     returns-4
-    earlier-same-requires-2
     fault-requires-5
     returns-5
     fault-requires-6

@@ -1,12 +1,11 @@
 -- `waiting::queue_at` meets its contract. The loop's invariant: the first j of station i's places are copied. Assumes nothing.
 use Prim.Native.Nat.{_≤_, _-_}
-use mathlib.Core.Path.{_≡_, sym}
-use mathlib.Core.List.{append-nil}
+use mathlib.Core.Path.{_≡_}
 use native.Mathlib.Omega.{arith}
 use borrow.Author.Needs.{needs}
 use lib.Seq.{paste}
 use Rattle.bus.specs.State.{placesAt}
-use Rattle.bus.proofs.QueueLaws.{queues-arrays, places-count, place-at, copied-one, copied-all}
+use Rattle.bus.proofs.QueueLaws.{queues-arrays, taken-one, taken-all}
 use Rattle.bus.proofs.waiting.queue_at.Statement.{statement}
 use Rattle.bus.proofs.waiting.queue_at.Tie as tie
 
@@ -48,9 +47,8 @@ loop-again c =
     let start = c .before .before .before in
     let turn = c .before .before .loop in
     let qs = start .args .t1 in
-    let n = places-count qs (start .args .i) (start .pre) (queues-arrays qs _ (start .good .0) .1) in
-    let p = place-at qs (start .args .i) (turn .j) (omega arith) in
-    (search needs, copied-one _ 0 _ (turn .j) (turn .inv .1) (sym p) (omega arith) (omega arith) (omega arith))
+    let row = queues-arrays qs _ (start .good .0) .1 in
+    (search needs, taken-one qs (start .args .i) (turn .j) (start .pre) row (omega arith) (turn .inv .1))
 
 mul-length : tie.Need-mul-length Inv-loop μ-loop
 mul-length c = search needs
@@ -63,8 +61,8 @@ returns c =
     let start = c .before .before .before in
     let turn = c .before .before .loop in
     let qs = start .args .t1 in
-    let n = places-count qs (start .args .i) (start .pre) (queues-arrays qs _ (start .good .0) .1) in
-    rw (copied-all _ 0 (placesAt qs (start .args .i)) (turn .j) 16 (turn .inv .1) (omega arith) n) (rw append-nil)
+    let row = queues-arrays qs _ (start .good .0) .1 in
+    rw (taken-all qs (start .args .i) (turn .j) (start .pre) row (omega arith) (turn .inv .1))
 
 pub queue-at-spec : {M : Type 1} → statement M
 queue-at-spec =

@@ -1,0 +1,365 @@
+-- A call made in place, on a segment and queues that are held apart: the laws that `playing::at_once` goes by. Assumes nothing.
+use Prim.Native.Nat.{ℕ, _+_, _-_, _*_, _≤_, _<_}
+use mathlib.Core.Path.{_≡_, refl, sym, ap, ap₂, _∙_, subst}
+use mathlib.Core.Bool.{Bool, true, false, not, _&&_, cond}
+use mathlib.Core.List.{List, _++_}
+use native.Mathlib.Nat.{add-zero}
+use native.Mathlib.Omega.{arith}
+use lib.Dec.{eqb, ltb}
+use lib.ListN.{length, getD, take, drop, set, replicate}
+use borrow.Author.Tests.{ltb-false, eqb-true, eqb-false, eq-eqb, ne-eqb}
+use Rattle.window.specs.declared.Side.{Side}
+use Rattle.window.specs.declared.Side.the-variants.{Left, Right}
+use Rattle.rules.specs.SetUp.{disciplineOf}
+use Rattle.rules.specs.declared.Admitted.{Admitted}
+use Rattle.rules.specs.Lists.{keep}
+use Rattle.rules.specs.Bus.{Bus, last-slot, most-stations}
+use Rattle.rules.specs.Standing.{Standing}
+use Rattle.rules.specs.Admission as Rules
+use Rattle.rules.specs.Admission.{admit, admissionRefusal}
+use Rattle.rules.specs.Begin.{begin, dropsOf}
+use Rattle.rules.specs.Probe as Probe
+use Rattle.rules.specs.Probe.{success, refusedAnswer}
+use Rattle.rules.specs.Step.{opened, step}
+use Rattle.rules.proofs.Keeps.{keepsStanding, begin-stands}
+use Rattle.rules.proofs.Laws.{clash, true-and}
+use Rattle.rules.proofs.Tests as Tests
+use Rattle.rules.proofs.Standing.{stands-exactly}
+use Rattle.bus.specs.State.{Packet, Settings, Contender, Contention, noContender, Segment, Queues, State, meaning, form, queueAt}
+use Rattle.bus.specs.Coded.{Answer, Stepped, Admission, standing, codedAdmit, codedStep, admissionResult, stepResult}
+use Rattle.bus.specs.Stretch.{Arrival, Arrivals, Report, noArrival, most-calls, noReport, asks, due, arrivalReport, stepReport, inRow, mayBeMore}
+use Rattle.bus.specs.Parts.{Queue, openingOf, addressPlace, refusalAt, Begun, Probed, Heard, Progress, Moved, unheardOn, wonOn, collidedOn, openOf, probed, heardIn, progressOf, movedBy, withMoved, segmentWith, noContenders, withQueue, queueForm, stays, Sent}
+use Rattle.bus.proofs.Rows.{row-replicate}
+use Rattle.bus.proofs.Form.{held-form, padded-parts, parts-padded, standing-fits, meaning-form, padded-form}
+use Rattle.bus.proofs.Coded.{hands-back-admission, hands-back-step}
+use Rattle.bus.proofs.Changed.{Lent, few-stations}
+use Rattle.bus.proofs.Admitting.{refusal-is, gives-refusal, joinedAt, in-row, room-at, joined-in-place}
+use Rattle.bus.proofs.Tested.{denied}
+use Rattle.bus.proofs.Changed.{segmentCounting}
+use Rattle.bus.proofs.BeginningLaws.{placesTo, placeFor, begunState, begun-is, begun-idle, all-in-time, waiting-dropped}
+use Rattle.bus.proofs.BeginningLaws.{opened as begun-state}
+use Rattle.bus.proofs.Steps.{goes-on, begins, probes}
+use Rattle.bus.proofs.ProbedSlot.{queuesAfter, slotWith, slotOf, winner-there, probed-is}
+use Rattle.bus.proofs.HeardLaws.{answer-moved, segment-moved, winner-moved}
+use Rattle.bus.proofs.Stretched.{So-far, at-first, row-due, took, stepped-on}
+
+-- the state of these parts
+abbrev pub whole : Segment → Queues → State
+whole g queues = record { segment = g; queues = queues }
+
+-- ---- a state that stands stands after each call
+
+pub lent-form : (b : Bus) → Standing b → Lent (form b)
+lent-form b h =
+    let fits = standing-fits b h in
+    let stands! = subst Standing (sym (meaning-form b fits)) h in
+    record {
+      held = held-form b;
+      zeros = padded-parts (form b) (padded-form b fits);
+      stands = stands!;
+      few = few-stations (form b) stands!;
+    }
+
+module _ (s : State) (r : Lent s) where
+  pub lent-stepped : Lent (codedStep s .1)
+  lent-stepped = go (eqb (codedStep s .0 .refusal) 0) refl
+    where
+      of-rules : codedStep s ≡ (step (meaning s) .0, form (step (meaning s) .1))
+      of-rules = ap (λ t. cond t (step (meaning s) .0, form (step (meaning s) .1)) (refusedAnswer 1, s)) (parts-padded s (r .zeros))
+
+      go : (t : Bool) → eqb (codedStep s .0 .refusal) 0 ≡ t → Lent (codedStep s .1)
+      go true e =
+          let none! = sym (ap (λ (o : Probe.Answer × State). o .0 .refusal) of-rules) ∙ eqb-true (codedStep s .0 .refusal) 0 e in
+          subst Lent (sym (ap (λ (o : Probe.Answer × State). o .1) of-rules)) (lent-form (step (meaning s) .1) (keepsStanding .step (meaning s) none!))
+      go false e =
+          subst Lent (sym (ap (λ (o : Probe.Answer × State). o .1) (hands-back-step s (r .held) (eqb-false (codedStep s .0 .refusal) 0 e)))) r
+
+  pub lent-admitted : (a : Rules.Arrival) → Lent (codedAdmit s a .1)
+  lent-admitted a = go (eqb (codedAdmit s a .0 .refusal) 0) refl
+    where
+      of-rules : codedAdmit s a ≡ (admit (meaning s) a .0, form (admit (meaning s) a .1))
+      of-rules =
+          ap
+          (λ t. cond t (admit (meaning s) a .0, form (admit (meaning s) a .1)) (record { refusal = 1; number = 0 }, s))
+          (parts-padded s (r .zeros))
+
+      go : (t : Bool) → eqb (codedAdmit s a .0 .refusal) 0 ≡ t → Lent (codedAdmit s a .1)
+      go true e =
+          let none! = sym (ap (λ (o : Admitted × State). o .0 .refusal) of-rules) ∙ eqb-true (codedAdmit s a .0 .refusal) 0 e in
+          subst Lent (sym (ap (λ (o : Admitted × State). o .1) of-rules)) (lent-form (admit (meaning s) a .1) (keepsStanding .admission (meaning s) a none!))
+      go false e =
+          subst Lent (sym (ap (λ (o : Admitted × State). o .1) (hands-back-admission s (r .held) a (eqb-false (codedAdmit s a .0 .refusal) 0 e)))) r
+
+-- ---- an admission in place
+
+-- the answer to an admission, by its refusal
+abbrev pub answered : ℕ → ℕ → Admitted
+answered refusal admitted = record { refusal = refusal; number = cond (eqb refusal 0) (admitted + 1) 0 }
+
+module _ (s : State) (r : Lent s) (a : Arrival) (place : ℕ) (sought : place ≡ addressPlace s (a .address)) (refusal : ℕ)
+    (e : refusal ≡ refusalAt (s .segment .settings) (s .segment .clock) (s .segment .admitted) (s .queues .lengths) place (a .value) (a .length))
+    (answer : Admitted) (f : answer ≡ answered refusal (s .segment .admitted)) where
+  of-rules : refusal ≡ admissionRefusal (meaning s) (asks a)
+  of-rules = e ∙ refusal-is s r place (a .address) sought (a .value) (a .length)
+
+  pub turned-away :
+      ¬ (refusal ≡ 0) → _≡_ {A = Admission} (record { answer = answer; state = s }) (admissionResult (codedAdmit s (asks a)))
+  turned-away n =
+      ap (λ (o : Admitted). record { answer = o; state = s })
+      (f ∙ ap (λ (t : Bool). record { refusal = refusal; number = cond t (s .segment .admitted + 1) 0 }) (ne-eqb refusal 0 n))
+      ∙ gives-refusal s r (asks a) refusal of-rules n
+
+  module _ (z : refusal ≡ 0) where
+    none! : admissionRefusal (meaning s) (asks a) ≡ 0
+    none! = sym of-rules ∙ z
+
+    pub place-in : place < 64
+    place-in = in-row s r place (a .address) sought (a .value) (a .length) none!
+
+    pub place-has-room : getD (s .queues .lengths) place 0 < 16
+    place-has-room = room-at s r place (a .address) sought (a .value) (a .length) none!
+
+    pub taken-in :
+        _≡_
+        {A = Admission}
+        (record { answer = answer; state = joinedAt s place (answer .number) (a .value) (a .length) })
+        (admissionResult (codedAdmit s (asks a)))
+    taken-in =
+        let number! : answer ≡ record { refusal = 0; number = s .segment .admitted + 1 } = f ∙ ap (λ (k : ℕ). answered k (s .segment .admitted)) z in
+        ap (λ (o : Admitted). record { answer = o; state = joinedAt s place (o .number) (a .value) (a .length) }) number!
+        ∙ joined-in-place s r place (a .address) sought (a .value) (a .length) none! (s .segment .admitted + 1) refl
+
+-- ---- the contention is under way, or has just begun
+
+pub record Opened (s : State) (g : Segment) (queues : Queues) (drops : ℕ) : Type 0 where
+  pub is : opened (meaning s) ≡ openOf (whole g queues) drops
+  pub ready : Lent (whole g queues)
+  pub begun : g .contention .begun ≡ true
+  pub clock : g .clock ≡ s .segment .clock
+
+pub was-open : (s : State) → Lent s → s .segment .contention .begun ≡ true → Opened s (s .segment) (s .queues) 0
+was-open s r e = record { is = goes-on s e; ready = r; begun = e; clock = refl }
+
+pub now-open :
+    (s : State) → Lent s → s .segment .contention .begun ≡ false → (x : Begun)
+    → x ≡ record { state = form (begin (meaning s)); drops = dropsOf (meaning s) }
+    → Opened s (x .state .segment) (x .state .queues) (x .drops)
+now-open s r e x f =
+    subst (λ (o : Begun). Opened s (o .state .segment) (o .state .queues) (o .drops)) (sym f)
+    (record {
+      is = begins s r e;
+      ready = lent-form (begin (meaning s)) (begin-stands (meaning s) (r .stands));
+      begun = refl;
+      clock = refl;
+    })
+
+-- the same, of equal things
+pub opened-as :
+    {s : State} {g g′ : Segment} {queues queues′ : Queues} {drops drops′ : ℕ} → g′ ≡ g → queues′ ≡ queues → drops′ ≡ drops
+    → Opened s g queues drops → Opened s g′ queues′ drops′
+opened-as {s} {g} {g′} {queues} {queues′} {drops} {drops′} a b c o =
+    subst (λ (k : ℕ). Opened s g′ queues′ k) (sym c)
+    (subst (λ (q : Queues). Opened s g′ q drops) (sym b) (subst (λ (h : Segment). Opened s h queues drops) (sym a) o))
+
+-- the test that refusal 1 goes by is passed
+pub passed : (s : State) → Lent s → standing s ≡ true
+passed s r = true-and (parts-padded s (r .zeros)) (Tests.told (stands-exactly (meaning s)) (r .stands))
+
+-- a segment with another contention and other contenders
+abbrev pub contending : Segment → Contention → List Contender → Segment
+contending g k contenders = segmentWith g (g .clock .0) (g .sent) (g .round) k contenders
+
+module _ (s : State) (r : Lent s) (between : s .segment .contention .begun ≡ false) (k : Contention) (k! : k ≡ openingOf (s .segment .settings .d)) where
+  -- a contention begins where no packet waits
+  pub idle-open :
+      {waits : Bool} → waits ≡ ltb (s .segment .sent + s .segment .lost) (s .segment .admitted) → not waits ≡ true
+      → Opened s (contending (s .segment) k (s .segment .contenders)) (s .queues) 0
+  idle-open e n =
+      let none = ltb-false (s .segment .sent + s .segment .lost) (s .segment .admitted) (denied e n) in
+      let idle : s .segment .sent + s .segment .lost ≡ s .segment .admitted = omega (arith, r .stands .counts) in
+      opened-as (ap (λ (c : Contention). contending (s .segment) c (s .segment .contenders)) k!) refl refl
+      (now-open s r between (record { state = begun-state s; drops = 0 }) (begun-idle s r between idle))
+
+  -- and where packets wait of which none is late
+  pub offered-open :
+      ¬ (s .segment .settings .discipline ≡ 1) → (contenders : List Contender)
+      → contenders ≡ placesTo (placeFor (s .segment) (s .queues)) (s .segment .settings .n)
+      → Opened s (contending (s .segment) k contenders) (s .queues) 0
+  offered-open n contenders e =
+      let kept = all-in-time s r n in
+      let none : 0 ≡ dropsOf (meaning s) = omega (arith, waiting-dropped s r (s .queues) kept (r .held .lengths)) in
+      opened-as
+      (ap₂ (λ (c : Contention) (os : List Contender). contending (s .segment) c os) k! e
+      ∙ ap
+      (λ (lost : ℕ).
+      segmentCounting (s .segment) (s .segment .admitted) lost (openingOf (s .segment .settings .d)) (placesTo (placeFor (s .segment) (s .queues)) (s .segment .settings .n)))
+      (sym (add-zero (s .segment .lost))))
+      refl
+      refl
+      (now-open s r between (record { state = begunState s (s .queues) 0; drops = 0 }) (begun-is s r (s .queues) kept 0 none (r .held .lengths) (r .held .packets)))
+
+-- ---- a probe in place
+
+-- a contention that goes on has no winner
+module _ (g : Settings) (pr : Progress) (drops : ℕ) (heard : Heard) where
+  abbrev by : Bool → Bool → Side → Moved
+  by none one side =
+      cond
+      none
+      (unheardOn pr drops side)
+      (cond one (wonOn (disciplineOf (g .discipline)) pr drops (heard .listed) (heard .packet)) (collidedOn (g .a) pr drops))
+
+  unended-by : (none one : Bool) (side : Side) → by none one side .answer .ended ≡ false → by none one side .answer .event ≡ success → ⊥
+  unended-by true one Left f k = omega arith
+  unended-by true one Right f k = clash refl f
+  unended-by false true side f k = clash refl f
+  unended-by false false side f k = omega arith
+
+  pub unended : (m : Moved) → m ≡ movedBy g pr drops heard → m .answer .ended ≡ false → ¬ (m .answer .event ≡ success)
+  unended m e f k =
+      unended-by (eqb (heard .first) (g .n)) (eqb (heard .second) (g .n)) (pr .contention .window .side)
+      (sym (ap (λ (o : Moved). o .answer .ended) e) ∙ f)
+      (sym (ap (λ (o : Moved). o .answer .event) e) ∙ k)
+
+module _ (s : State) (r : Lent s) (in-time : ltb last-slot (s .segment .clock .0) ≡ false) (g : Segment) (queues : Queues) (drops : ℕ)
+    (o : Opened s g queues drops) (heard : Heard) (h : heard ≡ heardIn g) (m : Moved)
+    (e : m ≡ movedBy (g .settings) (progressOf g) drops heard) where
+  -- it is what the machine's probe makes of the bus
+  whole-moved : m ≡ movedBy (g .settings) (progressOf g) drops (heardIn g)
+  whole-moved = e ∙ ap (movedBy (g .settings) (progressOf g) drops) h
+
+  abbrev p : Probed
+  p = probed g drops
+
+  answer! : m .answer ≡ p .answer
+  answer! = ap (λ (o : Moved). o .answer) whole-moved ∙ sym (answer-moved g drops)
+
+  segment! : withMoved g m ≡ p .segment
+  segment! = ap (withMoved g) whole-moved ∙ sym (segment-moved g drops)
+
+  by-machine : slotOf (whole g queues) p ≡ stepResult (codedStep s)
+  by-machine =
+      probed-is (whole g queues) (o .ready) (o .begun) drops p refl
+      ∙ probes s r in-time (openOf (whole g queues) drops) (o .is)
+
+  -- the segment moved, and the queues by whether a packet was sent
+  abbrev after : Queues → Stepped
+  after rest = record { answer = m .answer; state = whole (withMoved g m) rest }
+
+  after-is :
+      (sent : Bool) → eqb (p .answer .event) success ≡ sent → (rest : Queues) → rest ≡ cond sent (queuesAfter (whole g queues) p) queues
+      → after rest ≡ stepResult (codedStep s)
+  after-is sent f rest k =
+      ap₂ (λ (answer : Answer) (q : Queues). record { answer = answer; state = whole (withMoved g m) q }) answer! k
+      ∙ ap (λ (x : Segment). record { answer = p .answer; state = whole x (cond sent (queuesAfter (whole g queues) p) queues) }) segment!
+      ∙ ap (λ (t : Bool). slotWith p (cond t (queuesAfter (whole g queues) p) queues)) (sym f)
+      ∙ by-machine
+
+  -- the answer, and the state with these contenders and queues
+  abbrev placed : List Contender → Queues → Stepped
+  placed contenders rest =
+      record {
+        answer = m .answer;
+        state =
+            whole
+            (segmentWith g (m .progress .clock .0) (m .progress .sent) (m .progress .round) (m .progress .contention) contenders)
+            rest;
+      }
+
+  contenders-of :
+      {ended : Bool} → m .answer .ended ≡ ended → (rest : Queues) → placed (cond ended noContenders (g .contenders)) rest ≡ after rest
+  contenders-of f rest = ap (λ (t : Bool). placed (cond t noContenders (g .contenders)) rest) (sym f)
+
+  -- no packet was sent
+  none-sent : ¬ (m .answer .event ≡ success) → after queues ≡ stepResult (codedStep s)
+  none-sent n =
+      after-is false (ne-eqb (p .answer .event) success (λ k. n (ap (λ (x : Answer). x .event) answer! ∙ k))) queues refl
+
+  -- the winner is a station
+  winner! : m .answer .event ≡ success → heard .first ≡ p .winner
+  winner! k = ap (λ (x : Heard). x .first) h ∙ sym (winner-moved g drops (ap (λ (x : Moved). x .answer .event) (sym whole-moved) ∙ k))
+
+  pub winner-in : m .answer .event ≡ success → heard .first < most-stations
+  winner-in k = omega (arith, winner! k, winner-there (whole g queues) (o .ready) drops p refl)
+
+  -- the winner's packet leaves its queue
+  one-sent :
+      m .answer .event ≡ success → (rest : Queues)
+      → rest ≡ withQueue queues (heard .first) (queueForm (keep (stays (Sent (m .answer .number))) (queueAt queues (heard .first))))
+      → after rest ≡ stepResult (codedStep s)
+  one-sent k rest f =
+      after-is true
+      (eq-eqb (p .answer .event) success (sym (ap (λ (x : Answer). x .event) answer!) ∙ k))
+      rest
+      (f
+      ∙ ap₂
+      (λ (i : ℕ) (number : ℕ). withQueue queues i (queueForm (keep (stays (Sent number)) (queueAt queues i))))
+      (winner! k)
+      (ap (λ (x : Answer). x .number) answer!))
+
+  -- the contention goes on; or it ends, without a winner or with one
+  pub still-on : m .answer .ended ≡ false → placed (g .contenders) queues ≡ stepResult (codedStep s)
+  still-on f = contenders-of f queues ∙ none-sent (unended (g .settings) (progressOf g) drops heard m e f)
+
+  cleared : (rest : Queues) → placed (replicate 64 noContender) rest ≡ placed noContenders rest
+  cleared rest = ap (λ (os : List Contender). placed os rest) (row-replicate 64 noContender)
+
+  pub ends-unheard :
+      m .answer .ended ≡ true → ¬ (m .answer .event ≡ success) → placed (replicate 64 noContender) queues ≡ stepResult (codedStep s)
+  ends-unheard f n = cleared queues ∙ contenders-of f queues ∙ none-sent n
+
+  pub ends-won :
+      m .answer .ended ≡ true → m .answer .event ≡ success → (rest : Queues)
+      → rest ≡ withQueue queues (heard .first) (queueForm (keep (stays (Sent (m .answer .number))) (queueAt queues (heard .first))))
+      → placed (replicate 64 noContender) rest ≡ stepResult (codedStep s)
+  ends-won f k rest h′ = cleared rest ∙ contenders-of f rest ∙ one-sent k rest h′
+
+-- a queue put back in place
+pub put-back :
+    (qs : Queues) (i : ℕ) (rest : Queue) (next : Queues) (packets : List Packet) → next .lengths ≡ set (qs .lengths) i (rest .length)
+    → next .packets ≡ take (16 * i) (qs .packets) ++ rest .packets ++ drop (16 * i + 16) (qs .packets) → rest ≡ queueForm packets
+    → next ≡ withQueue qs i (queueForm packets)
+put-back qs i rest next packets a b e =
+    ap₂ (λ (lengths : List ℕ) (ps : List Packet). record { lengths = lengths; packets = ps }) a b ∙ ap (withQueue qs i) e
+
+-- ---- what a stretch has come to, in place
+
+pub record Going (s : State) (x : Arrivals) (steps : ℕ) (g : Segment) (queues : Queues) (reports : List Report) (made taken left : ℕ) : Type 0 where
+  pub so-far : So-far s (inRow x) (mayBeMore x) steps (whole g queues) reports made taken left
+  pub lent : Lent (whole g queues)
+  pub few : made ≤ 512
+  pub here : taken ≤ length (inRow x)
+
+pub at-outset : (s : State) (x : Arrivals) (steps : ℕ) → Lent s → Going s x steps (s .segment) (s .queues) (replicate most-calls noReport) 0 0 steps
+at-outset s x steps r =
+    record { so-far = at-first s (inRow x) (mayBeMore x) steps; lent = r; few = omega arith; here = omega arith }
+
+module _ (x : Arrivals) (places : length (x .row) ≡ 64) (s : State) (steps : ℕ) (g : Segment) (queues : Queues) (reports : List Report) (made taken left : ℕ)
+    (y : Going s x steps g queues reports made taken left) (m : made < 512) (t : taken < 64) (l : 0 < left) where
+  abbrev coming : Arrival
+  coming = getD (x .row) taken noArrival
+
+  pub with-arrival :
+      (ltb taken (x .length) && due (g .clock .0) coming) ≡ true → (admission : Admission)
+      → admission ≡ admissionResult (codedAdmit (whole g queues) (asks coming)) → (r : Report)
+      → r ≡ arrivalReport (whole g queues) coming (admission .answer)
+      → Going s x steps (admission .state .segment) (admission .state .queues) (set reports made r) (made + 1) (taken + 1) left
+  with-arrival e admission f r h =
+      record {
+        so-far = took x places s steps (whole g queues) reports made taken left (y .so-far) m t l e admission f r h;
+        lent = subst (λ (o : Admission). Lent (o .state)) (sym f) (lent-admitted (whole g queues) (y .lent) (asks coming));
+        few = omega arith;
+        here = omega (arith, row-due x places taken (due (g .clock .0) coming) t e);
+      }
+
+  pub with-step :
+      (ltb taken (x .length) && due (g .clock .0) coming) ≡ false → (o : Stepped) → o ≡ stepResult (codedStep (whole g queues)) → (r : Report)
+      → r ≡ stepReport (whole g queues) (o .answer)
+      → Going s x steps (o .state .segment) (o .state .queues) (set reports made r) (made + 1) taken (left - 1)
+  with-step e o f r h =
+      record {
+        so-far = stepped-on x places s steps (whole g queues) reports made taken left (y .so-far) m t l e o f r h;
+        lent = subst (λ (u : Stepped). Lent (u .state)) (sym f) (lent-stepped (whole g queues) (y .lent));
+        few = omega arith;
+        here = y .here;
+      }
