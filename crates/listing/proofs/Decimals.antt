@@ -1,12 +1,13 @@
 -- A number in decimal: its digits from the highest place down, and how many they are. Assumes nothing.
-use Prim.Native.Nat.{ℕ, zero, suc, _+_, _/_, _%_, _^_, _≤_, _<_}
+use Prim.Native.Nat.{ℕ, zero, suc, _/_, _%_, _^_, _≤_, _<_}
 use mathlib.Core.Path.{_≡_, refl, sym, ap, ap₂, _∙_}
 use mathlib.Core.Logic.{_⊎_, inr, ⊎-elim}
 use mathlib.Core.Bool.{Bool, true, false, cond}
 use mathlib.Core.List.{List, [], _∷_, _++_}
 use native.Mathlib.Nat.{div-one, div-div-eq-div-mul, pow-suc, pow-succ', one-le-pow}
+use native.Mathlib.Numerals.{add-one}
 use native.Mathlib.Omega.{arith}
-use borrow.Author.Tests.{lt-ltb, le-ltb}
+use borrow.Author.Tests.{lt-ltb, le-ltb, ltb-true}
 use lib.Dec.{ltb}
 use lib.ListN.{length, length-append}
 use Rattle.listing.specs.Text.{digit, decimalIn, decimal}
@@ -19,18 +20,8 @@ abbrev pub digits : ℕ → ℕ → List ℕ
 digits zero n = []
 digits (suc k) n = digit (n / 10 ^ k % 10) ∷ digits k n
 
--- the power of ten at the highest of k places, or 0 where there is none
-abbrev pub top : ℕ → ℕ
-top zero = 0
-top (suc k) = 10 ^ k
-
--- the power of ten a place down
-pub top-down : (k : ℕ) → 10 ^ k / 10 ≡ top k
-top-down zero = refl
-top-down (suc k) = omega (arith, pow-suc 10 k)
-
 -- the last digit joins those of a tenth
-digits-last : (k n : ℕ) → digits k (n / 10) ++ (digit (n % 10) ∷ []) ≡ digits (suc k) n
+pub digits-last : (k n : ℕ) → digits k (n / 10) ++ (digit (n % 10) ∷ []) ≡ digits (suc k) n
 digits-last zero n = ap (λ m. digit (m % 10) ∷ []) (sym (div-one n))
 digits-last (suc k) n =
     ap₂
@@ -63,6 +54,34 @@ unfolding decimal
 decimal-digits n p h = turns-digits (suc n) (h .0) n (omega arith) (rw (h .1) at (h .2)) (rw (h .1) at (h .3))
 
 -- ---- how many digits
+
+-- there are as many digits as places
+digits-length : (k n : ℕ) → length (digits k n) ≡ k
+digits-length zero n = refl
+digits-length (suc k) n = ap suc (digits-length k n)
+
+-- a number has a digit for each place up to that of its highest power of ten
+pub power-length : (n p : ℕ) (h : powerFor n p) → length (decimal n) ≡ suc (h .0)
+power-length n p h = ap length (decimal-digits n p h) ∙ digits-length (suc (h .0)) n
+
+-- any turns give the digits at as many places as they are
+turns-places : (turns n : ℕ) → decimalIn turns n ≡ digits (length (decimalIn turns n)) n
+turns-places zero n = refl
+turns-places (suc turns) n = go (ltb n 10) refl (turns-places turns (n / 10))
+  where
+    go : (t : Bool) → ltb n 10 ≡ t → decimalIn turns (n / 10) ≡ digits (length (decimalIn turns (n / 10))) (n / 10)
+        → turned turns n t ≡ digits (length (turned turns n t)) n
+    go true e more = ap (λ m. digit m ∷ []) (omega (arith, ltb-true, div-one n))
+    go false e more =
+        let tenth = decimalIn turns (n / 10) in
+        ap (λ (l : List ℕ). l ++ (digit (n % 10) ∷ [])) more
+        ∙ digits-last (length tenth) n
+        ∙ ap (λ k. digits k n) (sym (length-append tenth (digit (n % 10) ∷ []) ∙ add-one (length tenth)))
+
+-- a number in decimal is its digits at as many places as they are
+pub decimal-places : (n : ℕ) → decimal n ≡ digits (length (decimal n)) n
+unfolding decimal
+decimal-places n = turns-places (suc n) n
 
 -- any turns give no more digits than the power of ten above the number tells
 turns-length : (turns k n : ℕ) → n < 10 ^ suc k → length (decimalIn turns n) ≤ suc k

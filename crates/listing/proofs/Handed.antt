@@ -1,81 +1,89 @@
--- The lines that the library hands out, turn by turn, are the listing, whatever the input; each turn takes from the turns that are left,
+-- The texts that the library hands out, turn by turn, are the listing, whatever the input; each turn takes from the turns that are left,
 -- so that the run is over at last. Assumes nothing.
-use Prim.Native.Nat.{ℕ, zero, suc, _+_, _-_, _≤_, _<_}
+use Prim.Native.Nat.{ℕ, zero, suc, _+_, _-_, _*_, _≤_, _<_}
 use mathlib.Core.Path.{_≡_, refl, sym, ap, ap₂, _∙_, subst}
 use mathlib.Core.Bool.{Bool, true, false, _&&_, cond}
-use mathlib.Core.List.{List, [], _∷_, _++_, append-assoc, append-nil}
+use mathlib.Core.List.{List, [], _++_, append-nil}
 use native.Mathlib.Omega.{arith}
-use lib.Dec.{eqb}
+use lib.Dec.{eqb, leb}
 use lib.ListN.{length, drop}
-use borrow.Author.Tests.{eqb-true, eqb-false, ne-eqb}
+use borrow.Author.Tests.{eq-eqb, ne-eqb, leb-false}
 use Rattle.rules.specs.Bus.{Bus, nothing, waiting}
 use Rattle.rules.specs.Standing.{Standing, stands}
 use Rattle.rules.specs.SetUp.{Request, setUp}
-use Rattle.rules.specs.Admission.{admit}
-use Rattle.rules.specs.Probe as Probe
-use Rattle.rules.specs.Step.{step}
-use Rattle.rules.specs.Engine.{admission, one-step}
-use Rattle.rules.proofs.Laws.{and-true}
 use Rattle.rules.proofs.Tests.{told}
 use Rattle.rules.proofs.Standing as Rules
 use Rattle.rules.proofs.Keeps.{keepsStanding}
 use Rattle.bus.specs.declared.State.{State}
 use Rattle.bus.specs.declared.Totals.{Totals}
+use Rattle.bus.specs.declared.Arrival.{Arrival}
 use Rattle.bus.specs.State.{form}
-use Rattle.bus.specs.Coded.{codedAdmit, codedStep, totalsOf}
-use Rattle.bus.proofs.Form.{Fits, standing-fits, meaning-form, padded-form}
-use Rattle.bus.proofs.Coded.{coded-admit, coded-step}
-use Rattle.scenario.specs.declared.Arrival.{Arrival}
-use Rattle.scenario.specs.Format.{Said, readRecord}
-use Rattle.scenario.specs.Reading.{arrivalFrom, Reading, refused, accepted, reading, stationOffset, scenarioForm}
-use Rattle.scenario.proofs.Arrivals.{ArrivalsAt, arrivals-here, arrivals-none}
-use Rattle.scenario.proofs.ReadingLaws.{arrival-within}
+use Rattle.bus.specs.Coded.{totalsOf}
+use Rattle.bus.specs.Stretch.{Course, most-calls, course}
+use Rattle.bus.proofs.Form.{standing-fits, meaning-form, padded-form}
+use Rattle.scenario.specs.Reading.{arrival-bytes, Reading, refused, accepted, reading, stationOffset, scenarioForm}
+use Rattle.scenario.proofs.Arrivals.{ArrivalsAt}
 use Rattle.scenario.proofs.Sound.{Sound, sound}
-use Rattle.listing.specs.Text.{refusedText, droppedText, probedText}
-use Rattle.listing.specs.Run.{asks, due, refusalText, Left, admitDue, closingText, runText, listingOf, listing}
-use Rattle.listing.specs.Turns.{Play, Turn, says, over, openedBy, opened, admittedBy, steppedBy, closedBy, turnBy, turn, played}
-use Rattle.listing.specs.Turns.{said, handed, turnsLeft}
-use Rattle.listing.proofs.Lines.{text-of}
-use Rattle.listing.proofs.Keeping.{next-stands}
+use Rattle.listing.specs.Text.{refusedText}
+use Rattle.listing.specs.Run.{closingText, runText, listingOf, listing}
+use Rattle.listing.specs.Turns.{Play, Outcome, says, over, openedBy, opened, row-places, nextArrivals, reportsText, courseOf, stretched}
+use Rattle.listing.specs.Turns.{closedBy, turn, handed, turnsLeft, played}
+use Rattle.listing.proofs.Gathered.{bytes-within, Found, found-here}
+use Rattle.listing.proofs.Played.{bounds-of, course-moves, Runs, course-runs}
 
 -- ---- the turns that are left
 
+-- a stretch of a play that has steps left
+module _ (input : List ℕ) (p : Play) (steps : ℕ) (still : p .steps ≡ suc steps) where
+  abbrev found : List Arrival
+  found = nextArrivals input (p .at)
+
+  abbrev taken : ℕ
+  taken = courseOf found p .taken
+
+  abbrev left : ℕ
+  left = courseOf found p .left
+
+  -- it takes no more arrivals than were found, and leaves no more steps than there were
+  takes : taken ≤ length found
+  takes = bounds-of found p .taken
+
+  leaves : left ≤ suc steps
+  leaves = subst (λ (n : ℕ). left ≤ n) still (bounds-of found p .left)
+
+  -- where none was found, there are no more; so it takes an arrival, or makes a step
+  none-more : found ≡ [] → leb row-places (length found) ≡ false
+  none-more e = ap (λ (os : List Arrival). leb row-places (length os)) e
+
+  moves : left < suc steps + taken
+  moves =
+      subst
+      (λ (n : ℕ).
+      course most-calls (p .state) found (leb row-places (length found)) n .left
+      < suc steps + course most-calls (p .state) found (leb row-places (length found)) n .taken)
+      (sym still)
+      (course-moves 511 (p .state) found (leb row-places (length found)) steps none-more)
+
+  -- and so fewer turns are left
+  fewer : left + (length input - (p .at + arrival-bytes * taken)) < suc steps + (length input - p .at)
+  fewer = by-taken taken takes leaves moves
+    where
+      by-taken :
+          (n : ℕ) → n ≤ length found → left ≤ suc steps → left < suc steps + n
+          → left + (length input - (p .at + arrival-bytes * n)) < suc steps + (length input - p .at)
+      by-taken zero few most moved = omega arith
+      by-taken (suc n) few most moved = let within = bytes-within row-places input (p .at) (suc n) (omega arith) few in omega arith
+
 -- each turn of a run that goes on takes one of them at least, whatever the play
 pub falls : (input : List ℕ) (p : Play) → p .going ≡ true → turnsLeft input (turn input p .play) < turnsLeft input p
-falls input p e = simp e (at-step (eqb (p .steps) 0) refl)
+falls input p e = simp e (by-steps (p .steps) refl)
   where
-    x : Said
-    x = readRecord (drop (p .at) input)
-
-    left : ℕ
-    left = suc (p .steps + (length input - p .at))
-
-    -- an arrival, which is one of the input's records, or a step
-    in-run :
-        (t : Bool) → (eqb (x .kind) 3 && due (p .state .segment .clock .0) (arrivalFrom (x .values))) ≡ t → ¬ (p .steps ≡ 0)
-        → turnsLeft
-        input
-        (cond
-        t
-        (admittedBy p (arrivalFrom (x .values)) (codedAdmit (p .state) (asks (arrivalFrom (x .values)))))
-        (steppedBy p (codedStep (p .state)))
-        .play)
-        < left
-    in-run true k n =
-        let kind = eqb-true (x .kind) 3 (and-true (eqb (x .kind) 3) (due (p .state .segment .clock .0) (arrivalFrom (x .values))) k .0) in
-        let within = arrival-within input (p .at) kind in
-        omega arith
-    in-run false k n = omega arith
-
-    at-step :
-        (t : Bool) → eqb (p .steps) 0 ≡ t
-        → turnsLeft input (cond t (closedBy (p .state) (totalsOf (p .state))) (turnBy x p) .play) < left
-    at-step true k = omega arith
-    at-step false k =
-        in-run
-        (eqb (x .kind) 3 && due (p .state .segment .clock .0) (arrivalFrom (x .values)))
-        refl
-        (eqb-false (p .steps) 0 k)
+    by-steps :
+        (n : ℕ) → p .steps ≡ n
+        → turnsLeft input (cond (eqb (p .steps) 0) (closedBy (p .state) (totalsOf (p .state))) (stretched input p) .play)
+        < suc (p .steps + (length input - p .at))
+    by-steps zero k = simp (eq-eqb (p .steps) 0 k) (omega arith)
+    by-steps (suc n) k = simp (ne-eqb (p .steps) 0 (λ z. omega arith)) (omega (arith, fewer input p n k))
 
 -- a play whose turns are used up does not go on
 used-up : (input : List ℕ) (p : Play) → turnsLeft input p ≤ 0 → p .going ≡ false
@@ -103,38 +111,6 @@ pub over-at-last :
     (input : List ℕ) (turns : ℕ) → turnsLeft input (opened input .play) ≤ turns → played turns input (opened input .play) .going ≡ false
 over-at-last input = over-at-last-any input (opened input .play)
 
--- ---- the run
-
--- where an arrival is due, the run is what it leaves
-run-admits :
-    (steps : ℕ) (b : Bus) (a : Arrival) (later : List Arrival) → due (b .clock) a ≡ true
-    → runText (suc steps) b (a ∷ later)
-    ≡ refusalText (b .clock) a (admit b (asks a) .0 .refusal) ++ runText (suc steps) (admit b (asks a) .1) later
-run-admits steps b a later e = simp e (append-assoc (refusalText (b .clock) a (admit b (asks a) .0 .refusal)) _ _)
-
--- none of these arrivals is due: there is none, or the first is not
-abbrev None-due : Bus → List Arrival → Type 0
-None-due b [] = Unit {0}
-None-due b (a ∷ later) = due (b .clock) a ≡ false
-
--- where none is due, none is admitted
-none-admitted :
-    (b : Bus) (arrivals : List Arrival) → None-due b arrivals → admitDue b arrivals ≡ record { text = []; bus = b; arrivals = arrivals }
-none-admitted b [] h = refl
-none-admitted b (a ∷ later) h = simp h
-
--- and the run makes a step
-run-steps :
-    (steps : ℕ) (b : Bus) (arrivals : List Arrival) → None-due b arrivals
-    → runText (suc steps) b arrivals
-    ≡ (droppedText (step b .0) ++ probedText (step b .0)) ++ runText steps (step b .1) arrivals
-run-steps steps b arrivals h =
-    ap
-    (λ (x : Left).
-    x .text ++ (droppedText (step (x .bus) .0) ++ (probedText (step (x .bus) .0) ++ runText steps (step (x .bus) .1) (x .arrivals))))
-    (none-admitted b arrivals h)
-    ∙ sym (append-assoc (droppedText (step b .0)) _ _)
-
 -- ---- the play of a run
 
 -- the play that has a bus
@@ -142,13 +118,9 @@ abbrev playing : Bus → ℕ → ℕ → Play
 playing b at steps = record { state = form b; at = at; steps = steps; going = true }
 
 -- a run that is over says nothing more
-ended : (turns : ℕ) (input : List ℕ) (t : Turn) → t .play .going ≡ false → handed turns input t ≡ said t
-ended zero input t e = refl
-ended (suc turns) input t e = rw e (append-nil (said t))
-
--- what a step's turn says
-step-said : (r : Probe.Answer × State) (p : Play) → said (steppedBy p r) ≡ droppedText (r .0) ++ probedText (r .0)
-step-said r p = ap₂ _++_ (text-of (droppedText (r .0))) (text-of (probedText (r .0)))
+ended : (turns : ℕ) (input : List ℕ) (o : Outcome) → o .play .going ≡ false → handed turns input o ≡ o .text
+ended zero input o e = refl
+ended (suc turns) input o e = rw e (append-nil (o .text))
 
 -- the numbers of a state, by whether it stands and by the bus that it means
 abbrev totalsBy : State → Bool → Bus → Totals
@@ -173,8 +145,8 @@ totals-form b h =
     ∙ ap (λ t. totalsBy (form b) t b) (told (Rules.stands-exactly b) h)
 
 -- and the last line, which says them
-closed-text : (b : Bus) → Standing b → said (closedBy (form b) (totalsOf (form b))) ≡ closingText b
-closed-text b h = ap (λ t. said (closedBy (form b) t)) (totals-form b h) ∙ text-of (closingText b)
+closed-text : (b : Bus) → Standing b → closedBy (form b) (totalsOf (form b)) .text ≡ closingText b
+closed-text b h = ap (λ t. closedBy (form b) t .text) (totals-form b h)
 
 module _ (input : List ℕ) where
   -- what is handed out in so many turns from a play on is the text of the run, if it has no more turns than these
@@ -183,65 +155,43 @@ module _ (input : List ℕ) where
       (b : Bus) (at steps : ℕ) (arrivals : List Arrival) → Standing b → ArrivalsAt input at arrivals
       → steps + (length input - at) ≤ turns → handed turns input (turn input (playing b at steps)) ≡ runText steps b arrivals
 
-  -- one turn more, of a run that has steps yet
+  -- one turn more, of a run that has steps yet: a stretch of it
   one-turn :
       (turns : ℕ) → Rest turns → (b : Bus) (at steps : ℕ) (arrivals : List Arrival) → Standing b → ArrivalsAt input at arrivals
       → suc steps + (length input - at) ≤ suc turns
       → handed (suc turns) input (turn input (playing b at (suc steps))) ≡ runText (suc steps) b arrivals
   one-turn turns more b at steps arrivals h here enough =
       ap
-      (λ t. handed (suc turns) input (cond t (closedBy (form b) (totalsOf (form b))) (turnBy x p)))
+      (λ t. handed (suc turns) input (cond t (closedBy (form b) (totalsOf (form b))) (stretched input p)))
       (ne-eqb (suc steps) 0 (λ z. omega arith))
-      ∙ in-run (eqb (x .kind) 3) (due (b .clock) a) refl refl
+      ∙ ap
+      (λ (s : State). reportsText (c .reports) ++ handed turns input (turn input (record { state = s; at = past; steps = c .left; going = true })))
+      (runs .state)
+      ∙ ap
+      (λ (text : List ℕ). reportsText (c .reports) ++ text)
+      (more (runs .bus) past (c .left) (drop (c .taken) arrivals) (runs .stands) (first .past (c .taken) (takes input p steps refl)) (omega (arith, few)))
+      ∙ sym (runs .text)
     where
-      x : Said
-      x = readRecord (drop at input)
-
-      a : Arrival
-      a = arrivalFrom (x .values)
-
       p : Play
       p = playing b at (suc steps)
 
-      fits : Fits b
-      fits = standing-fits b h
+      c : Course
+      c = courseOf (nextArrivals input at) p
 
-      stepping : None-due b arrivals → handed (suc turns) input (steppedBy p (codedStep (form b))) ≡ runText (suc steps) b arrivals
-      stepping none =
-          let fewer : suc steps - 1 ≡ steps = omega arith in
-          ap (λ o. handed (suc turns) input (steppedBy p o)) (coded-step b fits)
-          ∙ ap₂
-          _++_
-          (step-said (step b .0, form (step b .1)) p)
-          (ap (λ k. handed turns input (turn input (playing (step b .1) at k))) fewer
-          ∙ more (step b .1) at steps arrivals (next-stands b h one-step) here (omega arith))
-          ∙ sym (run-steps steps b arrivals none)
+      past : ℕ
+      past = at + arrival-bytes * c .taken
 
-      admitting :
-          x .kind ≡ 3 → due (b .clock) a ≡ true → (later : List Arrival) × (arrivals ≡ a ∷ later) × ArrivalsAt input (at + 16) later
-          → handed (suc turns) input (admittedBy p a (codedAdmit (form b) (asks a))) ≡ runText (suc steps) b arrivals
-      admitting kind on (later, e, there) =
-          let within = arrival-within input at kind in
-          ap (λ o. handed (suc turns) input (admittedBy p a o)) (coded-admit b fits (asks a))
-          ∙ ap₂
-          _++_
-          (text-of (refusalText (b .clock) a (admit b (asks a) .0 .refusal)))
-          (more (admit b (asks a) .1) (at + 16) (suc steps) later (next-stands b h (admission (asks a))) there (omega arith))
-          ∙ sym (run-admits steps b a later on)
-          ∙ ap (runText (suc steps) b) (sym e)
+      few : c .left + (length input - past) < suc steps + (length input - at)
+      few = fewer input p steps refl
 
-      in-run :
-          (t u : Bool) → eqb (x .kind) 3 ≡ t → due (b .clock) a ≡ u
-          → handed
-          (suc turns)
-          input
-          (cond (t && u) (admittedBy p a (codedAdmit (form b) (asks a))) (steppedBy p (codedStep (form b))))
-          ≡ runText (suc steps) b arrivals
-      in-run true true k on = let kind = eqb-true (x .kind) 3 k in admitting kind on (arrivals-here here kind)
-      in-run true false k off =
-          let first = arrivals-here here (eqb-true (x .kind) 3 k) in
-          stepping (subst (None-due b) (sym (first .1)) off)
-      in-run false u k off = stepping (subst (None-due b) (sym (arrivals-none here (eqb-false (x .kind) 3 k))) tt)
+      first : Found input at row-places (nextArrivals input at) arrivals
+      first = found-here row-places input at arrivals here
+
+      runs : Runs b arrivals (suc steps) c
+      runs =
+          subst (λ (os : List Arrival). Runs b os (suc steps) c) (sym (first .are))
+          (course-runs most-calls b h (nextArrivals input at) (first .others) (leb row-places (length (nextArrivals input at))) (suc steps)
+          (λ e. first .all (leb-false row-places (length (nextArrivals input at)) e)))
 
   -- the last turn, of a run that has none
   last-turn : (turns : ℕ) (b : Bus) (at : ℕ) → Standing b → handed turns input (turn input (playing b at 0)) ≡ closingText b
@@ -269,15 +219,15 @@ accepted-out input r arrivals steps (suc turns) fine h =
 refused-out :
     (input : List ℕ) (n offset turns : ℕ) → ¬ (n ≡ 0) → handed turns input (openedBy (scenarioForm (refused n offset))) ≡ refusedText n offset
 refused-out input n offset turns bears =
-    ap (λ t. handed turns input (cond t first last)) (ne-eqb n 0 bears) ∙ ended turns input last refl ∙ text-of (refusedText n offset)
+    ap (λ t. handed turns input (cond t first last)) (ne-eqb n 0 bears) ∙ ended turns input last refl
   where
-    first : Turn
+    first : Outcome
     first = says [] (playing nothing 0 0)
 
-    last : Turn
+    last : Outcome
     last = says (refusedText n offset) (over (form nothing))
 
--- The lines that are handed out, one after the other, are the listing, whatever the input, once there are turns enough.
+-- The texts that are handed out, one after the other, are the listing, whatever the input, once there are turns enough.
 pub handed-out :
     (input : List ℕ) (turns : ℕ) → turnsLeft input (opened input .play) ≤ turns → handed turns input (opened input) ≡ listing input
 handed-out input turns = by-reading (reading input) (sound input)

@@ -1,8 +1,10 @@
 -- The modules of the shared laws and theorems. Assumes nothing.
-pub mod Lines
 pub mod Decimals
-pub mod TurnLaws
+pub mod Stores
 pub mod Keeping
+pub mod Gathered
+pub mod Played
+pub mod TurnLaws
 pub mod Handed
 pub mod NeverRefused
 pub mod Worked

@@ -25,12 +25,14 @@ use Rattle.rules.proofs.Contenders.{contender-from}
 use Rattle.rules.proofs.Keeps.{keepsStanding, opened-stands, opened-contention, opened-same}
 use Rattle.window.specs.declared.Side.{Side}
 use Rattle.window.specs.declared.Side.the-variants as Is
-use Rattle.scenario.specs.declared.Arrival.{Arrival}
+use Rattle.bus.specs.declared.Arrival.{Arrival}
+use Rattle.bus.specs.Stretch.{asks, due}
 use Rattle.scenario.specs.Reading.{accepted, reading}
 use Rattle.scenario.specs.Writing.{Bytes}
 use Rattle.scenario.proofs.Sound.{Sound, sound}
 use Rattle.scenario.proofs.Written.{accepted-only}
-use Rattle.listing.specs.Run.{asks, due, refusalText, Left, after, admitDue, answersOf}
+use Rattle.listing.specs.Text.{refusalText}
+use Rattle.listing.specs.Run.{Left, after, admitDue, answersOf}
 use Rattle.listing.proofs.Keeping.{next-stands}
 
 -- ---- the clock
@@ -110,7 +112,7 @@ due-stands (a ∷ later) b h =
     admitted = admitDue (admit b (asks a) .1) later
 
     text : List ℕ
-    text = refusalText (b .clock) a (admit b (asks a) .0 .refusal)
+    text = refusalText (b .clock) (a .address .0) (admit b (asks a) .0 .refusal)
 
     waits : Left
     waits = record { text = []; bus = b; arrivals = a ∷ later }

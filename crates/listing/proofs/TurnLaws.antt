@@ -1,82 +1,67 @@
--- The turns of a run as the code makes them: the lines and the play of a turn, put together from what the calls answer.
--- Assumes nothing.
-use Prim.Native.Nat.{ℕ, _+_, _-_}
-use mathlib.Core.Path.{_≡_, refl, sym, ap, ap₂, _∙_}
+-- The turns of a run as the code makes them: the text in the room and the play, put together from what the calls answer. Assumes nothing.
+use Prim.Native.Nat.{ℕ, zero, suc, _+_, _-_, _*_, _≤_}
+use mathlib.Core.Path.{_≡_, refl, sym, ap, ap₂, _∙_, subst}
+use mathlib.Core.Logic.{_⊎_, inl, inr}
 use mathlib.Core.Bool.{Bool, true, false, not, cond}
-use mathlib.Core.List.{List, []}
-use lib.Dec.{eqb}
-use lib.ListN.{drop}
+use mathlib.Core.List.{List, [], _∷_, _++_, append-assoc, append-nil}
+use native.Mathlib.Nat.{zero-add}
+use native.Mathlib.Omega.{arith}
+use mir.Val.{Val}
+use denote.Laws.{Is}
+use lib.Dec.{eqb, leb}
+use lib.ListN.{length, take, replicate, length-map}
+use lib.Seq.{take-append-seam}
 use borrow.Author.Tests.{eq-eqb, ne-eqb}
-use Rattle.rules.specs.declared.Admitted.{Admitted}
-use Rattle.rules.specs.Probe as Probe
 use Rattle.bus.specs.declared.State.{State}
-use Rattle.bus.specs.declared.Admission.{Admission}
-use Rattle.bus.specs.declared.Stepped.{Stepped}
-use Rattle.bus.specs.declared.Totals.{Totals}
-use Rattle.bus.specs.Coded.{codedAdmit, codedStep, totalsOf, answerForm, answerOf, admissionResult, stepResult}
-use Rattle.scenario.specs.declared.Arrival.{Arrival}
+use Rattle.bus.specs.declared.Arrival.{Arrival}
+use Rattle.bus.specs.declared.Arrivals.{Arrivals}
+use Rattle.bus.specs.declared.Report.{Report}
+use Rattle.bus.specs.declared.Stretch.{Stretch}
+use Rattle.bus.specs.Coded.{totalsOf}
+use Rattle.bus.specs.Stretch.{most-calls, course, noReport, stretchOf, stretchForm}
+use Rattle.bus.proofs.Stretch as stretch-row
+use Rattle.bus.specs.Stretch.{noArrival}
 use Rattle.scenario.specs.declared.Scenario.{Scenario}
-use Rattle.scenario.specs.declared.Record.the-variants as Is
-use Rattle.scenario.specs.Format as Format
-use Rattle.scenario.specs.Format.{Said, readRecord}
 use Rattle.scenario.specs.Reading.{arrival-bytes}
-use Rattle.listing.specs.Text.{Line, refusedText, endText, droppedText, probedText, lineOf}
-use Rattle.listing.specs.Run.{asks, due, refusalText}
-use Rattle.listing.specs.Turns.{Play, Turn, says, over, openedBy, admittedBy, steppedBy, closedBy, turnBy, turn}
-
--- ---- what a turn is made of
-
--- a turn with one line
-abbrev pub one-line : Line → Play → Turn
-one-line l p = record { drops = lineOf []; line = l; play = p }
-
--- an arrival that was admitted: m is what the engine handed back, l the line, and the next record is at `after`
-pub admitted-turn :
-    (p : Play) (a : Arrival) (m : Admission) (l : Line) (after : ℕ) (o : Admitted × State) → m ≡ admissionResult o
-    → l ≡ lineOf (refusalText (p .state .segment .clock .0) a (m .answer .refusal)) → after ≡ p .at + arrival-bytes
-    → one-line l (record { state = m .state; at = after; steps = p .steps; going = true }) ≡ admittedBy p a o
-admitted-turn p a m l after o e line at =
-    ap₂
-    one-line
-    (line ∙ ap (λ (x : Admission). lineOf (refusalText (p .state .segment .clock .0) a (x .answer .refusal))) e)
-    (ap₂
-    (λ (s : State) (k : ℕ). record { state = s; at = k; steps = p .steps; going = true })
-    (ap (λ (x : Admission). x .state) e)
-    at)
-
--- the turn of a step with these lines and this state
-abbrev pub two-lines : Play → Line → Line → State → Turn
-two-lines p d l s = record { drops = d; line = l; play = record { state = s; at = p .at; steps = p .steps - 1; going = true } }
-
--- a step that was made: m is what the engine handed back, d and l are the lines
-pub stepped-turn :
-    (p : Play) (m : Stepped) (d l : Line) (o : Probe.Answer × State) → m ≡ stepResult o → answerOf (answerForm (o .0)) ≡ o .0
-    → d ≡ lineOf (droppedText (answerOf (m .answer))) → l ≡ lineOf (probedText (answerOf (m .answer)))
-    → two-lines p d l (m .state) ≡ steppedBy p o
-stepped-turn p m d l o e read drops line =
-    let answer = ap (λ (x : Stepped). answerOf (x .answer)) e ∙ read in
-    ap (λ x. two-lines p x l (m .state)) (drops ∙ ap (λ a. lineOf (droppedText a)) answer)
-    ∙ ap₂
-    (λ x s. two-lines p (lineOf (droppedText (o .0))) x s)
-    (line ∙ ap (λ a. lineOf (probedText a)) answer)
-    (ap (λ (x : Stepped). x .state) e)
-
--- the text of the last line
-abbrev closing-line : Totals → Line
-closing-line t = lineOf (endText (t .clock .0) (t .admitted) (t .sent) (t .lost) (t .waiting))
-
--- the end of the run: t are the totals, l is the line, and p the play that is over
-pub closed-turn :
-    (s : State) (t : Totals) (l : Line) (p : Play) → t ≡ totalsOf s → l ≡ closing-line t → p ≡ over s
-    → one-line l p ≡ closedBy s (totalsOf s)
-closed-turn s t l p e line play = ap₂ one-line (line ∙ ap closing-line e) play
-
--- ---- which turn it is
+use Rattle.listing.specs.Text.{refusedText}
+use Rattle.listing.specs.Turns.{Play, Turn, Outcome, says, over, openedBy, row-places, nextArrivals, reportText, reportsText, courseOf, stretched}
+use Rattle.listing.specs.Turns.{closedBy, turn, turnForm, room-bytes, roomWith}
+use Rattle.listing.specs.Parts.{Told, TurnTold, arrivalsForm}
+use Rattle.listing.proofs.Stores.{sets-start}
+use Rattle.listing.proofs.Gathered.{found-few, bytes-within}
+use Rattle.listing.proofs.Played.{bounds-of}
 
 -- a test that was turned round
 pub flipped : {b t : Bool} → not b ≡ t → b ≡ not t
 flipped {b = true} e = ap not e
 flipped {b = false} e = ap not e
+
+-- ---- the text in the room
+
+-- a text of reports with one report more
+pub one-report : (reports : List Report) (r : Report) → reportsText (reports ++ (r ∷ [])) ≡ reportsText reports ++ reportText r
+one-report [] r = append-nil (reportText r)
+one-report (x ∷ reports) r =
+    ap (λ (text : List ℕ). reportText x ++ text) (one-report reports r) ∙ sym (append-assoc (reportText x) (reportsText reports) (reportText r))
+
+-- the array of reports in the code has as many places as a stretch has calls
+pub reports-array : (x : Stretch) (vs : List Val) → Is stretch-row.the-row x vs → length (x .reports) ≡ 512
+reports-array x vs owned = sym (length-map (x .reports) _) ∙ owned .1 .1 .0 .1 .0 .1
+
+-- a turn whose text was told at the start of the room is what it comes to, and the room has the text over its start
+pub turn-of :
+    {before after : List ℕ} {t : Turn} {o o′ : Outcome} → o ≡ o′ → TurnTold before after t o
+    → (t ≡ turnForm o′) × ((after ≡ roomWith (o′ .text) before) × (t .length ≤ room-bytes))
+turn-of {before} {after} {t} {o} {o′} e x =
+    let many : t .length ≡ length (o .text) = x .told .past ∙ zero-add (length (o .text)) in
+    subst
+    (λ (y : Outcome). (t ≡ turnForm y) × ((after ≡ roomWith (y .text) before) × (t .length ≤ room-bytes)))
+    e (
+      ap₂ (λ (n : ℕ) (p : Play). record { length = n; play = p }) many (x .play),
+      (x .told .room ∙ sets-start before (o .text), omega (arith, x .told .few)),
+    )
+
+-- ---- which turn it is
 
 -- the play of an accepted scenario
 abbrev pub going-on : Scenario → Play
@@ -89,27 +74,78 @@ pub opened-turn :
 opened-turn x t e = simp e refl
 
 -- a run that is over hands out nothing
-pub turn-over : (input : List ℕ) (p : Play) (l : Line) → p .going ≡ false → l ≡ lineOf [] → one-line l p ≡ turn input p
-turn-over input p l stopped line = ap (λ x. one-line x p) line ∙ sym (simp stopped refl)
+pub turn-over : (input : List ℕ) (p : Play) → p .going ≡ false → says [] p ≡ turn input p
+turn-over input p stopped = sym (simp stopped refl)
 
 -- a run that goes on with no steps left ends
-pub turn-ends : (input : List ℕ) (p : Play) → p .going ≡ true → p .steps ≡ 0 → turn input p ≡ closedBy (p .state) (totalsOf (p .state))
-turn-ends input p going none = simp going (simp (eq-eqb (p .steps) 0 none) refl)
+pub turn-ends : (input : List ℕ) (p : Play) → p .going ≡ true → p .steps ≡ 0 → closedBy (p .state) (totalsOf (p .state)) ≡ turn input p
+turn-ends input p going none = sym (simp going (simp (eq-eqb (p .steps) 0 none) refl))
 
--- a run that goes on with steps left makes the turn that the next record says
-pub turn-goes-on :
-    (input : List ℕ) (p : Play) → p .going ≡ true → ¬ (p .steps ≡ 0) → turn input p ≡ turnBy (readRecord (drop (p .at) input)) p
-turn-goes-on input p going some = simp going (simp (ne-eqb (p .steps) 0 some) refl)
+-- a run that goes on with steps left makes a stretch
+pub turn-goes-on : (input : List ℕ) (p : Play) → p .going ≡ true → ¬ (p .steps ≡ 0) → stretched input p ≡ turn input p
+turn-goes-on input p going some = sym (simp going (simp (ne-eqb (p .steps) 0 some) refl))
 
--- a record that is no arrival: a step is made
-pub turn-other : (x : Said) (p : Play) → ¬ (x .kind ≡ 3) → turnBy x p ≡ steppedBy p (codedStep (p .state))
-turn-other x p other = simp (ne-eqb (x .kind) 3 other) refl
+-- ---- a stretch
 
--- an arrival is admitted if it is due, and else a step is made
-pub turn-arrival :
-    (x : Said) (p : Play) (a : Arrival) (t : Bool) → Format.said (Is.Arrival a) ≡ x → due (p .state .segment .clock .0) a ≡ t
-    → turnBy x p
-    ≡ cond t (admittedBy p a (codedAdmit (p .state) (asks a))) (steppedBy p (codedStep (p .state)))
-turn-arrival x p a t e same =
-    ap (λ y. turnBy y p) (sym e)
-    ∙ ap (λ b. cond b (admittedBy p a (codedAdmit (p .state) (asks a))) (steppedBy p (codedStep (p .state)))) same
+-- the stretch of arrivals in a row is that of the arrivals
+stretch-of : (s : State) (arrivals : List Arrival) (steps : ℕ) → stretchOf s (arrivalsForm arrivals) steps ≡ course most-calls s arrivals (leb row-places (length arrivals)) steps
+stretch-of s arrivals steps =
+    ap
+    (λ (os : List Arrival). course most-calls s os (leb row-places (length arrivals)) steps)
+    (take-append-seam arrivals (replicate (row-places - length arrivals) noArrival))
+
+module _ (input : List ℕ) (p : Play) where
+  abbrev found : List Arrival
+  found = nextArrivals input (p .at)
+
+  -- what the call of a stretch hands back
+  pub stretch-is :
+      (arrivals : Arrivals) (x : Stretch) → arrivals ≡ arrivalsForm found → x ≡ stretchForm (stretchOf (p .state) arrivals (p .steps))
+      → x ≡ stretchForm (courseOf found p)
+  stretch-is arrivals x e f =
+      f ∙ ap (λ (a : Arrivals). stretchForm (stretchOf (p .state) a (p .steps))) e ∙ ap stretchForm (stretch-of (p .state) found (p .steps))
+
+  module _ (x : Stretch) (is : x ≡ stretchForm (courseOf found p)) where
+    pub made-few : x .made ≤ 512
+    made-few =
+        let same = ap (λ (y : Stretch). y .made) is in
+        omega (arith, same, bounds-of found p .made)
+
+    pub taken-few : x .taken ≤ 64
+    taken-few =
+        let same = ap (λ (y : Stretch). y .taken) is in
+        omega (arith, same, bounds-of found p .taken, found-few row-places input (p .at))
+
+    -- the next record is where the last one was, or within the input
+    pub taken-within : (p .at + arrival-bytes * x .taken ≤ p .at) ⊎ (p .at + arrival-bytes * x .taken ≤ length input)
+    taken-within = go (x .taken) (subst (λ (n : ℕ). n ≤ length found) (sym (ap (λ (y : Stretch). y .taken) is)) bound)
+      where
+        bound : courseOf found p .taken ≤ length found
+        bound = bounds-of found p .taken
+
+        go : (n : ℕ) → n ≤ length found → (p .at + arrival-bytes * n ≤ p .at) ⊎ (p .at + arrival-bytes * n ≤ length input)
+        go zero few = inl (omega arith)
+        go (suc n) few = inr (bytes-within row-places input (p .at) (suc n) (omega arith) few)
+
+    -- the turn with its text and its play
+    pub stretched-turn :
+        {before after : List ℕ} {many : ℕ} → Told before after 0 many (reportsText (take (x .made) (x .reports))) room-bytes
+        → TurnTold
+        before
+        after
+        (record { length = many; play = record { state = x .state; at = p .at + arrival-bytes * x .taken; steps = x .left; going = true } })
+        (stretched input p)
+    stretched-turn {before} {after} {many} told =
+        let c = courseOf found p in
+        record {
+          play =
+              ap
+              (λ (y : Stretch). record { state = y .state; at = p .at + arrival-bytes * y .taken; steps = y .left; going = true })
+              is;
+          told =
+              subst
+              (λ (text : List ℕ). Told before after 0 many text room-bytes)
+              (ap (λ (y : Stretch). reportsText (take (y .made) (y .reports))) is
+              ∙ ap reportsText (take-append-seam (c .reports) (replicate (most-calls - length (c .reports)) noReport)))
+              told;
+        }

@@ -1,19 +1,50 @@
 -- What the private functions of src/ are held to; for readers of those alone. Assumes nothing.
-use Prim.Native.Nat.{ℕ, _+_, _/_, _^_, _≤_, _<_}
+use Prim.Native.Nat.{ℕ, _+_, _-_, _/_, _^_, _≤_, _<_}
 use mathlib.Core.Path.{_≡_}
 use mathlib.Core.Logic.{_⊎_}
-use mathlib.Core.List.{List, _++_}
-use Rattle.listing.specs.Text.{Line, most-text, lineOf}
-use lib.ListN.{length}
-
--- the line has this text, of no more than so many bytes
-abbrev pub Holds : Line → List ℕ → ℕ → Type 0
-Holds l text most = (l ≡ lineOf text) × (length text ≤ most)
-
--- the second line is the first with more text, no more than so many bytes, if there is room for as many
-pub record Adds (l r : Line) (more : List ℕ) (most : ℕ) : Type 0 where
-  pub holds : (text : List ℕ) (k : ℕ) → Holds l text k → k + most ≤ most-text → Holds r (text ++ more) (k + most)
+use mathlib.Core.List.{List, [], _∷_, _++_}
+use Rattle.bus.specs.declared.Arrival.{Arrival}
+use Rattle.bus.specs.declared.Arrivals.{Arrivals}
+use Rattle.bus.specs.Stretch.{noArrival}
+use Rattle.listing.specs.Turns.{Turn, Outcome, row-places, room-bytes}
+use Rattle.listing.specs.Text.{space, decimal, fields, phaseLetter, eventLetter, winnerFields}
+use lib.ListN.{length, replicate}
+use lib.Seq.{sets}
+use Rattle.rules.specs.Probe.{Answer}
 
 -- p is 10 ^ k for the k that has a number n below ten times it and, unless it is 1, not below it
 abbrev pub powerFor : ℕ → ℕ → Type 0
 powerFor n p = (k : ℕ) × (p ≡ 10 ^ k) × (n / 10 < p) × ((k ≡ 0) ⊎ (p ≤ n))
+
+-- ---- text in room that is lent
+
+-- the room has so many bytes from an offset on
+abbrev pub roomy : ℕ → ℕ → Type 0
+roomy at most = at + most ≤ room-bytes
+
+-- a text, of no more than so many bytes, was stored in the room byte by byte from an offset on; the next offset is past it
+pub record Told (before after : List ℕ) (at next : ℕ) (text : List ℕ) (most : ℕ) : Type 0 where
+  pub room : after ≡ sets before at text
+  pub past : next ≡ at + length text
+  pub few : length text ≤ most
+
+-- 'slot phase start size event'
+abbrev pub openingText : Answer → List ℕ
+openingText a =
+    ((decimal (a .slot) ++ (space ∷ phaseLetter (a .phase) ∷ [])) ++ fields (a .start ∷ a .size ∷ []))
+    ++ (space ∷ eventLetter (a .event) ∷ [])
+
+-- 'S with address, packet number, length'
+abbrev pub winnerText : Answer → List ℕ
+winnerText a = winnerFields (a .event) (a .address ∷ a .number ∷ a .length ∷ [])
+
+-- a turn with this play and text, which stands at the start of the room
+pub record TurnTold (before after : List ℕ) (t : Turn) (o : Outcome) : Type 0 where
+  pub play : t .play ≡ o .play
+  pub told : Told before after 0 (t .length) (o .text) room-bytes
+
+-- ---- arrivals
+
+-- arrivals in a row, and zeros past them
+abbrev pub arrivalsForm : List Arrival → Arrivals
+arrivalsForm arrivals = record { row = arrivals ++ replicate (row-places - length arrivals) noArrival; length = length arrivals }

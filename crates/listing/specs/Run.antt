@@ -1,30 +1,16 @@
 -- The whole run, from the bytes of a scenario to the bytes of its listing (paper 01, 'The scenario and its listing'). Assumes nothing.
 use Prim.Native.Nat.{ℕ, zero, suc}
-use mathlib.Core.Bool.{Bool, cond}
+use mathlib.Core.Bool.{cond}
 use mathlib.Core.List.{List, [], _∷_, _++_}
-use lib.Dec.{leb, eqb}
 use Rattle.rules.specs.Bus.{Bus, waiting}
 use Rattle.rules.specs.SetUp.{setUp}
-use Rattle.rules.specs.Admission as Rules
 use Rattle.rules.specs.Admission.{admit}
 use Rattle.rules.specs.Probe.{Answer}
 use Rattle.rules.specs.Step.{step}
-use Rattle.bus.specs.Coded.{arrivalOf}
-use Rattle.scenario.specs.declared.Arrival.{Arrival}
+use Rattle.bus.specs.declared.Arrival.{Arrival}
+use Rattle.bus.specs.Stretch.{asks, due}
 use Rattle.scenario.specs.Reading.{Reading, refused, accepted, reading}
-use Rattle.listing.specs.Text.{refusedText, arrivalText, endText, droppedText, probedText}
-
--- what an arrival asks for
-abbrev pub asks : Arrival → Rules.Arrival
-asks a = arrivalOf (a .address) (a .value) (a .length)
-
--- 'whose time is not above the clock'
-abbrev pub due : ℕ → Arrival → Bool
-due clock a = leb (a .time .0) clock
-
--- 'R slot address number (the clock, the refusal) for a refused arrival'; nothing for an accepted one
-abbrev pub refusalText : ℕ → Arrival → ℕ → List ℕ
-refusalText clock a refusal = cond (eqb refusal 0) [] (arrivalText clock (a .address .0) refusal)
+use Rattle.listing.specs.Text.{refusedText, refusalText, endText, droppedText, probedText}
 
 -- what the arrivals that are due leave: the text, the bus, and the arrivals that are not yet due
 pub record Left : Type 0 where
@@ -41,7 +27,7 @@ admitDue b [] = record { text = []; bus = b; arrivals = [] }
 admitDue b (a ∷ later) =
     cond
     (due (b .clock) a)
-    (after (refusalText (b .clock) a (admit b (asks a) .0 .refusal)) (admitDue (admit b (asks a) .1) later))
+    (after (refusalText (b .clock) (a .address .0) (admit b (asks a) .0 .refusal)) (admitDue (admit b (asks a) .1) later))
     (record { text = []; bus = b; arrivals = a ∷ later })
 
 -- 'Last: END clock admitted sent lost waiting'

@@ -1,12 +1,10 @@
 -- The lines of a listing (paper 01, 'The scenario and its listing') as bytes of ASCII. 'Fields are decimal, one space apart, each line closed
 -- by one newline.' Assumes nothing.
-use Prim.Native.Nat.{ℕ, zero, suc, _+_, _-_, _/_, _%_}
+use Prim.Native.Nat.{ℕ, zero, suc, _+_, _/_, _%_}
 use mathlib.Core.Bool.{cond}
 use mathlib.Core.List.{List, [], _∷_, _++_}
 use lib.Dec.{ltb, eqb}
-use lib.ListN.{length, take, replicate}
 use Rattle.rules.specs.Probe.{Answer}
-pub use Rattle.listing.specs.declared.Line.{Line}
 
 -- ---- numbers
 
@@ -59,6 +57,10 @@ refusedText number offset = wordLine REFUSED (number ∷ offset ∷ [])
 abbrev pub arrivalText : ℕ → ℕ → ℕ → List ℕ
 arrivalText slot address number = wordLine R (slot ∷ address ∷ number ∷ [])
 
+-- nothing for an accepted one, whose refusal is 0
+abbrev pub refusalText : ℕ → ℕ → ℕ → List ℕ
+refusalText slot address number = cond (eqb number 0) [] (arrivalText slot address number)
+
 -- 'D count'
 abbrev pub dropsText : ℕ → List ℕ
 dropsText count = wordLine D (count ∷ [])
@@ -97,17 +99,3 @@ probedText a =
     (eqb (a .refusal) 0)
     (probeText (a .slot) (a .phase) (a .start) (a .size) (a .event) (a .address ∷ a .number ∷ a .length ∷ []))
     []
-
--- ---- a line as the code holds it
-
--- the places of a line
-abbrev pub most-text : ℕ
-most-text = 128
-
--- the line with this text: its bytes, zeros after them, and how many they are
-abbrev pub lineOf : List ℕ → Line
-lineOf text = record { bytes = text ++ replicate (most-text - length text) 0; length = length text }
-
--- the text of a line
-abbrev pub textOf : Line → List ℕ
-textOf l = take (l .length) (l .bytes)

@@ -1,30 +1,29 @@
--- The run as the code plays it, turn by turn: what `open` and `next` of src/lib.rt hand out. Assumes nothing.
-use Prim.Native.Nat.{ℕ, zero, suc, _+_, _-_}
-use mathlib.Core.Bool.{true, false, _&&_, cond}
-use mathlib.Core.List.{List, [], _++_}
-use lib.Dec.{eqb}
+-- The run as the code plays it, turn by turn: what `open` and `next` of src/lib.rt hand out, and what is in the room then. Assumes nothing.
+use Prim.Native.Nat.{ℕ, zero, suc, _+_, _-_, _*_}
+use mathlib.Core.Bool.{true, false, cond}
+use mathlib.Core.List.{List, [], _∷_, _++_}
+use lib.Dec.{leb, eqb}
 use lib.ListN.{length, drop}
-use Rattle.rules.specs.declared.Admitted.{Admitted}
-use Rattle.rules.specs.Probe as Probe
 use Rattle.bus.specs.declared.State.{State}
 use Rattle.bus.specs.declared.Totals.{Totals}
-use Rattle.bus.specs.Coded.{codedAdmit, codedStep, totalsOf}
-use Rattle.scenario.specs.declared.Arrival.{Arrival}
+use Rattle.bus.specs.declared.Arrival.{Arrival}
+use Rattle.bus.specs.declared.Report.{Report}
+use Rattle.bus.specs.Coded.{answerOf, totalsOf}
+use Rattle.bus.specs.Stretch.{Course, most-calls, course}
 use Rattle.scenario.specs.declared.Scenario.{Scenario}
-use Rattle.scenario.specs.Format.{arrivalKind, Said, readRecord}
+use Rattle.scenario.specs.Format.{arrivalKind, readRecord}
 use Rattle.scenario.specs.Reading.{arrival-bytes, arrivalFrom, reading, scenarioForm}
 pub use Rattle.listing.specs.declared.Play.{Play}
 pub use Rattle.listing.specs.declared.Turn.{Turn}
-use Rattle.listing.specs.Text.{Line, refusedText, endText, droppedText, probedText, lineOf, textOf}
-use Rattle.listing.specs.Run.{asks, due, refusalText}
+use Rattle.listing.specs.Text.{refusedText, refusalText, endText, droppedText, probedText}
 
--- an empty line
-abbrev pub empty : Line
-empty = lineOf []
+-- what a turn comes to: its text, and the run as it goes on
+pub record Outcome : Type 0 where
+  pub text : List ℕ
+  pub play : Play
 
--- a turn that hands out one line, or none
-abbrev pub says : List ℕ → Play → Turn
-says text p = record { drops = empty; line = lineOf text; play = p }
+abbrev pub says : List ℕ → Play → Outcome
+says text p = record { text = text; play = p }
 
 -- a run that is over
 abbrev pub over : State → Play
@@ -32,60 +31,93 @@ over s = record { state = s; at = 0; steps = 0; going = false }
 
 -- ---- the first turn: the scenario is read
 
-abbrev pub openedBy : Scenario → Turn
+abbrev pub openedBy : Scenario → Outcome
 openedBy x =
     cond
     (eqb (x .refusal) 0)
     (says [] (record { state = x .state; at = x .at; steps = x .steps; going = true }))
     (says (refusedText (x .refusal) (x .offset)) (over (x .state)))
 
-abbrev pub opened : List ℕ → Turn
+abbrev pub opened : List ℕ → Outcome
 opened input = openedBy (scenarioForm (reading input))
 
--- ---- any other turn: one arrival is admitted, or one step is made, or the run ends
+-- ---- the arrivals that come next
 
-abbrev pub admittedBy : Play → Arrival → Admitted × State → Turn
-admittedBy p a r =
+-- those in the input from an offset on, so many at the most: up to the first record that is none
+unfoldable pub arrivalsIn : ℕ → List ℕ → ℕ → List Arrival
+arrivalsIn zero input at = []
+arrivalsIn (suc most) input at =
+    cond
+    (eqb (readRecord (drop at input) .kind) (arrivalKind .kind))
+    (arrivalFrom (readRecord (drop at input) .values) ∷ arrivalsIn most input (at + arrival-bytes))
+    []
+
+-- the places of a row of arrivals
+abbrev pub row-places : ℕ
+row-places = 64
+
+abbrev pub nextArrivals : List ℕ → ℕ → List Arrival
+nextArrivals input at = arrivalsIn row-places input at
+
+-- ---- what a stretch tells
+
+-- of an arrival the refusal, if it was refused; of a step the packets dropped, and the probe
+abbrev pub reportText : Report → List ℕ
+reportText r =
+    cond
+    (r .arrival)
+    (refusalText (r .clock .0) (r .address .0) (r .admitted .refusal))
+    (droppedText (answerOf (r .answer)) ++ probedText (answerOf (r .answer)))
+
+abbrev pub reportsText : List Report → List ℕ
+reportsText [] = []
+reportsText (r ∷ later) = reportText r ++ reportsText later
+
+-- ---- any other turn: a stretch of calls, or the run ends
+
+-- a stretch was made: each arrival that it took has moved the run on in the input
+abbrev pub stretchedBy : Play → Course → Outcome
+stretchedBy p c =
     says
-    (refusalText (p .state .segment .clock .0) a (r .0 .refusal))
-    (record { state = r .1; at = p .at + arrival-bytes; steps = p .steps; going = true })
+    (reportsText (c .reports))
+    (record { state = c .state; at = p .at + arrival-bytes * c .taken; steps = c .left; going = true })
 
-abbrev pub steppedBy : Play → Probe.Answer × State → Turn
-steppedBy p r =
-    record {
-      drops = lineOf (droppedText (r .0));
-      line = lineOf (probedText (r .0));
-      play = record { state = r .1; at = p .at; steps = p .steps - 1; going = true };
-    }
+-- by the arrivals that come next, of which there may be more where as many were found as a row has places
+abbrev pub courseOf : List Arrival → Play → Course
+courseOf arrivals p = course most-calls (p .state) arrivals (leb row-places (length arrivals)) (p .steps)
 
-abbrev pub closedBy : State → Totals → Turn
+abbrev pub stretched : List ℕ → Play → Outcome
+stretched input p = stretchedBy p (courseOf (nextArrivals input (p .at)) p)
+
+-- 'Last: END clock admitted sent lost waiting'
+abbrev pub closedBy : State → Totals → Outcome
 closedBy s t = says (endText (t .clock .0) (t .admitted) (t .sent) (t .lost) (t .waiting)) (over s)
 
--- what the next turn does, by the record that is next in the input
-abbrev pub turnBy : Said → Play → Turn
-turnBy x p =
-    cond
-    (eqb (x .kind) (arrivalKind .kind) && due (p .state .segment .clock .0) (arrivalFrom (x .values)))
-    (admittedBy p (arrivalFrom (x .values)) (codedAdmit (p .state) (asks (arrivalFrom (x .values)))))
-    (steppedBy p (codedStep (p .state)))
-
-abbrev pub turn : List ℕ → Play → Turn
+abbrev pub turn : List ℕ → Play → Outcome
 turn input p =
-    cond
-    (p .going)
-    (cond (eqb (p .steps) 0) (closedBy (p .state) (totalsOf (p .state))) (turnBy (readRecord (drop (p .at) input)) p))
-    (says [] p)
+    cond (p .going) (cond (eqb (p .steps) 0) (closedBy (p .state) (totalsOf (p .state))) (stretched input p)) (says [] p)
 
--- ---- what is handed out
+-- ---- what the code hands out, and the room
 
--- the lines of a turn, one after the other
-abbrev pub said : Turn → List ℕ
-said t = textOf (t .drops) ++ textOf (t .line)
+-- the bytes of the room
+abbrev pub room-bytes : ℕ
+room-bytes = 65536
 
--- what is handed out in a turn, and then for so many turns as long as the run goes on
-abbrev pub handed : ℕ → List ℕ → Turn → List ℕ
-handed zero input t = said t
-handed (suc turns) input t = said t ++ cond (t .play .going) (handed turns input (turn input (t .play))) []
+abbrev pub turnForm : Outcome → Turn
+turnForm o = record { length = length (o .text); play = o .play }
+
+-- the room with a text over its start, and the rest as it was
+abbrev pub roomWith : List ℕ → List ℕ → List ℕ
+roomWith [] room = room
+roomWith (byte ∷ text) [] = []
+roomWith (byte ∷ text) (old ∷ room) = byte ∷ roomWith text room
+
+-- ---- the whole run, turn by turn
+
+-- the text of a turn, and then of so many turns as long as the run goes on
+abbrev pub handed : ℕ → List ℕ → Outcome → List ℕ
+handed zero input o = o .text
+handed (suc turns) input o = o .text ++ cond (o .play .going) (handed turns input (turn input (o .play))) []
 
 -- how many turns a play has yet, at the most: an arrival takes bytes of the input, and a step is one of its steps
 abbrev pub turnsLeft : List ℕ → Play → ℕ

@@ -6,7 +6,6 @@ use mathlib.Core.Option.{Option, none, some}
 use mathlib.Core.List.{List, [], _∷_}
 use lib.Dec.{ltb, eqb}
 use lib.ListN.{length, take, drop}
-pub use Rattle.scenario.specs.declared.Arrival.{Arrival}
 pub use Rattle.scenario.specs.declared.Record.{Record}
 use Rattle.scenario.specs.declared.Record.the-variants as Is
 

@@ -11,6 +11,7 @@ ghost use Rattle.scenario.specs.Reading.{reading, scenarioForm, readStat
 ghost use Rattle.scenario.specs.Reading.{refused as refusedReading};
 ghost use Rattle.scenario.specs.Parts.{endingForm, runAt, endingAt, afterPassed};
 use bus::Address;
+use bus::Arrival;
 use bus::Capability;
 use bus::Listed;
 use bus::Row;
@@ -38,14 +39,6 @@ const NOBODY: Listed = Listed {
     address: Address(0),
     capability: Capability(0),
 };
-
-// An arrival: 'time 4, address 2, value 4, packet length 2'.
-pub struct Arrival {
-    pub time: Slot,
-    pub address: Address,
-    pub value: u32,
-    pub length: u32,
-}
 
 // What reading a record answers: its body by its kind, or the number that refuses it.
 pub enum Record {

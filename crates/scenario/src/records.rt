@@ -2,10 +2,10 @@
 ghost use mathlib.Core.Path.{_≡_};
 ghost use Rattle.scenario.specs.Format.{readRecord, said, saidBy, setUpKind, stationKind, arrivalKind, runKind};
 ghost use Rattle.scenario.specs.Parts.{isKind, saidByKind};
-use crate::Arrival;
 use crate::Record;
 use crate::fields;
 use bus::Address;
+use bus::Arrival;
 use bus::Capability;
 use bus::Listed;
 use bus::Settings;

@@ -5,19 +5,18 @@ use borrow.Author.Needs.{needs}
 use Rattle.busrun.proofs.write_first.Statement.{statement}
 use Rattle.busrun.proofs.write_first.Tie as tie
 
+returns : tie.Need-returns
+returns c = search needs
+
 slice-aggregate-write-all : tie.Need-slice-aggregate-write-all
 slice-aggregate-write-all c =
-    let args = c .before .before .before .args in
-    sym (length-take-le (args .length) (args .bytes .now) (c .before .if1 .taken))
+    let start = c .before .before .before in sym (length-take-le (start .args .count) (start .args .room .now) (start .pre))
 
 write-all-requires : tie.Need-write-all-requires
 write-all-requires c κs = search needs
-
-returns : tie.Need-returns
-returns c = search needs
 
 returns-2 : tie.Need-returns-2
 returns-2 c = search needs
 
 pub write-first-spec : {M : Type 1} → statement M
-write-first-spec = tie.close (tie.spec slice-aggregate-write-all write-all-requires returns returns-2)
+write-first-spec = tie.close (tie.spec returns slice-aggregate-write-all write-all-requires returns-2)

@@ -1,36 +1,36 @@
 -- `close` meets its contract: the line of the totals, and the run is over. Assumes nothing.
-use mathlib.Core.Path.{_∙_}
+use mathlib.Core.Path.{subst}
+use native.Mathlib.Omega.{arith}
 use borrow.Author.Needs.{needs}
-use Rattle.listing.proofs.TurnLaws.{closed-turn}
+use Rattle.bus.specs.declared.Totals.{Totals}
+use Rattle.listing.specs.Turns.{closedBy, room-bytes}
+use Rattle.listing.specs.Parts.{Told}
+use Rattle.listing.proofs.Stores.{told-within}
 use Rattle.listing.proofs.close.Statement.{statement}
 use Rattle.listing.proofs.close.Tie as tie
 
 closing-requires : tie.Need-closing-requires
 closing-requires c κs = search needs
 
-end-line-requires : tie.Need-end-line-requires
-end-line-requires c κs = search needs
+ending-requires : tie.Need-ending-requires
+ending-requires c κs = search needs
 
 over-requires : tie.Need-over-requires
 over-requires c κs = search needs
 
-says-requires : tie.Need-says-requires
-says-requires c κs = search needs
-
 returns : tie.Need-returns
 returns c =
-    let over = c .before in
-    let line = over .before in
-    let totals = line .before in
-    c .says .ensures
-    ∙ closed-turn
-    (totals .before .args .state)
-    (totals .closing .result)
-    (line .end-line .result)
-    (over .over .result)
-    (totals .closing .ensures)
-    (line .end-line .ensures)
-    (over .over .ensures)
+    let line = c .before in
+    let totals = line .before .before in
+    let start = totals .before in
+    record {
+      play = c .over .ensures;
+      told =
+          subst
+          (λ (t : Totals). Told (start .args .room .now) (line .ending .last .0) 0 (line .ending .result) (closedBy (start .args .state) t .text) room-bytes)
+          (totals .closing .ensures)
+          (told-within (line .ending .ensures) (omega arith));
+    }
 
 pub close-spec : {M : Type 1} → statement M
-close-spec = tie.close (tie.spec closing-requires end-line-requires over-requires says-requires returns)
+close-spec = tie.close (tie.spec closing-requires ending-requires over-requires returns)
