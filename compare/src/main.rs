@@ -1,20 +1,8 @@
 //! compare: plays seeded or given inputs through two programs and compares what they write; packs hexadecimal text.
 
-mod case;
-mod comparing;
-#[cfg(test)]
-mod coverage;
-mod damage;
-mod draft;
-mod pack;
-mod playing;
-mod records;
-mod running;
-mod script;
-mod seeded;
-
-use case::Class;
-use comparing::{play_files, Pair, Seeded};
+use compare::case::Class;
+use compare::comparing::{play_files, Pair, Seeded};
+use compare::{pack, scenario_classes, script};
 use std::io::{Read, Write};
 use std::process::ExitCode;
 
@@ -49,11 +37,6 @@ fn main() -> ExitCode {
             ExitCode::from(2)
         }
     }
-}
-
-/// All classes of scenarios.
-fn scenario_classes() -> Vec<&'static Class> {
-    [playing::classes(), damage::classes()].concat()
 }
 
 fn pair(first: &str, second: &str) -> Pair {
