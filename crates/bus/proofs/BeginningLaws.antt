@@ -10,7 +10,6 @@ use native.Mathlib.Omega.{arith}
 use lib.Dec.{eqb, ltb}
 use lib.ListN.{length, getD, take, set, replicate}
 use borrow.Author.Tests.{eqb-true, eqb-false, ltb-true, ltb-false, lt-ltb, le-ltb, not-true}
-use Rattle.window.specs.Splitting.{firstWindow}
 use Rattle.rules.specs.Lists.{kept, keep, count, total}
 use Rattle.rules.specs.Bus.{Discipline, PRI, RTDG, RTVC, Offer, Station, Bus, most-admitted, late}
 use Rattle.rules.specs.SetUp.{disciplineOf}
@@ -18,7 +17,7 @@ use Rattle.rules.specs.Standing.{OfferStands}
 use Rattle.rules.specs.Begin.{sits-out, parameterOf, offers, choice, entered, dropsOf, begin}
 use Rattle.rules.proofs.Laws.{and-true, true-and, keep-all, kept-failed, count-le, total-among, total-mono}
 use Rattle.bus.specs.State.{Slot, Settings, Listed, Contender, Contention, Round, Segment, Queues, State, Packet, noContender, nobody, placesAt, queueAt, offerOf, stationAt, valuesFrom, stationsOf, lastOf, contentionOf, meaning, contenderForm, form, row, queue-padded, contender-padded, no-station}
-use Rattle.bus.specs.Parts.{Queue, Begun, Late, queueOf, packetsOf, queueForm, withQueue, stays, chosenForm, parameterFor, contenderOn, contenderFor}
+use Rattle.bus.specs.Parts.{Queue, openingOf, Begun, Late, queueOf, packetsOf, queueForm, withQueue, stays, chosenForm, parameterFor, contenderOn, contenderFor}
 use Rattle.bus.proofs.Rows.{values-take, values-map, values-same, among-values, row-length, row-at, row-ext, row-replicate, row-same, row-set}
 use Rattle.bus.proofs.Form.{Held, Padded, parts-padded, contender-form, queue-length, to-form}
 use Rattle.bus.proofs.QueueLaws.{places-count, kept-length, kept-room, packets-of-form, form-padded, form-places, queue-of-with}
@@ -289,10 +288,6 @@ module _ (s : State) (i : ℕ) where
 
 -- ---- the state in which a contention has begun
 
--- the contention that opens
-abbrev pub openingOf : State → Contention
-openingOf s = record { begun = true; window = firstWindow (s .segment .settings .d); tied = false; tie = 0 }
-
 -- the state with the packets that are left, and with so many packets more lost
 abbrev pub begunState : State → Queues → ℕ → State
 begunState s rest drops =
@@ -302,7 +297,7 @@ begunState s rest drops =
           (s .segment)
           (s .segment .admitted)
           (s .segment .lost + drops)
-          (openingOf s)
+          (openingOf (s .segment .settings .d))
           (placesTo (placeFor (s .segment) rest) (s .segment .settings .n));
       queues = rest;
     }
@@ -506,7 +501,7 @@ module _ (s : State) (r : Lent s) where
 abbrev pub opened : State → State
 opened s =
     record {
-      segment = segmentCounting (s .segment) (s .segment .admitted) (s .segment .lost) (openingOf s) (s .segment .contenders);
+      segment = segmentCounting (s .segment) (s .segment .admitted) (s .segment .lost) (openingOf (s .segment .settings .d)) (s .segment .contenders);
       queues = s .queues;
     }
 
@@ -624,7 +619,7 @@ module _ (s : State) (r : Lent s) where
             record {
               state =
                   record {
-                    segment = segmentCounting (s .segment) (s .segment .admitted) lost (openingOf s) contenders;
+                    segment = segmentCounting (s .segment) (s .segment .admitted) lost (openingOf (s .segment .settings .d)) contenders;
                     queues = s .queues;
                   };
               drops = 0;

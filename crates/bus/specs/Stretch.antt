@@ -7,6 +7,7 @@ use lib.Dec.{leb}
 use lib.ListN.{length, take, replicate}
 use Rattle.rules.specs.declared.Admitted.{Admitted}
 use Rattle.rules.specs.Admission as Rules
+use Rattle.rules.specs.Probe.{refusedAnswer}
 use Rattle.bus.specs.State.{State}
 use Rattle.bus.specs.Coded.{Answer, arrivalOf, answerForm, codedAdmit, codedStep}
 pub use Rattle.bus.specs.declared.Arrival.{Arrival}
@@ -17,6 +18,10 @@ pub use Rattle.bus.specs.declared.Stretch.{Stretch}
 -- how many calls a stretch has at the most
 abbrev pub most-calls : ℕ
 most-calls = 512
+
+-- the places of a row of arrivals
+abbrev pub row-places : ℕ
+row-places = 64
 
 -- what an arrival asks for
 abbrev pub asks : Arrival → Rules.Arrival
@@ -36,20 +41,7 @@ abbrev pub noAdmitted : Admitted
 noAdmitted = record { refusal = 0; number = 0 }
 
 abbrev pub noAnswer : Answer
-noAnswer =
-    record {
-      refusal = 0;
-      drops = 0;
-      slot = record { 0 = 0 };
-      phase = 0;
-      start = 0;
-      size = 0;
-      event = 0;
-      address = record { 0 = 0 };
-      number = 0;
-      length = 0;
-      ended = false;
-    }
+noAnswer = answerForm (refusedAnswer 0)
 
 -- a place that no report fills
 abbrev pub noReport : Report
@@ -107,7 +99,7 @@ abbrev pub inRow : Arrivals → List Arrival
 inRow x = take (x .length) (x .row)
 
 abbrev pub mayBeMore : Arrivals → Bool
-mayBeMore x = leb 64 (x .length)
+mayBeMore x = leb row-places (x .length)
 
 -- a stretch from a state, by the arrivals that come next and the steps that are left
 abbrev pub stretchOf : State → Arrivals → ℕ → Course

@@ -22,7 +22,7 @@ ghost use Prim.Native.Nat.{_+_, _≤_};
 ghost use mathlib.Core.Path.{_≡_};
 ghost use mathlib.Core.Bool.{true, false, _&&_};
 ghost use lib.Dec.{leb, ltb};
-ghost use Rattle.bus.specs.Stretch.{noAdmitted, noAnswer, stretchOf, stretchForm};
+ghost use Rattle.bus.specs.Stretch.{most-calls, row-places, noAdmitted, noAnswer, stretchOf, stretchForm};
 ghost use Rattle.bus.specs.Coded.{standing};
 
 // The calls that a stretch has at the most, and the arrivals of its row.
@@ -32,7 +32,7 @@ const ROW: usize = 64;
 
 // Whether a stretch goes on: there is room for a report, a place of the row that has not been passed, and a step left.
 fn goes_on(made: usize, taken: usize, left: u32) -> bool
-    ensures { λ r. ⌜ r ≡ (ltb made 512 && ltb taken 64 && ltb 0 left) ⌝ }
+    ensures { λ r. ⌜ r ≡ (ltb made most-calls && ltb taken row-places && ltb 0 left) ⌝ }
 {
     if MOST_CALLS <= made {
         return false;

@@ -42,9 +42,9 @@ pub fn with_queue(qs: Queues, i: usize, queue: Queue) -> Queues
 {
     let mut next = qs;
     let first = 16 * i;
-    for j in 0..16 {
-        let at = first + j;
-        next.packets[at] = queue.packets[j];
+    for k in 0..16 {
+        let at = first + k;
+        next.packets[at] = queue.packets[k];
     }
     next.lengths[i] = queue.length;
     next
@@ -98,25 +98,8 @@ pub fn without(queues: Queues, i: usize, leaving: Leaving) -> Queues
     requires { ⌜ getD (queues .lengths) i 0 ≤ 16 ⌝ }
     ensures { λ r. ⌜ r ≡ withQueue queues i (queueForm (keep (stays leaving) (queueAt queues i))) ⌝ }
 {
-    let mut next = queues;
-    let first = 16 * i;
-    let mut places = [zeros::NO_PACKET; 16];
-    for j in 0..16 {
-        let at = first + j;
-        places[j] = queues.packets[at];
-    }
-    let length = queues.lengths[i];
-    let queue = Queue {
-        packets: places,
-        length,
-    };
-    let rest = kept(queue, leaving);
-    for k in 0..16 {
-        let at = first + k;
-        next.packets[at] = rest.packets[k];
-    }
-    next.lengths[i] = rest.length;
-    next
+    let rest = left(queues, i, leaving);
+    with_queue(queues, i, rest)
 }
 
 // The queue with one packet more.

@@ -10,13 +10,13 @@ use lib.ListN.{length, drop, set, replicate, length-append}
 use lib.Seq.{set-at, append-snoc}
 use borrow.Author.Tests.{eqb-true, eqb-false, ne-eqb}
 use Rattle.bus.specs.declared.Arrival.{Arrival}
-use Rattle.bus.specs.Stretch.{noArrival}
+use Rattle.bus.specs.Stretch.{row-places, noArrival}
 use Rattle.scenario.specs.declared.Record.the-variants as Is
 use Rattle.scenario.specs.Format.{Said, readRecord, said}
 use Rattle.scenario.specs.Reading.{arrival-bytes, arrivalFrom}
 use Rattle.scenario.proofs.Arrivals.{ArrivalsAt, arrivals-here, arrivals-none}
 use Rattle.scenario.proofs.ReadingLaws.{arrival-within}
-use Rattle.listing.specs.Turns.{arrivalsIn, row-places, nextArrivals}
+use Rattle.listing.specs.Turns.{arrivalsIn, nextArrivals}
 use Rattle.listing.specs.Parts.{arrivalsForm}
 
 -- the bytes of arrivals that were found are within the input

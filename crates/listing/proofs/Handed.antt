@@ -19,14 +19,14 @@ use Rattle.bus.specs.declared.Totals.{Totals}
 use Rattle.bus.specs.declared.Arrival.{Arrival}
 use Rattle.bus.specs.State.{form}
 use Rattle.bus.specs.Coded.{totalsOf}
-use Rattle.bus.specs.Stretch.{Course, most-calls, course}
+use Rattle.bus.specs.Stretch.{row-places, Course, most-calls, course}
 use Rattle.bus.proofs.Form.{standing-fits, meaning-form, padded-form}
 use Rattle.scenario.specs.Reading.{arrival-bytes, Reading, refused, accepted, reading, stationOffset, scenarioForm}
 use Rattle.scenario.proofs.Arrivals.{ArrivalsAt}
 use Rattle.scenario.proofs.Sound.{Sound, sound}
 use Rattle.listing.specs.Text.{refusedText}
 use Rattle.listing.specs.Run.{closingText, runText, listingOf, listing}
-use Rattle.listing.specs.Turns.{Play, Outcome, says, over, openedBy, opened, row-places, nextArrivals, reportsText, courseOf, stretched}
+use Rattle.listing.specs.Turns.{Play, Outcome, says, over, openedBy, opened, nextArrivals, reportsText, courseOf, stretched}
 use Rattle.listing.specs.Turns.{closedBy, turn, handed, turnsLeft, played}
 use Rattle.listing.proofs.Gathered.{bytes-within, Found, found-here}
 use Rattle.listing.proofs.Played.{bounds-of, course-moves, Runs, course-runs}

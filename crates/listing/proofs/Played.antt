@@ -20,13 +20,13 @@ use Rattle.bus.specs.declared.State.{State}
 use Rattle.bus.specs.declared.Arrival.{Arrival}
 use Rattle.bus.specs.State.{form}
 use Rattle.bus.specs.Coded.{answerForm, codedAdmit, codedStep}
-use Rattle.bus.specs.Stretch.{Course, most-calls, asks, due, rests, after, stepThen, arrivalReport, stepReport, course}
+use Rattle.bus.specs.Stretch.{row-places, Course, most-calls, asks, due, rests, after, stepThen, arrivalReport, stepReport, course}
 use Rattle.bus.proofs.Form.{standing-fits}
 use Rattle.bus.proofs.Coded.{coded-admit, coded-step}
 use Rattle.bus.proofs.Promises.{answer-read}
 use Rattle.listing.specs.Text.{refusalText, droppedText, probedText}
 use Rattle.listing.specs.Run.{Left, admitDue, runText}
-use Rattle.listing.specs.Turns.{Play, row-places, reportText, reportsText, courseOf}
+use Rattle.listing.specs.Turns.{Play, reportText, reportsText, courseOf}
 use Rattle.listing.proofs.Keeping.{next-stands}
 
 -- ---- what a stretch takes and leaves

@@ -18,13 +18,13 @@ use Rattle.bus.specs.declared.Arrivals.{Arrivals}
 use Rattle.bus.specs.declared.Report.{Report}
 use Rattle.bus.specs.declared.Stretch.{Stretch}
 use Rattle.bus.specs.Coded.{totalsOf}
-use Rattle.bus.specs.Stretch.{most-calls, course, noReport, stretchOf, stretchForm}
+use Rattle.bus.specs.Stretch.{row-places, most-calls, course, noReport, stretchOf, stretchForm}
 use Rattle.bus.proofs.Stretch as stretch-row
 use Rattle.bus.specs.Stretch.{noArrival}
 use Rattle.scenario.specs.declared.Scenario.{Scenario}
 use Rattle.scenario.specs.Reading.{arrival-bytes}
 use Rattle.listing.specs.Text.{refusedText}
-use Rattle.listing.specs.Turns.{Play, Turn, Outcome, says, over, openedBy, row-places, nextArrivals, reportText, reportsText, courseOf, stretched}
+use Rattle.listing.specs.Turns.{Play, Turn, Outcome, says, over, openedBy, nextArrivals, reportText, reportsText, courseOf, stretched}
 use Rattle.listing.specs.Turns.{closedBy, turn, turnForm, room-bytes, roomWith}
 use Rattle.listing.specs.Parts.{Told, TurnTold, arrivalsForm}
 use Rattle.listing.proofs.Stores.{sets-start}

@@ -5,8 +5,8 @@ use mathlib.Core.Logic.{_⊎_}
 use mathlib.Core.List.{List, [], _∷_, _++_}
 use Rattle.bus.specs.declared.Arrival.{Arrival}
 use Rattle.bus.specs.declared.Arrivals.{Arrivals}
-use Rattle.bus.specs.Stretch.{noArrival}
-use Rattle.listing.specs.Turns.{Turn, Outcome, row-places, room-bytes}
+use Rattle.bus.specs.Stretch.{row-places, noArrival}
+use Rattle.listing.specs.Turns.{Turn, Outcome, room-bytes}
 use Rattle.listing.specs.Text.{space, decimal, fields, phaseLetter, eventLetter, winnerFields}
 use lib.ListN.{length, replicate}
 use lib.Seq.{sets}

@@ -9,7 +9,7 @@ use Rattle.bus.specs.declared.Totals.{Totals}
 use Rattle.bus.specs.declared.Arrival.{Arrival}
 use Rattle.bus.specs.declared.Report.{Report}
 use Rattle.bus.specs.Coded.{answerOf, totalsOf}
-use Rattle.bus.specs.Stretch.{Course, most-calls, course}
+use Rattle.bus.specs.Stretch.{row-places, Course, most-calls, course}
 use Rattle.scenario.specs.declared.Scenario.{Scenario}
 use Rattle.scenario.specs.Format.{arrivalKind, readRecord}
 use Rattle.scenario.specs.Reading.{arrival-bytes, arrivalFrom, reading, scenarioForm}
@@ -51,10 +51,6 @@ arrivalsIn (suc most) input at =
     (eqb (readRecord (drop at input) .kind) (arrivalKind .kind))
     (arrivalFrom (readRecord (drop at input) .values) ∷ arrivalsIn most input (at + arrival-bytes))
     []
-
--- the places of a row of arrivals
-abbrev pub row-places : ℕ
-row-places = 64
 
 abbrev pub nextArrivals : List ℕ → ℕ → List Arrival
 nextArrivals input at = arrivalsIn row-places input at

@@ -1,4 +1,4 @@
--- `waiting::with_queue` meets its contract. The loop's invariant: the first j places are put back, all else is as it was. Assumes nothing.
+-- `waiting::with_queue` meets its contract. The loop's invariant: the first k places are put back, all else is as it was. Assumes nothing.
 use Prim.Native.Nat.{_≤_, _*_, _-_}
 use mathlib.Core.Path.{_≡_, refl}
 use native.Mathlib.Omega.{arith}
@@ -9,11 +9,11 @@ use Rattle.bus.proofs.waiting.with_queue.Statement.{statement}
 use Rattle.bus.proofs.waiting.with_queue.Tie as tie
 
 abbrev Inv-loop : tie.InvT-loop
-Inv-loop i queue next₀ first j₀ next j =
-    (j ≤ 16) × (next .lengths ≡ next₀ .lengths) × (next .packets ≡ paste (next₀ .packets) (16 * i) (queue .packets) j)
+Inv-loop i queue next₀ first k₀ next k =
+    (k ≤ 16) × (next .lengths ≡ next₀ .lengths) × (next .packets ≡ paste (next₀ .packets) (16 * i) (queue .packets) k)
 
 abbrev μ-loop : tie.MeasureT-loop
-μ-loop i queue next₀ first j₀ next j = 16 - j
+μ-loop i queue next₀ first k₀ next k = 16 - k
 
 mul-first : tie.Need-mul-first Inv-loop μ-loop
 mul-first c = search needs
@@ -36,8 +36,8 @@ mul-t14 c = search needs
 element-set-from-next : tie.Need-element-set-from-next Inv-loop μ-loop
 element-set-from-next c = search needs
 
-add-j : tie.Need-add-j Inv-loop μ-loop
-add-j c = search needs
+add-k : tie.Need-add-k Inv-loop μ-loop
+add-k c = search needs
 
 loop-less : tie.Need-loop-less Inv-loop μ-loop
 loop-less c = search needs
@@ -48,7 +48,7 @@ loop-again c =
     let turn = c .before .before .loop in
     let n = queues-arrays (start .args .qs) _ (start .good .0) in
     let m = queue-array (start .args .t3) _ (start .good .1 .1 .0) in
-    (search needs, turn .inv .1, copied-one _ (16 * start .args .i) _ (turn .j) (turn .inv .2) refl refl (omega arith) (omega arith))
+    (search needs, turn .inv .1, copied-one _ (16 * start .args .i) _ (turn .k) (turn .inv .2) refl refl (omega arith) (omega arith))
 
 mul-next-2 : tie.Need-mul-next-2 Inv-loop μ-loop
 mul-next-2 c = search needs
@@ -61,7 +61,7 @@ returns c =
     let start = c .before .before in
     let turn = c .before .loop in
     let m = queue-array (start .args .t3) _ (start .good .1 .1 .0) in
-    let e = copied-all _ (16 * start .args .i) _ (turn .j) 16 (turn .inv .2) (omega arith) m in
+    let e = copied-all _ (16 * start .args .i) _ (turn .k) 16 (turn .inv .2) (omega arith) m in
     rw (turn .inv .1, e)
 
 pub with-queue-spec : {M : Type 1} → statement M
@@ -77,7 +77,7 @@ with-queue-spec =
     element-copy-out-next
     mul-t14
     element-set-from-next
-    add-j
+    add-k
     loop-less
     loop-again
     mul-next-2
