@@ -14,7 +14,7 @@ use borrow.Author.Tests.{leb-true, ltb-true, ltb-false, eqb-true, eqb-false, le-
 use Rattle.window.specs.declared.Side.{Side}
 use Rattle.window.specs.declared.Side.the-variants.{Left, Right}
 use Rattle.window.specs.declared.Window.{Window}
-use Rattle.window.specs.Splitting.{exponentOf, firstWindow, leftHalf, moveRight, movedRight, inWindow, isPower, sideAt, sameSide, placed}
+use Rattle.window.specs.Splitting.{exponentOf, firstWindow, leftHalf, halved, moveRight, movedRight, inWindow, isPower, sideAt, sameSide, placed, Placed}
 use Rattle.window.proofs.Powers.{pow-le, pow-parts, part-below, part-inside, after-even, pow-eqb, one-one, ones-pow}
 
 -- The exponent of a space is at most 32.
@@ -91,11 +91,6 @@ halves-apart w h n e = go (inWindow (leftHalf w) n) refl (inWindow (moveRight (l
         let r = in-window (moveRight (leftHalf w)) n q in
         absurd (omega arith)
 
--- The window after a number of left halves.
-abbrev pub halved : ℕ → Window → Window
-halved zero w = w
-halved (suc k) w = halved k (leftHalf w)
-
 -- A window whose size is a power of two comes to size 1 by as many left halves as the exponent says.
 pub halved-size : (k : ℕ) (w : Window) → w .size ≡ 2 ^ k → halved k w .size ≡ 1
 halved-size zero w e = e
@@ -118,17 +113,6 @@ power-level n e = one-one n (eqb-true (ones n) 1 e)
 pub power-test : (k : ℕ) → isPower (2 ^ k) ≡ true
 unfolding isPower
 power-test k = eq-eqb _ _ (ones-pow k)
-
--- What a window that could have come from the first window of a space is: its level, the exponent of its size, and the
--- multiple of its size at which it starts.
-pub record Placed (space : ℕ) (w : Window) : Type 0 where
-  pub level : ℕ
-  pub size-is : w .size ≡ 2 ^ level
-  pub level-le : level ≤ exponentOf space
-  pub multiple : ℕ
-  pub start-is : w .start ≡ multiple * 2 ^ level
-  pub start-in : w .start < 2 ^ exponentOf space
-  pub side-is : w .side ≡ cond (eqb level (exponentOf space)) Right (sideAt multiple)
 
 -- Sides that the test finds the same are equal.
 same-side : (a b : Side) → sameSide a b ≡ true → a ≡ b

@@ -1,31 +1,36 @@
--- Each contract says all of the result: two results that meet it are equal. Assumes nothing.
-use Prim.Native.Nat.{ℕ}
+-- Each contract says all of the result: two results that meet it are equal, whatever the arguments. A line for each exported function, by
+-- what its own contract says. Assumes nothing.
 use mathlib.Core.Path.{_≡_, sym, _∙_}
-use mathlib.Core.Bool.{Bool}
-use Rattle.window.specs.declared.Window.{Window}
-use Rattle.window.specs.Splitting.{exponentOf, firstWindow, leftHalf, movedRight, inWindow, isPower, placed}
+use Rattle.window.specs.Determined.{Determines}
+use Rattle.window.proofs.exponent.Reads as exponent
+use Rattle.window.proofs.first_window.Reads as first_window
+use Rattle.window.proofs.left_half.Reads as left_half
+use Rattle.window.proofs.move_right.Reads as move_right
+use Rattle.window.proofs.«in_window».Reads as «in_window»
+use Rattle.window.proofs.is_power.Reads as is_power
+use Rattle.window.proofs.is_placed.Reads as is_placed
 
 -- What is equal to one thing is equal.
 pub unique {ℓ} : {A : Type ℓ} {x y z : A} → x ≡ z → y ≡ z → x ≡ y
 unique p q = p ∙ sym q
 
-pub exponent-unique : (space r r′ : ℕ) → r ≡ exponentOf space → r′ ≡ exponentOf space → r ≡ r′
-exponent-unique space r r′ = unique
+pub exponent-determined : Determines exponent.Learnt
+exponent-determined κs args r r′ end end′ = unique
 
-pub first-window-unique : (space : ℕ) (r r′ : Window) → r ≡ firstWindow space → r′ ≡ firstWindow space → r ≡ r′
-first-window-unique space r r′ = unique
+pub first-window-determined : Determines first_window.Learnt
+first-window-determined κs args r r′ end end′ = unique
 
-pub left-half-unique : (w r r′ : Window) → r ≡ leftHalf w → r′ ≡ leftHalf w → r ≡ r′
-left-half-unique w r r′ = unique
+pub left-half-determined : Determines left_half.Learnt
+left-half-determined κs args r r′ end end′ = unique
 
-pub move-right-unique : (w r r′ : Window) → r ≡ movedRight w → r′ ≡ movedRight w → r ≡ r′
-move-right-unique w r r′ = unique
+pub move-right-determined : Determines move_right.Learnt
+move-right-determined κs args r r′ end end′ = unique
 
-pub in-window-unique : (w : Window) (n : ℕ) (r r′ : Bool) → r ≡ inWindow w n → r′ ≡ inWindow w n → r ≡ r′
-in-window-unique w n r r′ = unique
+pub in-window-determined : Determines «in_window».Learnt
+in-window-determined κs args r r′ end end′ = unique
 
-pub is-power-unique : (size : ℕ) (r r′ : Bool) → r ≡ isPower size → r′ ≡ isPower size → r ≡ r′
-is-power-unique size r r′ = unique
+pub is-power-determined : Determines is_power.Learnt
+is-power-determined κs args r r′ end end′ = unique
 
-pub is-placed-unique : (w : Window) (space : ℕ) (r r′ : Bool) → r ≡ placed space w → r′ ≡ placed space w → r ≡ r′
-is-placed-unique w space r r′ = unique
+pub is-placed-determined : Determines is_placed.Learnt
+is-placed-determined κs args r r′ end end′ = unique

@@ -1,1 +1,3 @@
+-- The modules of the definitions. Assumes nothing.
 pub mod Splitting
+pub mod Determined

@@ -4,7 +4,8 @@
 -- first window, which has no parent, is called right (Figure 6, line 3). The records `Window` and `Side` are those of src/lib.rt.
 -- Numbers here have no width. Where the code's have one, `movedRight` says what the code does at their end.
 -- Assumes nothing.
-use Prim.Native.Nat.{ℕ, _+_, _-_, _*_, _/_, _%_, _^_}
+use Prim.Native.Nat.{ℕ, zero, suc, _+_, _-_, _*_, _/_, _%_, _^_, _≤_, _<_}
+use mathlib.Core.Path.{_≡_}
 use mathlib.Core.Bool.{Bool, true, false, _&&_, cond}
 use lib.Count.{leadingZeros, ones}
 use lib.Dec.{leb, ltb, eqb}
@@ -25,6 +26,11 @@ firstWindow space = record { start = 0; size = 2 ^ exponentOf space; side = Righ
 -- 'its left half, side left'. Figure 6, lines 20 and 21.
 abbrev pub leftHalf : Window → Window
 leftHalf w = record { start = w .start; size = w .size / 2; side = Left }
+
+-- a window halved so many times
+abbrev pub halved : ℕ → Window → Window
+halved zero w = w
+halved (suc k) w = halved k (leftHalf w)
 
 -- 'the window moves right by its size, side right'. Figure 6, lines 26 and 27.
 abbrev pub moveRight : Window → Window
@@ -64,3 +70,18 @@ placed space w =
     && ltb (w .start) (firstWindow space .size)
     && eqb (w .start % w .size) 0
     && sameSide (w .side) (cond (eqb (w .size) (firstWindow space .size)) Right (sideAt (w .start / w .size)))
+
+-- the same as conditions: the window's level, the exponent of its size, and the multiple of its size at which it starts
+pub record Placed (space : ℕ) (w : Window) : Type 0 where
+  -- 'a window whose size is a power of two'
+  pub level : ℕ
+  pub size-is : w .size ≡ 2 ^ level
+  -- 'no larger than the first window'
+  pub level-le : level ≤ exponentOf space
+  -- 'at a multiple of the size'
+  pub multiple : ℕ
+  pub start-is : w .start ≡ multiple * 2 ^ level
+  -- 'starting inside it'
+  pub start-in : w .start < 2 ^ exponentOf space
+  -- 'side right for the first window itself, otherwise left at an even multiple and right at an odd one'
+  pub side-is : w .side ≡ cond (eqb level (exponentOf space)) Right (sideAt multiple)
