@@ -51,6 +51,11 @@ contender-into {s} {o} (t ∷ stations) (in-tail i) offered = go (t .offer) (con
     go none j = j
     go (some p) j = in-tail j
 
+-- nobody contends once offers are withdrawn
+pub none-contends : {X : Type 0} (f : X → Station) (stations : List X) → ((s : X) → f s .offer ≡ none) → contenders (map f stations) ≡ []
+none-contends f [] h = refl
+none-contends f (s ∷ stations) h = ap (λ o. contending (f s) o (contenders (map f stations))) (h s) ∙ none-contends f stations h
+
 -- a station with the same address, capability and offer as another
 abbrev pub Alike : Station → Station → Type 0
 Alike t s = (t .address ≡ s .address) × (t .capability ≡ s .capability) × (t .offer ≡ s .offer)

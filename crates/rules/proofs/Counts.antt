@@ -23,11 +23,11 @@ use Rattle.rules.proofs.Keeps.{opened-same}
 use Rattle.rules.proofs.Reach.{Does, refuses, admits, holds, probes-one, does, standing-reached, replies-agree}
 
 -- from b to b′ the counts and the clock rise by what the replies say
-record Rise (b b′ : Bus) (rs : List Reply) : Type 0 where
-  in-admitted : b′ .admitted ≡ b .admitted + total adds-admitted rs
-  in-sent : b′ .sent ≡ b .sent + total adds-sent rs
-  in-lost : b′ .lost ≡ b .lost + total adds-lost rs
-  in-clock : b′ .clock ≡ b .clock + total adds-slots rs
+pub record Rise (b b′ : Bus) (rs : List Reply) : Type 0 where
+  pub in-admitted : b′ .admitted ≡ b .admitted + total adds-admitted rs
+  pub in-sent : b′ .sent ≡ b .sent + total adds-sent rs
+  pub in-lost : b′ .lost ≡ b .lost + total adds-lost rs
+  pub in-clock : b′ .clock ≡ b .clock + total adds-slots rs
 
 -- a probe, whoever transmits
 record Told (o : Open) (out : Answer × Bus) : Type 0 where
@@ -51,7 +51,7 @@ opened-lost : (b : Bus) (c : Option Contention) → openedBy b c .bus .lost ≡ 
 opened-lost b none = refl
 opened-lost b (some c) = omega arith
 
-step-rise : (b : Bus) → Rise b (probe (opened b) .1) (stepped (probe (opened b) .0) ∷ [])
+pub step-rise : (b : Bus) → Rise b (probe (opened b) .1) (stepped (probe (opened b) .0) ∷ [])
 step-rise b =
     let h = told (opened b) (transmitters (opened b .bus) (opened b .contention)) in
     let admitted = opened-same (λ (m : Bus). m .admitted) b refl in
@@ -85,7 +85,7 @@ calls-rise b (c ∷ calls) =
     record { in-admitted = omega arith; in-sent = omega arith; in-lost = omega arith; in-clock = omega arith }
 
 -- all of them are 0 after set-up, accepted or refused
-fresh-zero : {X : Type 0} (f : Bus → X) (r : Request) → f (freshBus r) ≡ f nothing → f (setUp r .1) ≡ f nothing
+pub fresh-zero : {X : Type 0} (f : Bus → X) (r : Request) → f (freshBus r) ≡ f nothing → f (setUp r .1) ≡ f nothing
 fresh-zero f r e = go (eqb (setUpVerdict r .refusal) 0)
   where
     go : (t : Bool) → f (cond t (freshBus r) nothing) ≡ f nothing

@@ -21,7 +21,7 @@ use Rattle.rules.specs.Begin.{sits-out}
 use Rattle.rules.specs.Probe.{Answer, success, idle}
 use Rattle.rules.specs.Step.{stepRefusal, step}
 use Rattle.rules.specs.Engine.{Engine, machine, Call, admission, one-step, next, reach, answers}
-use Rattle.rules.specs.Demands.{Demand2, mostProbes, slotsOf, contentionsIn, idleContentionsIn, slotsIn, longestIn, sends, upTo, Served, Demand3}
+use Rattle.rules.specs.Demands.{Demand2, mostProbes, slotsOf, contentionsIn, idleContentionsIn, slotsIn, longestIn, sends, upTo, Waiting, Served, Serves, Demand3}
 use Rattle.rules.proofs.Laws.{clash, or-false, map-into}
 use Rattle.rules.proofs.Reach.{Does, refuses, admits, holds, probes-one, does, standing-reached, after-more, answers-agree}
 use Rattle.rules.proofs.Least.{Cleared, cleared-reached}
@@ -233,21 +233,19 @@ module _ (circuits : List ℕ) (D : ℕ) (s : Station) (p : Packet) (own : Among
 -- ---- the demand
 
 -- a circuit with a packet, as a contention begins
-waits-first :
-    (b : Bus) → b .discipline ≡ RTVC → b .contention ≡ none → (s : Station) → Among s (b .stations) → (p : Packet) (rest : List Packet) → s .queue ≡ p ∷ rest
-    → Waits (map (λ t. t .capability) (b .stations)) (b .D) s p b
-waits-first b d c s i p rest q =
+waits-first : {said : List Answer} (b : Bus) (s : Station) (p : Packet) → Waiting b s p said → Waits (map (λ t. t .capability) (b .stations)) (b .D) s p b
+waits-first b s p h =
     record {
-      by-circuit = d;
+      by-circuit = h .by-circuit;
       space = refl;
       capabilities = refl;
       station = s;
-      listed = i;
+      listed = h .listed;
       address = refl;
       capability = refl;
-      rest = rest;
-      oldest = q;
-      contends = λ c′ e out. let y : _≡_ {A = ℕ} 0 1 = cc in absurd (omega arith);
+      rest = h .rest;
+      oldest = h .oldest;
+      contends = λ c e out. let c′ = h .begins in let y : _≡_ {A = ℕ} 0 1 = cc in absurd (omega arith);
     }
 
 -- what is kept within is served
@@ -269,11 +267,8 @@ bit-most : (t : Bool) → bit t ≤ 1
 bit-most true = omega arith
 bit-most false = omega arith
 
-served-at :
-    (b : Bus) → Reached b → b .discipline ≡ RTVC → b .contention ≡ none → (s : Station) → Among s (b .stations) → (p : Packet) (rest : List Packet)
-    → s .queue ≡ p ∷ rest → (later : List Call) → All (λ a. a .refusal ≡ 0) (answers machine b later)
-    → Served (length (b .stations)) (exponentOf (b .D)) s p (answers machine b later)
-served-at b r d c s i p rest q later none-refused =
+served-at : (b : Bus) → Reached b → (later : List Call) → Serves b (answers machine b later)
+served-at b r later s p h =
     served
     (length (b .stations))
     (exponentOf (b .D))
@@ -286,27 +281,22 @@ served-at b r d c s i p rest q later none-refused =
     (bit-most (sits-out RTVC (b .last) (s .capability)))
     (subst
     (λ n. Within (exponentOf (b .D)) (p .length) (sends s p) (winsLeft circuits (s .capability) (b .last)) (idlesLeft (s .capability) (b .last)) n (answers machine b later))
-    (left-at-begin b (b .D) d refl c)
-    (kept-all circuits (b .D) s p own some-slots later b r (waits-first b d c s i p rest q) none-refused))
+    (left-at-begin b (b .D) (h .by-circuit) refl (h .begins))
+    (kept-all circuits (b .D) s p own some-slots later b r (waits-first b s p h) (h .none-refused)))
   where
     circuits : List ℕ
     circuits = map (λ t. t .capability) (b .stations)
 
     own : Among (s .capability) circuits
-    own = map-into (λ t. t .capability) (b .stations) i
+    own = map-into (λ t. t .capability) (b .stations) (h .listed)
 
     some-slots : 1 ≤ p .length
-    some-slots = reached-stands r d .each-station s i .packets p (subst (Among p) (sym q) (at-head refl)) .least
+    some-slots = reached-stands r (h .by-circuit) .each-station s (h .listed) .packets p (subst (Among p) (sym (h .oldest)) (at-head refl)) .least
 
 -- the machine itself
 pub demand3-machine : Demand3 machine
-demand3-machine r calls = served-at (reach machine r calls) (r, calls, refl)
+demand3-machine r calls later = served-at (reach machine r calls) (r, calls, refl) later
 
 -- every engine that meets demand 2
 pub demand3 : (E : Engine) → Demand2 E → Demand3 E
-demand3 E meets r calls d c s i p rest q later none-refused =
-    let e = answers-agree E meets r calls later in
-    subst
-    (Served (length (reach machine r calls .stations)) (exponentOf (reach machine r calls .D)) s p)
-    (sym e)
-    (demand3-machine r calls d c s i p rest q later (subst (All (λ a. a .refusal ≡ 0)) e none-refused))
+demand3 E meets r calls later = subst (Serves (reach machine r calls)) (sym (answers-agree E meets r calls later)) (demand3-machine r calls later)

@@ -12,21 +12,16 @@ use Rattle.rules.specs.Lists.{Among, All}
 use Rattle.rules.specs.Bus.{Discipline, Packet, Offer, Station, Contention, Bus}
 use Rattle.rules.specs.SetUp.{Request, freshStation, freshBus}
 use Rattle.rules.specs.Begin.{choice, parameterOf, sits-out, offers, inTime, entered}
-use Rattle.rules.specs.Probe.{Contender, contending, contenders, transmitters, Open, withdrawn, left, lastWinner, unheard, heard}
+use Rattle.rules.specs.Probe.{Contender, contenders, transmitters, Open, withdrawn, left, lastWinner, unheard, heard}
 use Rattle.rules.specs.Step.{openedBy, opened}
 use Rattle.rules.specs.Engine.{machine, Call, reach}
 use Rattle.rules.proofs.Laws.{among-none, map-from}
-use Rattle.rules.proofs.Contenders.{contender-from, contenders-admitted}
+use Rattle.rules.proofs.Contenders.{contender-from, contenders-admitted, none-contends}
 use Rattle.rules.proofs.Reach.{reach-holds}
 
 -- 'otherwise the station sits out'
 abbrev pub Enabled : Bus → Type 0
 Enabled b = All (λ x. sits-out (b .discipline) (b .last) (x .capability) ≡ false) (contenders (b .stations))
-
--- nobody contends once offers are withdrawn
-none-contends : {X : Type 0} (f : X → Station) (stations : List X) → ((s : X) → f s .offer ≡ none) → contenders (map f stations) ≡ []
-none-contends f [] h = refl
-none-contends f (s ∷ stations) h = ap (λ o. contending (f s) o (contenders (map f stations))) (h s) ∙ none-contends f stations h
 
 no-contender : (d : Discipline) (last : Option ℕ) (stations : List Station) → contenders stations ≡ [] → All (λ x. sits-out d last (x .capability) ≡ false) (contenders stations)
 no-contender d last stations e x i = absurd (among-none (subst (Among x) e i))

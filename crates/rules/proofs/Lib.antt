@@ -4,8 +4,11 @@ pub mod Tests
 pub mod Standing
 pub mod Refusals
 pub mod Numbers
+pub mod Offers
 pub mod Keeps
 pub mod Reach
+pub mod Recorded
+pub mod Numbering
 pub mod Counts
 pub mod Contenders
 pub mod Least

@@ -4,12 +4,17 @@ use mathlib.Core.Path.{_≡_, refl}
 use mathlib.Core.Option.{none}
 use Rattle.rules.specs.Conditions.{RefusalsExact}
 use Rattle.rules.specs.Engine.{Engine, machine}
-use Rattle.rules.specs.Demands.{Demand2, NoFalseWin, AddressesApart, KeepsStanding, ReachedStands, HandsBack, Promised}
+use Rattle.rules.specs.Demands.{Demand2, NoFalseWin, AddressesApart, StandsExactly, KeepsStanding, ReachedStands, HandsBack, OffersTheFirst, ContendersStay, QueuedAsAnswered, Promised}
 use Rattle.rules.specs.Examples.{firstFailing}
+use Rattle.rules.proofs.Tests.{tells, told}
+use Rattle.rules.proofs.Standing as Standing
 use Rattle.rules.proofs.Refusals as Refusals
 use Rattle.rules.proofs.Keeps as Keeps
 use Rattle.rules.proofs.Reach as Reach
 use Rattle.rules.proofs.Counts as Counts
+use Rattle.rules.proofs.Numbering as Numbering
+use Rattle.rules.proofs.Offers as Offers
+use Rattle.rules.proofs.Recorded as Recorded
 use Rattle.rules.proofs.Least as Least
 use Rattle.rules.proofs.Probes as Probes
 use Rattle.rules.proofs.Demand3 as Demand3
@@ -17,7 +22,11 @@ use Rattle.rules.proofs.Starred as Starred
 
 -- ---- of the rules themselves, for any lent state
 
--- accepted calls keep the standing conditions
+-- a state passes the test exactly when it keeps the standing conditions
+pub standsExactly : StandsExactly
+standsExactly b = (tells (Standing.stands-exactly b), told (Standing.stands-exactly b))
+
+-- accepted calls keep them
 pub keepsStanding : KeepsStanding
 keepsStanding = Keeps.keepsStanding
 
@@ -32,6 +41,18 @@ handsBack = Refusals.handsBack
 pub refusalsExact : RefusalsExact
 refusalsExact = Refusals.refusalsExact
 
+-- of its packets in time a station offers the one that goes before every other
+pub offersTheFirst : OffersTheFirst
+offersTheFirst = Offers.offersTheFirst
+
+-- contenders stay recorded, parameters fixed, until the contention ends, and nobody joins midway
+pub contendersStay : ContendersStay
+contendersStay = Recorded.contendersStay
+
+-- the packet that an accepted admission queues bears the number answered
+pub queuedAsAnswered : QueuedAsAnswered
+queuedAsAnswered = Numbering.queuedAsAnswered
+
 -- an event says how many transmit
 pub noFalseWin : NoFalseWin
 noFalseWin = Least.noFalseWin
@@ -44,7 +65,7 @@ addressesApart = Least.addressesApart
 pub starred : firstFailing ≡ none
 starred = Starred.starred
 
--- ---- of every engine that meets demand 2: the winner is least, events and counts are true, probes are bounded, and demand 3
+-- ---- of every engine that meets demand 2: the winner is least, events, counts and numbers are true, probes are bounded, and demand 3
 
 pub promised : (E : Engine) → Demand2 E → Promised E
 promised E meets =
@@ -53,6 +74,7 @@ promised E meets =
       eventsAreTrue = Least.eventsAreTrue E meets;
       probesBounded = Probes.probesBounded E meets;
       countsAreTrue = Counts.countsAreTrue E meets;
+      numbersAreAnswers = Numbering.numbersAreAnswers E meets;
       demand3 = Demand3.demand3 E meets;
     }
 

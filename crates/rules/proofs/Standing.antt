@@ -151,7 +151,7 @@ set-up-tried r =
     then one-of (out-of 1 most-stations (r .N)) (below (length (r .row)) (r .N))
     then row-tried r 0 [] (take (r .N) (r .row))
 
-late-whether : (d : Discipline) (clock value : ℕ) → Whether (Late d clock value) (late d clock value)
+pub late-whether : (d : Discipline) (clock value : ℕ) → Whether (Late d clock value) (late d clock value)
 late-whether PRI clock value = fails (λ h. h)
 late-whether RTDG clock value = below value clock
 late-whether RTVC clock value = fails (λ h. h)

@@ -1,27 +1,63 @@
--- The starred examples of paper 01 hold: one theorem over the table of specs/Examples.antt. Assumes nothing.
+-- The starred examples of paper 01 hold: one theorem over the table of specs/Examples.antt, computed part by part, so that a refusal names the row.
+-- Assumes nothing.
+use Prim.Native.Nat.{ℕ, suc, _+_}
 use mathlib.Core.Path.{_≡_, refl, sym, ap, _∙_, fun-ext}
-use mathlib.Core.Bool.{Bool}
-use mathlib.Core.Option.{none}
+use mathlib.Core.Bool.{Bool, true, false}
+use mathlib.Core.Option.{Option, none, some}
+use mathlib.Core.List.{List, [], _∷_, _++_}
+use native.Mathlib.Nat.{add-zero}
+use native.Mathlib.Omega.{arith}
+use lib.ListN.{length}
 use Rattle.window.specs.Splitting.{exponentOf, isPower}
 use Rattle.rules.specs.SetUp.{setUp}
-use Rattle.rules.specs.Engine.{machine, stepsIn}
-use Rattle.rules.specs.Examples.{Row, fact, script, holds, failingFrom, table, firstFailing}
+use Rattle.rules.specs.Engine.{machine}
+use Rattle.rules.specs.Examples.{Row, fact, script, holds, failingFrom, settled, orders, edges, bounds, table, firstFailing}
 use Rattle.rules.proofs.Computing.{bus, computed, bus-same, computed-replies}
 
 -- whether a row holds, its script computed state by state
 computes : Row → Bool
 computes (fact test) = test
-computes (script r calls test) = test (stepsIn (computed machine bus (setUp r .1) calls))
+computes (script r calls test) = test (computed machine bus (setUp r .1) calls)
 
 rewritten : (row : Row) → holds row ≡ computes row
 unfolding computes
 rewritten (fact test) = refl
-rewritten (script r calls test) = ap (λ rs. test (stepsIn rs)) (sym (computed-replies machine bus bus-same (setUp r .1) calls))
+rewritten (script r calls test) = ap test (sym (computed-replies machine bus bus-same (setUp r .1) calls))
+
+-- where no row of a list fails, and none of another, none of the two together does
+both-hold :
+    (n m : ℕ) (rows more : List Row) → n + length rows ≡ m → failingFrom computes n rows ≡ none → failingFrom computes m more ≡ none
+    → failingFrom computes n (rows ++ more) ≡ none
+both-hold n m [] more e h k = ap (λ i. failingFrom computes i more) (sym (add-zero n) ∙ e) ∙ k
+both-hold n m (row ∷ rows) more e h k = go (computes row) h (both-hold (suc n) m rows more (omega arith))
+  where
+    go :
+        (t : Bool) → _≡_ {A = Option ℕ} (elim t [ true ↦ failingFrom computes (suc n) rows | false ↦ some n ]) none
+        → (failingFrom computes (suc n) rows ≡ none → failingFrom computes m more ≡ none → failingFrom computes (suc n) (rows ++ more) ≡ none)
+        → _≡_ {A = Option ℕ} (elim t [ true ↦ failingFrom computes (suc n) (rows ++ more) | false ↦ some n ]) none
+    go true h f = f h k
+    go false h f = h
+
+-- the parts of the table, computed
+settled-hold : failingFrom computes 1 settled ≡ none
+unfolding computes exponentOf isPower
+settled-hold = refl
+
+orders-hold : failingFrom computes 29 orders ≡ none
+unfolding computes exponentOf isPower
+orders-hold = refl
+
+edges-hold : failingFrom computes 32 edges ≡ none
+unfolding computes exponentOf isPower
+edges-hold = refl
+
+bounds-hold : failingFrom computes 48 bounds ≡ none
+unfolding computes exponentOf isPower
+bounds-hold = refl
 
 -- no row fails
 pub starred : firstFailing ≡ none
-unfolding computes exponentOf isPower
-starred = ap (λ holding. failingFrom holding 1 table) (fun-ext rewritten) ∙ computed-table
-  where
-    computed-table : failingFrom computes 1 table ≡ none
-    computed-table = refl
+starred =
+    ap (λ holding. failingFrom holding 1 table) (fun-ext rewritten)
+    ∙ both-hold 1 29 settled (orders ++ (edges ++ bounds)) refl settled-hold
+    (both-hold 29 32 orders (edges ++ bounds) refl orders-hold (both-hold 32 48 edges bounds refl edges-hold bounds-hold))

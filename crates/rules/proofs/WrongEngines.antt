@@ -13,9 +13,9 @@ use Rattle.rules.specs.Bus.{Packet, Station}
 use Rattle.rules.specs.SetUp.{Request, setUp}
 use Rattle.rules.specs.Probe.{Answer}
 use Rattle.rules.specs.Engine.{Engine, machine, Call, Reply, reach, stepsIn, answers}
-use Rattle.rules.specs.Demands.{Demand2, adds-lost, Served, Demand3}
+use Rattle.rules.specs.Demands.{Demand2, adds-lost, numbersAnswered, NumbersAreAnswers, Served, Demand3}
 use Rattle.rules.specs.Examples.{arrives, steps, listing, circuits, apart}
-use Rattle.rules.specs.WrongEngines.{refusesAll, refusesCalls, untouched, alwaysIdle, madeUpDrops, madeUpSent, lowByte, madeUpProbes, firstStation}
+use Rattle.rules.specs.WrongEngines.{refusesAll, refusesCalls, untouched, oneTooLow, alwaysIdle, madeUpDrops, madeUpSent, lowByte, madeUpProbes, firstStation}
 use Rattle.rules.proofs.Laws.{clash, each-view}
 use Rattle.rules.proofs.Computing.{Brings, Same, bus, test, pair, computed, bus-same, test-same, pair-same, computed-replies}
 
@@ -29,7 +29,8 @@ agrees E bring same demand read r calls =
     ∙ demand .calls r calls
     ∙ sym (computed-replies machine bus bus-same (setUp r .1) calls))
 
--- read off replies, each summed: the events (0 idle, 1 collision, 2 success), the winners' addresses, the drops, the refusals of steps
+-- read off replies, each summed: the events (0 idle, 1 collision, 2 success), the winners' addresses, the drops, the numbers that admissions
+-- answer, the refusals of steps
 events : List Reply → ℕ
 events rs = total (λ a. a .event) (stepsIn rs)
 
@@ -38,6 +39,9 @@ winners rs = total (λ a. a .address) (stepsIn rs)
 
 drops : List Reply → ℕ
 drops rs = total adds-lost rs
+
+numbers : List Reply → ℕ
+numbers rs = total (λ n. n) (numbersAnswered rs)
 
 refusals : List Reply → ℕ
 refusals rs = total (λ a. a .refusal) (stepsIn rs)
@@ -48,6 +52,16 @@ refusesAll-wrong n demand = let z : suc n ≡ 0 = ap (λ v. v .refusal) (demand 
 pub refusesCalls-wrong : (n : ℕ) → Demand2 (refusesCalls n) → ⊥
 unfolding refusals exponentOf isPower
 refusesCalls-wrong n demand = let z : suc n + 0 ≡ 0 = agrees (refusesCalls n) bus bus-same demand refusals listing (steps 1) in omega arith
+
+-- the first packet is 1
+pub oneTooLow-wrong : Demand2 oneTooLow → ⊥
+unfolding numbers exponentOf isPower
+oneTooLow-wrong demand = let z : _≡_ {A = ℕ} 0 1 = agrees oneTooLow bus bus-same demand numbers listing (arrives 1 0 1 ∷ []) in omega arith
+
+-- and numbers are not its answers
+pub oneTooLow-misnumbers : NumbersAreAnswers oneTooLow → ⊥
+unfolding exponentOf isPower
+oneTooLow-misnumbers holds = let z : _≡_ {A = ℕ} 0 1 = ap (total (λ n. n)) (holds listing (arrives 1 0 1 ∷ [])) in omega arith
 
 -- a lone packet is sent
 pub untouched-wrong : Demand2 untouched → ⊥
@@ -110,4 +124,12 @@ firstStation-unfair demand = clash (served .ends (lit≤ tt)) refl
     accepted a i = eqb-true (a .refusal) 0 (each-view (λ b. eqb (b .refusal) 0) said refl a i)
 
     served : Served 3 2 s p said
-    served = demand circuits calls refl refl s (in-tail (in-tail (at-head refl))) p [] refl (steps 4) accepted
+    served =
+        demand circuits calls (steps 4) s p (record {
+          by-circuit = refl;
+          listed = in-tail (in-tail (at-head refl));
+          rest = [];
+          oldest = refl;
+          begins = refl;
+          none-refused = accepted;
+        })

@@ -1,20 +1,22 @@
 -- The demands, and what else paper 01 promises of its machine, as statements. The theorems that prove them bear the same names
 -- in small letters, in proofs/. `r` is a set-up as asked for, `calls` are the calls after it, `later` are the calls after those.
 -- Assumes nothing.
-use Prim.Native.Nat.{ℕ, suc, _+_, _-_, _*_, _≤_, _<_, max}
+use Prim.Native.Nat.{ℕ, zero, suc, _+_, _-_, _*_, _≤_, _<_, max}
 use mathlib.Core.Path.{_≡_}
 use mathlib.Core.Logic.{_⊎_, _↔_}
-use mathlib.Core.Bool.{Bool, true, _&&_, cond}
-use mathlib.Core.Option.{none}
+use mathlib.Core.Bool.{Bool, true, false, _&&_, cond}
+use mathlib.Core.Option.{Option, none, some}
 use mathlib.Core.List.{List, [], _∷_, map}
 use lib.Dec.{eqb}
 use lib.ListN.{length}
 use Rattle.window.specs.Splitting.{exponentOf}
-use Rattle.rules.specs.Lists.{bit, count, some-of, total, Among, All, Distinct}
-use Rattle.rules.specs.Bus.{Discipline, PRI, RTDG, RTVC, Packet, Station, Bus, nothing, waiting}
+use Rattle.rules.specs.Lists.{bit, kept, count, some-of, total, Among, All, Distinct}
+use Rattle.rules.specs.Bus.{Discipline, PRI, RTDG, RTVC, Packet, Offer, Station, Contention, Bus, nothing, waiting}
 use Rattle.rules.specs.SetUp.{Request, setUp}
-use Rattle.rules.specs.Standing.{Standing}
-use Rattle.rules.specs.Admission.{Arrival, admit}
+use Rattle.rules.specs.Standing.{stands, Standing}
+use Rattle.rules.specs.Admission.{Arrival, queued, admit}
+use Rattle.rules.specs.Begin.{parameterOf, sits-out, entered}
+use Rattle.rules.specs.Conditions.{Late}
 use Rattle.rules.specs.Probe.{Answer, Contender, able, contenders, transmitters, idle, collision, success, refusedAnswer}
 use Rattle.rules.specs.Step.{opened, step}
 use Rattle.rules.specs.Engine.{Engine, machine, Call, admission, Reply, admitted, stepped, replies, reach, answers}
@@ -52,7 +54,8 @@ pub record Least (b : Bus) (a : Answer) : Type 0 where
   pub length : a .length ≡ winner .packet .length
   pub least : All (λ x. StillAble b x → Ahead winner x) (contendersAt b)
 
--- 'From any state reached from set-up', whoever the engine says has won is least.
+-- 'From any state reached from set-up, whoever wins has the smallest parameter ..'. The answer is the engine's, to a step after these calls; the
+-- contenders are the machine's, after the same calls: an engine says nothing of contenders. A winner whom the engine made up is no contender.
 abbrev pub WinnerIsLeast : Engine → Type 0
 WinnerIsLeast E =
     (r : Request) (calls : List Call) → E .step (reach E r calls) .0 .event ≡ success → Least (reach machine r calls) (E .step (reach E r calls) .0)
@@ -79,6 +82,10 @@ AddressesApart = (r : Request) (calls : List Call) → Distinct (map (λ s. s .a
 
 -- ---- the standing conditions and refusals
 
+-- the test that the machine goes by holds exactly where the conditions do
+abbrev pub StandsExactly : Type 0
+StandsExactly = (b : Bus) → (stands b ≡ true) ↔ Standing b
+
 -- 'Every call that accepts keeps these conditions.'
 pub record KeepsStanding : Type 0 where
   pub set-up : (r : Request) → setUp r .0 .refusal ≡ 0 → Standing (setUp r .1)
@@ -96,6 +103,45 @@ pub record HandsBack : Type 0 where
   pub admission : (b : Bus) (a : Arrival) → ¬ (admit b a .0 .refusal ≡ 0) → admit b a ≡ (record { refusal = admit b a .0 .refusal; number = 0 }, b)
   pub step : (b : Bus) → ¬ (step b .0 .refusal ≡ 0) → step b ≡ (refusedAnswer (step b .0 .refusal), b)
   pub caught : ¬ Standing nothing
+
+-- ---- offers
+
+-- 'the smallest value, the lowest packet number among equals'
+abbrev pub Smaller : Packet → Packet → Type 0
+Smaller p p′ = (p .value < p′ .value) ⊎ ((p .value ≡ p′ .value) × (p .number ≤ p′ .number))
+
+-- p is offered before p′: 'PRI and RTDG the smallest value, ..; RTVC the lowest packet number'
+abbrev pub Before : Discipline → Packet → Packet → Type 0
+Before PRI p p′ = Smaller p p′
+Before RTDG p p′ = Smaller p p′
+Before RTVC p p′ = p .number ≤ p′ .number
+
+-- The packet offered is one of the station's, it is in time, and it goes before every other that is in time; the parameter goes by it.
+pub record Offered (b : Bus) (s : Station) (o : Offer) : Type 0 where
+  pub own : Among (o .packet) (s .queue)
+  pub in-time : ¬ Late (b .discipline) (b .clock) (o .packet .value)
+  pub first : All (λ p. ¬ Late (b .discipline) (b .clock) (p .value) → Before (b .discipline) (o .packet) p) (s .queue)
+  pub takes-part : sits-out (b .discipline) (b .last) (s .capability) ≡ false
+  pub parameter : o .parameter ≡ parameterOf (b .discipline) b s (o .packet)
+
+-- 'Each station then offers one packet', or none: then all that it has are late, or it sits out
+abbrev pub OffersBy : Bus → Station → Option Offer → Type 0
+OffersBy b s none =
+    All (λ p. Late (b .discipline) (b .clock) (p .value)) (s .queue) ⊎ (sits-out (b .discipline) (b .last) (s .capability) ≡ true)
+OffersBy b s (some o) = Offered b s o
+
+-- what each station offers as a contention begins, in any state whatever
+abbrev pub OffersTheFirst : Type 0
+OffersTheFirst = (b : Bus) (s : Station) → OffersBy b s (entered b s .offer)
+
+-- 'Contenders stay recorded until the contention ends', each with its packet and its parameter, which 'is fixed for the whole contention'; and 'a
+-- packet admitted while a contention is under way does not join it'.
+pub record ContendersStay : Type 0 where
+  pub admission : (b : Bus) (a : Arrival) → contenders (admit b a .1 .stations) ≡ contenders (b .stations)
+  -- a step in a contention under way probes among the contenders recorded
+  pub under-way : (b : Bus) (c : Contention) → b .contention ≡ some c → contendersAt b ≡ contenders (b .stations)
+  pub goes-on : (b : Bus) → step b .0 .refusal ≡ 0 → step b .0 .ended ≡ 0 → contenders (step b .1 .stations) ≡ contendersAt b
+  pub ends : (b : Bus) → step b .0 .refusal ≡ 0 → step b .0 .ended ≡ 1 → contenders (step b .1 .stations) ≡ []
 
 -- ---- probes
 
@@ -152,11 +198,56 @@ pub record Counted (b : Bus) (rs : List Reply) : Type 0 where
 abbrev pub CountsAreTrue : Engine → Type 0
 CountsAreTrue E = (r : Request) (calls : List Call) → Counted (reach machine r calls) (replies E (E .setUp r .1) calls)
 
+-- ---- numbers
+
+-- the numbers that accepted admissions were answered with, in the order of the replies
+abbrev pub numberIn : Reply → List ℕ → List ℕ
+numberIn (admitted a) rest = kept (eqb (a .refusal) 0) (a .number) rest
+numberIn (stepped a) rest = rest
+
+abbrev pub numbersAnswered : List Reply → List ℕ
+numbersAnswered [] = []
+numbersAnswered (r ∷ rest) = numberIn r (numbersAnswered rest)
+
+-- n numbers, each one more than the one before it
+abbrev pub countUp : ℕ → ℕ → List ℕ
+countUp first zero = []
+countUp first (suc n) = first ∷ countUp (suc first) n
+
+-- 'An accepted packet is numbered 1, 2, 3 and so on; the number is the answer': counted over all replies since set-up, the k-th accepted
+-- admission answers k.
+abbrev pub NumbersAreAnswers : Engine → Type 0
+NumbersAreAnswers E =
+    (r : Request) (calls : List Call)
+    → numbersAnswered (replies E (E .setUp r .1) calls) ≡ countUp 1 (total adds-admitted (replies E (E .setUp r .1) calls))
+
+-- the packet that an arrival asks for, with a number
+abbrev pub numbered : Arrival → ℕ → Packet
+numbered a n = record { number = n; value = a .value; length = a .length }
+
+-- and the packet that an accepted admission queues, at the station of that full address alone, bears the number that was answered
+abbrev pub QueuedAsAnswered : Type 0
+QueuedAsAnswered =
+    (b : Bus) (a : Arrival) → admit b a .0 .refusal ≡ 0
+    → admit b a .1 .stations
+    ≡ map (λ s. cond (eqb (a .address) (s .address)) (queued (numbered a (admit b a .0 .number)) s) s) (b .stations)
+
 -- ---- demand 3
+
+-- 'N + 1 contentions', 'at most one of them idle'
+abbrev pub mostContentions : ℕ → ℕ
+mostContentions N = N + 1
+
+abbrev pub most-idle : ℕ
+most-idle = 1
 
 -- 'N × (2L − 1 + P) + 1 slots'
 abbrev pub mostSlots : ℕ → ℕ → ℕ → ℕ
 mostSlots N L P = N * (2 * L - 1 + P) + 1
+
+-- N × (2L − 1 + P) slots: one fewer than demand 3 asks for
+abbrev pub fewerSlots : ℕ → ℕ → ℕ → ℕ
+fewerSlots N L P = N * (2 * L - 1 + P)
 
 -- contentions that ended among answers, and those that ended idle
 abbrev pub contentionsIn : List Answer → ℕ
@@ -178,28 +269,56 @@ longestIn (a ∷ said) = max (a .length) (longestIn said)
 abbrev pub sends : Station → Packet → Answer → Bool
 sends s p a = eqb (a .event) success && eqb (a .address) (s .address) && eqb (a .number) (p .number)
 
--- the answers up to the one that says so, and with it
+-- the answers up to the first that says so, and with it; all of them where none says so
 abbrev pub upTo : (Answer → Bool) → List Answer → List Answer
 upTo says [] = []
 upTo says (a ∷ said) = a ∷ cond (says a) [] (upTo says said)
 
+-- A circuit s that waits with its oldest packet p on the bus b, and what is `said` to the steps from there on: demand 3's premises.
+pub record Waiting (b : Bus) (s : Station) (p : Packet) (said : List Answer) : Type 0 where
+  -- 'Under RTVC'
+  pub by-circuit : b .discipline ≡ RTVC
+  -- 'if a circuit has a packet': p is the oldest, the first of its queue
+  pub listed : Among s (b .stations)
+  pub rest : List Packet
+  pub oldest : s .queue ≡ p ∷ rest
+  -- 'when a contention begins': none is under way, so that the next step begins one
+  pub begins : b .contention ≡ none
+  -- 'if no step is refused for the clock's end'
+  pub none-refused : All (λ a. a .refusal ≡ 0) said
+
 -- 'its oldest packet has ended within N + 1 contentions, at most one of them idle, and within N × (2L − 1 + P) + 1 slots'. The first three
--- say so of the answers up to its end; the last two, that it ends: it has been sent once so many contentions, or slots, have gone by.
+-- say so of the answers up to its end, or of all there are where it has not ended yet; the last two say that it ends: it has been sent
+-- once so many contentions, or slots, have gone by. P is 'the longest packet sent meanwhile', its own among them.
 pub record Served (N L : ℕ) (s : Station) (p : Packet) (said : List Answer) : Type 0 where
-  pub contentions : contentionsIn (upTo (sends s p) said) ≤ N + 1
-  pub one-idle : idleContentionsIn (upTo (sends s p) said) ≤ 1
+  pub contentions : contentionsIn (upTo (sends s p) said) ≤ mostContentions N
+  pub one-idle : idleContentionsIn (upTo (sends s p) said) ≤ most-idle
   pub slots : slotsIn (upTo (sends s p) said) ≤ mostSlots N L (longestIn (upTo (sends s p) said))
-  pub ends : N + 1 ≤ contentionsIn said → some-of (sends s p) said ≡ true
+  pub ends : mostContentions N ≤ contentionsIn said → some-of (sends s p) said ≡ true
   pub ends-in-time : (P : ℕ) → p .length ≤ P → longestIn said ≤ P → mostSlots N L P ≤ slotsIn said → some-of (sends s p) said ≡ true
 
--- 'Under RTVC with N circuits, from any state reached from set-up: if a circuit has a packet when a contention begins, ..
--- if no step is refused for the clock's end. Other stations may admit as they like.'
+-- whoever waits on the bus b is served: N is the number of its circuits, L the number of halvings of the first window of D
+abbrev pub Serves : Bus → List Answer → Type 0
+Serves b said = (s : Station) (p : Packet) → Waiting b s p said → Served (length (b .stations)) (exponentOf (b .D)) s p said
+
+-- 'Under RTVC with N circuits, from any state reached from set-up ..'. The bus is the machine's after these calls, and the answers are the
+-- engine's, after the same calls, to the steps among `later`. 'Other stations may admit as they like': any calls may stand there.
 abbrev pub Demand3 : Engine → Type 0
-Demand3 E =
-    (r : Request) (calls : List Call) → reach machine r calls .discipline ≡ RTVC → reach machine r calls .contention ≡ none
-    → (s : Station) → Among s (reach machine r calls .stations) → (p : Packet) (rest : List Packet) → s .queue ≡ p ∷ rest
-    → (later : List Call) → All (λ a. a .refusal ≡ 0) (answers E (reach E r calls) later)
-    → Served (length (reach machine r calls .stations)) (exponentOf (reach machine r calls .D)) s p (answers E (reach E r calls) later)
+Demand3 E = (r : Request) (calls later : List Call) → Serves (reach machine r calls) (answers E (reach E r calls) later)
+
+-- ---- beyond demand 3
+
+-- The slot of the idle contention need not be added: the packet has ended within N × (2L − 1 + P) slots.
+pub record ServedSooner (N L : ℕ) (s : Station) (p : Packet) (said : List Answer) : Type 0 where
+  pub slots : slotsIn (upTo (sends s p) said) ≤ fewerSlots N L (longestIn (upTo (sends s p) said))
+  pub ends-in-time : (P : ℕ) → p .length ≤ P → longestIn said ≤ P → fewerSlots N L P ≤ slotsIn said → some-of (sends s p) said ≡ true
+
+abbrev pub ServesSooner : Bus → List Answer → Type 0
+ServesSooner b said = (s : Station) (p : Packet) → Waiting b s p said → ServedSooner (length (b .stations)) (exponentOf (b .D)) s p said
+
+-- the same for engines
+abbrev pub SoonerThanDemand3 : Engine → Type 0
+SoonerThanDemand3 E = (r : Request) (calls later : List Call) → ServesSooner (reach machine r calls) (answers E (reach E r calls) later)
 
 -- ---- what demand 2 gives an engine
 
@@ -209,4 +328,5 @@ pub record Promised (E : Engine) : Type 0 where
   pub eventsAreTrue : EventsAreTrue E
   pub probesBounded : ProbesBounded E
   pub countsAreTrue : CountsAreTrue E
+  pub numbersAreAnswers : NumbersAreAnswers E
   pub demand3 : Demand3 E

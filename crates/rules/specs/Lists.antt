@@ -85,7 +85,9 @@ module _ {Out : Type 0} where
   firstOf accepted [] = accepted
   firstOf accepted (t ∷ ts) = verdict (t .1) (t .0) (firstOf accepted ts)
 
-  -- 'Given exactly when': v is given for conditions tried in this order. Its own condition holds and none tried earlier does.
+  -- 'Given exactly when'. The list has a verdict and its condition in each place, in the order in which they are tried. Read from the front: either
+  -- the first condition holds, and v is its verdict; or it does not, and v is given by the rest of the list; past the end, v is `accepted`.
+  -- So v is the verdict of a condition that holds, none before which does, and `accepted` only where none of them holds.
   abbrev pub Given : Out → List (Out × Type 0) → Out → Type 0
   Given accepted [] v = v ≡ accepted
   Given accepted (c ∷ cs) v = ((c .1) × (v ≡ c .0)) ⊎ ((¬ (c .1)) × Given accepted cs v)

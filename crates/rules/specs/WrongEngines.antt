@@ -1,7 +1,7 @@
 -- Engines that break the rules, each the machine with one thing changed. 'Try these and see them rejected' (paper 01, 'What the
--- histories may rely on'): proofs/WrongEngines.antt refutes demand 2 of each of them, and demand 3 of `firstStation`.
--- Assumes nothing.
-use Prim.Native.Nat.{ℕ, zero, suc, _+_, _%_}
+-- histories may rely on'), and others: proofs/WrongEngines.antt refutes demand 2 of each of them, demand 3 of `firstStation`, and of
+-- `oneTooLow` that numbers are answers. Assumes nothing.
+use Prim.Native.Nat.{ℕ, zero, suc, _+_, _-_, _%_}
 use mathlib.Core.Bool.{Bool, true, false, not, _||_, cond}
 use mathlib.Core.Option.{none}
 use mathlib.Core.List.{List, [], _∷_, map}
@@ -38,6 +38,16 @@ refusesCalls n =
 -- gives the machine's answers, and hands the state back untouched
 abbrev pub untouched : Engine
 untouched = record { State = Bus; setUp = setUp; admit = λ b a. (admit b a .0, b); step = λ b. (step b .0, b) }
+
+-- answers each admission with a number one too low, as if the first packet were 0
+abbrev pub oneTooLow : Engine
+oneTooLow =
+    record {
+      State = Bus;
+      setUp = setUp;
+      admit = λ b a. (record { refusal = admit b a .0 .refusal; number = admit b a .0 .number - 1 }, admit b a .1);
+      step = step;
+    }
 
 -- the machine with another way to probe
 abbrev pub probing : (Open → Answer × Bus) → Engine

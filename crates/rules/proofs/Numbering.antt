@@ -1,0 +1,70 @@
+-- Accepted packets are numbered 1, 2, 3 and so on, and the number is the answer. Assumes nothing.
+use Prim.Native.Nat.{ℕ, suc, _+_}
+use mathlib.Core.Path.{_≡_, refl, sym, ap, _∙_, subst}
+use mathlib.Core.List.{List, [], _∷_}
+use native.Mathlib.Omega.{arith}
+use borrow.Author.Tests.{ne-eqb}
+use Rattle.rules.specs.Lists.{total}
+use Rattle.rules.specs.Bus.{Bus}
+use Rattle.rules.specs.SetUp.{Request, setUp}
+use Rattle.rules.specs.Admission.{Admitted}
+use Rattle.rules.specs.Probe.{Answer}
+use Rattle.rules.specs.Step.{step}
+use Rattle.rules.specs.Engine.{Engine, machine, Call, admission, one-step, Reply, admitted, stepped, reply, next, replies}
+use Rattle.rules.specs.Demands.{Demand2, adds-admitted, numberIn, numbersAnswered, countUp, NumbersAreAnswers, QueuedAsAnswered}
+use Rattle.rules.proofs.Standing.{accepted-admission, admit-is}
+use Rattle.rules.proofs.Reach.{Does, refuses, admits, holds, probes-one, does, replies-agree}
+use Rattle.rules.proofs.Counts.{step-rise, fresh-zero}
+
+-- the numbers answered from a bus on: one more than it has admitted, and so on
+abbrev Counting : ℕ → List Reply → Type 0
+Counting n rs = numbersAnswered rs ≡ countUp (suc n) (total adds-admitted rs)
+
+-- a reply that is no accepted admission, and the replies after it
+not-counted : {n m : ℕ} (r : Reply) (rs : List Reply) → adds-admitted r ≡ 0 → numberIn r (numbersAnswered rs) ≡ numbersAnswered rs → m ≡ n → Counting m rs → Counting n (r ∷ rs)
+not-counted {n} r rs none same e h =
+    let sum : total adds-admitted rs ≡ adds-admitted r + total adds-admitted rs = omega arith in
+    same ∙ h ∙ ap (λ k. countUp (suc k) (total adds-admitted rs)) e ∙ ap (countUp (suc n)) sum
+
+-- an accepted admission, and the replies after it
+counted-on : (n : ℕ) (rs : List Reply) → Counting (suc n) rs → Counting n (admitted (record { refusal = 0; number = suc n }) ∷ rs)
+counted-on n rs h =
+    let sum : suc (total adds-admitted rs) ≡ 1 + total adds-admitted rs = omega arith in
+    ap (λ ns. suc n ∷ ns) h ∙ ap (countUp (suc n)) sum
+
+-- one call, and the replies after it
+call-counted : (b : Bus) (c : Call) (rs : List Reply) → Counting (next machine b c .admitted) rs → Counting (b .admitted) (reply machine b c ∷ rs)
+call-counted b c rs = go c (does b c)
+  where
+    go : (k : Call) → Does b k → Counting (next machine b k .admitted) rs → Counting (b .admitted) (reply machine b k ∷ rs)
+    go k (refuses a n z e) =
+        subst
+        (λ (o : Admitted × Bus). Counting (o .1 .admitted) rs → Counting (b .admitted) (admitted (o .0) ∷ rs))
+        (sym e)
+        (not-counted (admitted (record { refusal = n; number = 0 })) rs (rw (ne-eqb n 0 z)) (rw (ne-eqb n 0 z)) refl)
+    go k (admits a z e) =
+        subst
+        (λ (o : Admitted × Bus). Counting (o .1 .admitted) rs → Counting (b .admitted) (admitted (o .0) ∷ rs))
+        (sym e)
+        (counted-on (b .admitted) rs)
+    go k (holds n z e) = not-counted (stepped (step b .0)) rs refl refl (ap (λ (o : Answer × Bus). o .1 .admitted) e)
+    go k (probes-one z a e) =
+        let same = step-rise b .in-admitted in
+        not-counted (stepped (step b .0)) rs refl refl (ap (λ (o : Answer × Bus). o .1 .admitted) e ∙ omega arith)
+
+calls-counted : (b : Bus) (calls : List Call) → Counting (b .admitted) (replies machine b calls)
+calls-counted b [] = refl
+calls-counted b (c ∷ calls) = call-counted b c (replies machine (next machine b c) calls) (calls-counted (next machine b c) calls)
+
+-- counted from set-up on, where none has been admitted
+machine-numbers : NumbersAreAnswers machine
+machine-numbers r calls =
+    subst (λ n. Counting n (replies machine (setUp r .1) calls)) (fresh-zero (λ (b : Bus). b .admitted) r refl) (calls-counted (setUp r .1) calls)
+
+pub numbersAreAnswers : (E : Engine) → Demand2 E → NumbersAreAnswers E
+numbersAreAnswers E meets r calls =
+    subst (λ rs. numbersAnswered rs ≡ countUp 1 (total adds-admitted rs)) (sym (replies-agree E meets r [] calls)) (machine-numbers r calls)
+
+-- the packet queued bears the number answered
+pub queuedAsAnswered : QueuedAsAnswered
+queuedAsAnswered b a z = rw (admit-is b a (accepted-admission b a z))
