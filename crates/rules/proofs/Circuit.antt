@@ -1,17 +1,17 @@
 -- A circuit with a waiting packet, step by step: what one step does to its turn. Assumes nothing.
-use Prim.Native.Nat.{ℕ, _+_, _<_}
+use Prim.Native.Nat.{ℕ, _+_, _≤_, _<_}
 use mathlib.Core.Path.{_≡_, refl, sym, ap, _∙_, subst}
-use mathlib.Core.Logic.{inl, inr}
+use mathlib.Core.Logic.{_⊎_, inl, inr}
 use mathlib.Core.Bool.{Bool, true, false, not, _&&_, cond}
 use mathlib.Core.Option.{Option, none, some}
 use mathlib.Core.List.{List, [], _∷_, _++_, map}
 use native.Mathlib.Omega.{arith}
-use lib.Dec.{eqb}
-use borrow.Author.Tests.{eqb-true, eqb-false, eq-eqb, ne-eqb, le-ltb}
+use lib.Dec.{ltb, eqb}
+use borrow.Author.Tests.{eqb-true, eqb-false, eq-eqb, ne-eqb, le-ltb, lt-ltb}
 use Rattle.window.specs.declared.Side.{Side}
 use Rattle.window.specs.declared.Side.the-variants.{Left, Right}
 use Rattle.window.specs.Splitting.{moveRight}
-use Rattle.rules.specs.Lists.{keep, Among, at-head}
+use Rattle.rules.specs.Lists.{keep, Among, at-head, Some}
 use Rattle.rules.specs.Bus.{late, RTDG, RTVC, code, Packet, Station, Contention, Bus}
 use Rattle.rules.specs.Standing.{Rising, Standing}
 use Rattle.rules.specs.Admission.{Arrival, named, newPacket, queued, joined, withPacket}
@@ -19,14 +19,15 @@ use Rattle.rules.specs.Begin.{goes-before, chosen, choice, sits-out, off
 use Rattle.rules.specs.Probe.{Answer, Contender, contenderOf, able, transmits, transmitters, goesOn, withdrawn, unwon, left, lastWinner, won, split, unheard, heard, success, idle}
 use Rattle.rules.specs.Step.{openedBy, opened, stepRefusal, step}
 use Rattle.rules.specs.Demands.{contendersAt, Ahead, Least, sends}
-use Rattle.rules.proofs.Laws.{true-and, among-none, keep-all, keep-from, map-into, map-map, map-same}
+use Rattle.rules.proofs.Laws.{true-and, among-none, keep-all, keep-from, count-some, map-into, map-map, map-same}
 use Rattle.rules.proofs.Numbers.{same-apart}
 use Rattle.rules.proofs.Contenders.{contender-from, contender-into, joined-alike, same-address, same-capability}
 use Rattle.rules.proofs.Enabled.{Enabled, opened-enabled}
 use Rattle.rules.proofs.Standing.{SetUpStands, set-up-stands, step-is}
 use Rattle.rules.proofs.Keeps.{opened-stands, opened-contention, opened-same}
 use Rattle.rules.proofs.Least.{Cleared, least-wins}
-use Rattle.rules.proofs.Probes.{Crowded, contender-stands, unwon-empty}
+use Rattle.rules.proofs.Probes.{Crowded, probesLeft, contender-stands, probes-left, rival, unwon-empty}
+use Rattle.rules.proofs.Round.{above}
 
 -- ---- the oldest packet is the one offered
 
@@ -202,63 +203,88 @@ module _ (circuits : List ℕ) (D : ℕ) (s : Station) (p : Packet) where
   -- ---- one step
 
   -- What an accepted step does to the circuit's turn: its contention goes on; the circuit sends p; another circuit wins, which does
-  -- not sit out and, unless s does, is below s; or nobody contends, s sits out, and the round ends.
+  -- not sit out and, unless s does, is below s; or nobody contends, s sits out, and the round ends. Where a circuit wins, two probes
+  -- were left or another circuit is above it.
   pub data Turn (b : Bus) (out : Answer × Bus) : Type 0 where
     goes-on :
         out .0 .ended ≡ 0 → ¬ (out .0 .event ≡ success) → out .1 .last ≡ b .last → Waits circuits D s p (out .1) → Turn b out
-    its-own : out .0 .ended ≡ 1 → out .0 .event ≡ success → sends s p (out .0) ≡ true → Turn b out
+    its-own :
+        out .0 .ended ≡ 1 → out .0 .event ≡ success → sends s p (out .0) ≡ true → sits-out RTVC (b .last) (s .capability) ≡ false
+        → 2 ≤ probesLeft b + above circuits (s .capability) → Turn b out
     anothers :
         {x : ℕ} → out .0 .ended ≡ 1 → out .0 .event ≡ success → sends s p (out .0) ≡ false → out .1 .last ≡ some x → Among x circuits
-        → sits-out RTVC (b .last) x ≡ false → (sits-out RTVC (b .last) (s .capability) ≡ false → x < s .capability) → out .1 .contention ≡ none
-        → Waits circuits D s p (out .1) → Turn b out
+        → sits-out RTVC (b .last) x ≡ false → (sits-out RTVC (b .last) (s .capability) ≡ false → x < s .capability)
+        → 2 ≤ probesLeft b + above circuits x → out .1 .contention ≡ none → Waits circuits D s p (out .1) → Turn b out
     nobodys :
         out .0 .ended ≡ 1 → out .0 .event ≡ idle → b .contention ≡ none → sits-out RTVC (b .last) (s .capability) ≡ true
         → out .1 .last ≡ none → out .1 .contention ≡ none → Waits circuits D s p (out .1) → Turn b out
 
-  -- a bus as reached, on which s waits, and an accepted step
-  module _
-      (b : Bus)
-      (h : Standing b)
-      (cleared : Cleared b)
-      (crowded : Crowded b)
-      (enabled : Enabled b)
-      (w : Waits circuits D s p b)
-      (z : stepRefusal b ≡ 0)
-    where
-      wo : Waits circuits D s p (opened b .bus)
-      wo = waits-opened b h w
+  -- a bus as reached, on which s waits
+  module _ (b : Bus) (h : Standing b) (crowded : Crowded b) (enabled : Enabled b) (w : Waits circuits D s p b) where
+    wo : Waits circuits D s p (opened b .bus)
+    wo = waits-opened b h w
 
-      -- what s contends with
-      abbrev mine : Contender
-      mine = contenderOf (wo .station) (record { parameter = s .capability; packet = p })
+    -- what s contends with
+    abbrev mine : Contender
+    mine = contenderOf (wo .station) (record { parameter = s .capability; packet = p })
 
-      -- s contends, unless it sits out
-      contends-too : sits-out RTVC (b .last) (s .capability) ≡ false → Among mine (contendersAt b)
-      contends-too out =
-          contender-into
-          (opened b .bus .stations)
-          (wo .listed)
-          (wo .contends (opened b .contention) (opened-contention b) (ap (λ l. sits-out RTVC l (s .capability)) (opened-last b) ∙ out))
+    -- s contends, unless it sits out
+    contends-too : sits-out RTVC (b .last) (s .capability) ≡ false → Among mine (contendersAt b)
+    contends-too out =
+        contender-into
+        (opened b .bus .stations)
+        (wo .listed)
+        (wo .contends (opened b .contention) (opened-contention b) (ap (λ l. sits-out RTVC l (s .capability)) (opened-last b) ∙ out))
 
-      -- a contender does not sit out
-      not-out : (x : Contender) → Among x (contendersAt b) → sits-out RTVC (b .last) (x .capability) ≡ false
-      not-out x i =
-          sym (ap (λ l. sits-out RTVC l (x .capability)) (opened-last b))
-          ∙ sym (ap (λ d. sits-out d (opened b .bus .last) (x .capability)) (wo .by-circuit))
-          ∙ opened-enabled b (b .contention) enabled x i
+    -- a contender does not sit out
+    not-out : (x : Contender) → Among x (contendersAt b) → sits-out RTVC (b .last) (x .capability) ≡ false
+    not-out x i =
+        sym (ap (λ l. sits-out RTVC l (x .capability)) (opened-last b))
+        ∙ sym (ap (λ d. sits-out d (opened b .bus .last) (x .capability)) (wo .by-circuit))
+        ∙ opened-enabled b (b .contention) enabled x i
 
-      -- a contender is a circuit
-      a-circuit : (x : Contender) → Among x (contendersAt b) → Among (x .capability) circuits
-      a-circuit x i =
-          let f = contender-from (opened b .bus .stations) i in
-          let j : Among (f .station .capability) circuits =
-          subst (Among (f .station .capability)) (wo .capabilities) (map-into (λ t. t .capability) (opened b .bus .stations) (f .listed)) in
-          subst (λ n. Among n circuits) (ap (λ (y : Contender). y .capability) (sym (f .is))) j
+    -- a contender is a circuit
+    a-circuit : (x : Contender) → Among x (contendersAt b) → Among (x .capability) circuits
+    a-circuit x i =
+        let f = contender-from (opened b .bus .stations) i in
+        let j : Among (f .station .capability) circuits =
+        subst (Among (f .station .capability)) (wo .capabilities) (map-into (λ t. t .capability) (opened b .bus .stations) (f .listed)) in
+        subst (λ n. Among n circuits) (ap (λ (y : Contender). y .capability) (sym (f .is))) j
 
-      -- the bus probed has distinct addresses and capabilities
-      apart : SetUpStands (opened b .bus)
-      apart = set-up-stands (opened b .bus) (opened-stands b h)
+    -- two probes are left, or a circuit other than s takes part
+    pub takes-part : (2 ≤ probesLeft b) ⊎ Some (λ y. (sits-out RTVC (b .last) y ≡ false) × (¬ (y ≡ s .capability))) circuits
+    takes-part = go (rival b h crowded (w .by-circuit) (s .capability))
+      where
+        go :
+            (2 ≤ probesLeft b) ⊎ Some (λ y. ¬ (y .capability ≡ s .capability)) (contendersAt b)
+            → (2 ≤ probesLeft b) ⊎ Some (λ y. (sits-out RTVC (b .last) y ≡ false) × (¬ (y ≡ s .capability))) circuits
+        go (inl two) = inl two
+        go (inr (y, j, other)) = inr (y .capability, a-circuit y j, (not-out y j, other))
 
+    -- the bus probed has distinct addresses and capabilities
+    apart : SetUpStands (opened b .bus)
+    apart = set-up-stands (opened b .bus) (opened-stands b h)
+
+    -- a contender of the address of s has its capability,
+    own-capability : (x : Contender) → Among x (contendersAt b) → x .address ≡ s .address → x .capability ≡ s .capability
+    own-capability x i e =
+        let f = contender-from (opened b .bus .stations) i in
+        let address : f .station .address ≡ wo .station .address = sym (ap (λ (y : Contender). y .address) (f .is)) ∙ e ∙ sym (wo .address) in
+        let station = same-apart (λ t. t .address) (opened b .bus .stations) (apart .addresses-apart) (f .listed) (wo .listed) address in
+        ap (λ (y : Contender). y .capability) (f .is) ∙ ap (λ (t : Station). t .capability) station ∙ wo .capability
+
+    -- so that s does not sit out,
+    own-part : (x : Contender) → Among x (contendersAt b) → x .address ≡ s .address → sits-out RTVC (b .last) (s .capability) ≡ false
+    own-part x i e = ap (sits-out RTVC (b .last)) (sym (own-capability x i e)) ∙ not-out x i
+
+    -- and its oldest packet
+    sends-own : (x : Contender) → Among x (contendersAt b) → x .address ≡ s .address → x .packet ≡ p
+    sends-own x i e =
+        ap (λ (y : Contender). y .packet)
+        (same-address (opened b .bus .stations) (apart .addresses-apart) i (contends-too (own-part x i e)) (e ∙ sym (wo .address)))
+
+    -- and an accepted step
+    module _ (cleared : Cleared b) (z : stepRefusal b ≡ 0) where
       -- where the probe is silent and the window is a right one, nobody contends, so that s sits out
       silent : step b .0 .ended ≡ 1 → step b .0 .event ≡ idle → (b .contention ≡ none) × (sits-out RTVC (b .last) (s .capability) ≡ true)
       silent ended unheard-event = (k .0, go (sits-out RTVC (b .last) (s .capability)) refl)
@@ -273,43 +299,54 @@ module _ (circuits : List ℕ) (D : ℕ) (s : Station) (p : Packet) where
           go true e = refl
           go false e = absurd (among-none (subst (Among mine) (k .1) (contends-too e)))
 
-      -- the lone transmitter is s with its oldest packet
-      sends-own : (x : Contender) → Among x (contendersAt b) → x .address ≡ s .address → x .packet ≡ p
-      sends-own x i e =
-          let f = contender-from (opened b .bus .stations) i in
-          let address : f .station .address ≡ wo .station .address = sym (ap (λ (y : Contender). y .address) (f .is)) ∙ e ∙ sym (wo .address) in
-          let station = same-apart (λ t. t .address) (opened b .bus .stations) (apart .addresses-apart) (f .listed) (wo .listed) address in
-          let capability : x .capability ≡ s .capability =
-          ap (λ (y : Contender). y .capability) (f .is) ∙ ap (λ (t : Station). t .capability) station ∙ wo .capability in
-          let out : sits-out RTVC (b .last) (s .capability) ≡ false = ap (sits-out RTVC (b .last)) (sym capability) ∙ not-out x i in
-          ap (λ (y : Contender). y .packet) (same-address (opened b .bus .stations) (apart .addresses-apart) i (contends-too out) (e ∙ sym (wo .address)))
-
-      -- another winner is below s, unless s sits out
-      another-below :
-          (x : Contender) → Among x (contendersAt b) → ¬ (x .address ≡ s .address) → step b .0 .event ≡ success → step b .0 .address ≡ x .address
-          → sits-out RTVC (b .last) (s .capability) ≡ false → x .capability < s .capability
-      another-below x i other won-event named-x out = go (subst (λ v. Ahead v mine) same (l .least mine (contends-too out) in-time))
+      -- the winner
+      module _
+          (x : Contender)
+          (i : Among x (contendersAt b))
+          (won-event : step b .0 .event ≡ success)
+          (named-x : step b .0 .address ≡ x .address)
         where
-          l : Least b (step b .0)
-          l = least-wins b cleared z won-event
+          -- is below every other contender
+          winner-below : (y : Contender) → Among y (contendersAt b) → ¬ (y .capability ≡ x .capability) → x .capability < y .capability
+          winner-below y j other = go (subst (λ v. Ahead v y) same (l .least y j in-time))
+            where
+              l : Least b (step b .0)
+              l = least-wins b cleared z won-event
 
-          same : l .winner ≡ x
-          same = same-address (opened b .bus .stations) (apart .addresses-apart) (l .contends) i (sym (l .address) ∙ named-x)
+              same : l .winner ≡ x
+              same = same-address (opened b .bus .stations) (apart .addresses-apart) (l .contends) i (sym (l .address) ∙ named-x)
 
-          in-time : able (b .discipline) (b .clock) mine ≡ true
-          in-time = ap (λ d. not (late d (b .clock) (p .value))) (w .by-circuit)
+              in-time : able (b .discipline) (b .clock) y ≡ true
+              in-time = ap (λ d. not (late d (b .clock) (y .packet .value))) (w .by-circuit)
 
-          circuit : x .parameter ≡ x .capability
-          circuit = contender-stands (opened b) (opened-stands b h) (opened-contention b) x i .circuit (wo .by-circuit)
+              circuit : (v : Contender) → Among v (contendersAt b) → v .parameter ≡ v .capability
+              circuit v k = contender-stands (opened b) (opened-stands b h) (opened-contention b) v k .circuit (wo .by-circuit)
 
-          one : x .capability ≡ mine .capability → x ≡ mine
-          one = same-capability (opened b .bus .stations) (apart .capabilities-apart (wo .by-circuit)) i (contends-too out)
+              go : Ahead x y → x .capability < y .capability
+              go (inl below) = omega (arith, circuit x i, circuit y j)
+              go (inr tied) = absurd (other (sym (circuit y j) ∙ sym (tied .0) ∙ circuit x i))
 
-          go : Ahead x mine → x .capability < s .capability
-          go (inl below) = let c = circuit in omega arith
-          go (inr tied) =
-              let e : x ≡ mine = one (sym circuit ∙ tied .0 ∙ sym (wo .capability)) in
-              absurd (other (ap (λ (y : Contender). y .address) e ∙ wo .address))
+          -- if it is not s, it is below s, unless s sits out
+          another-below : ¬ (x .address ≡ s .address) → sits-out RTVC (b .last) (s .capability) ≡ false → x .capability < s .capability
+          another-below other out = rw (wo .capability) at (winner-below mine (contends-too out) (λ e. other (one (sym e))))
+            where
+              one : x .capability ≡ mine .capability → x .address ≡ s .address
+              one e =
+                  ap (λ (y : Contender). y .address)
+                  (same-capability (opened b .bus .stations) (apart .capabilities-apart (wo .by-circuit)) i (contends-too out) e)
+                  ∙ wo .address
+
+          -- two probes were left, or another circuit is above it
+          contested : 2 ≤ probesLeft b + above circuits (x .capability)
+          contested = go (rival b h crowded (w .by-circuit) (x .capability))
+            where
+              go :
+                  (2 ≤ probesLeft b) ⊎ Some (λ y. ¬ (y .capability ≡ x .capability)) (contendersAt b)
+                  → 2 ≤ probesLeft b + above circuits (x .capability)
+              go (inl two) = omega arith
+              go (inr (y, j, other)) =
+                  let one = count-some (λ k. ltb (x .capability) k) circuits (a-circuit y j) (lt-ltb _ _ (winner-below y j other)) in
+                  omega (arith, probes-left b h crowded)
 
       pub turn : Turn b (step b)
       turn = subst (Turn b) (sym (step-is b z)) (go (transmitters (opened b .bus) (opened b .contention)) refl)
@@ -317,20 +354,32 @@ module _ (circuits : List ℕ) (D : ℕ) (s : Station) (p : Packet) where
           waits-here : (c : Contention) → Waits circuits D s p (goesOn (opened b .bus) c)
           waits-here c = waits-on (opened b .bus) (opened b .contention) c (opened-contention b) wo
 
+          event : {r : Answer × Bus} → step b ≡ r → step b .0 .event ≡ r .0 .event
+          event f = ap (λ (m : Answer × Bus). m .0 .event) f
+
+          address : {r : Answer × Bus} → step b ≡ r → step b .0 .address ≡ r .0 .address
+          address f = ap (λ (m : Answer × Bus). m .0 .address) f
+
           by-side : (d : Side) → step b ≡ unheard (opened b) d → Turn b (unheard (opened b) d)
           by-side Left f =
               let c : Contention = record { window = moveRight (opened b .contention .window); tie = opened b .contention .tie } in
               goes-on refl (λ y. omega arith) (opened-last b) (waits-here c)
           by-side Right f =
-              let k = silent (ap (λ (m : Answer × Bus). m .0 .ended) f) (ap (λ (m : Answer × Bus). m .0 .event) f) in
+              let k = silent (ap (λ (m : Answer × Bus). m .0 .ended) f) (event f) in
               nobodys refl refl (k .0) (k .1) refl refl (waits-unwon (opened b .bus) wo)
 
           lone :
               (x : Contender) → Among x (contendersAt b) → step b ≡ heard (opened b) (x ∷ []) → (t : Bool) → eqb (x .address) (s .address) ≡ t
               → Turn b (heard (opened b) (x ∷ []))
           lone x i f true e =
-              let number = ap (λ (q : Packet). q .number) (sends-own x i (eqb-true (x .address) (s .address) e)) in
-              its-own refl refl (true-and e (eq-eqb (x .packet .number) (p .number) number))
+              let own = eqb-true (x .address) (s .address) e in
+              let number = ap (λ (q : Packet). q .number) (sends-own x i own) in
+              its-own
+              refl
+              refl
+              (true-and e (eq-eqb (x .packet .number) (p .number) number))
+              (own-part x i own)
+              (subst (λ n. 2 ≤ probesLeft b + above circuits n) (own-capability x i own) (contested x i (event f) (address f)))
           lone x i f false e =
               let other = eqb-false (x .address) (s .address) e in
               anothers
@@ -340,7 +389,8 @@ module _ (circuits : List ℕ) (D : ℕ) (s : Station) (p : Packet) where
               (ap (λ d. lastWinner d x) (wo .by-circuit))
               (a-circuit x i)
               (not-out x i)
-              (another-below x i other (ap (λ (m : Answer × Bus). m .0 .event) f) (ap (λ (m : Answer × Bus). m .0 .address) f))
+              (another-below x i (event f) (address f) other)
+              (contested x i (event f) (address f))
               refl
               (waits-won (opened b .bus) x other wo)
 

@@ -1,13 +1,14 @@
 -- Demand 3: a waiting circuit's oldest packet ends within N + 1 contentions, at most one of them idle, and within
--- N × (2L − 1 + P) + 1 slots, for every engine that meets demand 2, and for the machine itself. Assumes nothing.
-use Prim.Native.Nat.{ℕ, suc, _+_, _-_, _*_, _≤_}
+-- N × (2L − 1 + P) + 1 slots, and, sooner, within N × (2L − 1 + P), for every engine that meets demand 2, and for the machine itself.
+-- Assumes nothing.
+use Prim.Native.Nat.{ℕ, zero, suc, _+_, _-_, _*_, _≤_}
 use mathlib.Core.Path.{_≡_, refl, sym, ap, _∙_, subst}
 use mathlib.Core.Logic.{_⊎_, inl, inr}
 use mathlib.Core.Bool.{Bool, true, false, _&&_, cond}
 use mathlib.Core.Option.{Option, none}
 use mathlib.Core.List.{List, [], _∷_, _++_, map}
 use native.Mathlib.Omega.{arith}
-use native.Mathlib.Nat.{mul-le-mul-right, suc-mul}
+use native.Mathlib.Nat.{mul-le-mul-right, suc-mul, mul-suc}
 use lib.Dec.{eqb}
 use lib.ListN.{length, length-map}
 use borrow.Author.Tests.{ne-eqb}
@@ -21,29 +22,30 @@ use Rattle.rules.specs.Begin.{sits-out}
 use Rattle.rules.specs.Probe.{Answer, success, idle}
 use Rattle.rules.specs.Step.{stepRefusal, step}
 use Rattle.rules.specs.Engine.{Engine, machine, Call, admission, one-step, next, reach, answers}
-use Rattle.rules.specs.Demands.{Demand2, mostProbes, slotsOf, contentionsIn, idleContentionsIn, slotsIn, longestIn, sends, upTo, Waiting, Served, Serves, Demand3}
+use Rattle.rules.specs.Demands.{Demand2, mostProbes, slotsOf, contentionsIn, idleContentionsIn, slotsIn, longestIn, sends, upTo, Waiting, Served, Serves, Demand3, ServedSooner, ServesSooner, SoonerThanDemand3}
 use Rattle.rules.proofs.Laws.{clash, or-false, map-into}
 use Rattle.rules.proofs.Reach.{Does, refuses, admits, holds, probes-one, does, standing-reached, after-more, answers-agree}
 use Rattle.rules.proofs.Least.{Cleared, cleared-reached}
-use Rattle.rules.proofs.Probes.{Crowded, crowded-reached, probesLeft, probes-at-begin, probes-left, probes-fall}
+use Rattle.rules.proofs.Probes.{Crowded, crowded-reached, probesLeft, probes-at-begin, halved-once, probes-left, probes-fall}
 use Rattle.rules.proofs.Enabled.{Enabled, enabled-reached}
-use Rattle.rules.proofs.Round.{winsLeft, idlesLeft, wins-left, wins-most, other-wins, idle-ends}
-use Rattle.rules.proofs.Circuit.{Waits, waits-admission, Turn, goes-on, its-own, anothers, nobodys, turn}
+use Rattle.rules.proofs.Round.{winsLeft, idlesLeft, spareLeft, Most, wins-left, wins-most, own-wins, other-wins, idle-ends, spare-paid}
+use Rattle.rules.proofs.Circuit.{Waits, waits-admission, Turn, goes-on, its-own, anothers, nobodys, takes-part, turn}
 
 -- ---- answers, one after the other
 
--- The answers `said` keep within w contentions won and i idle ones, and within the slots that those take if the contention under
--- way has `left` probes left. L is the number of halvings; `mine` is the length of the waiting packet.
-record Within (L mine : ℕ) (says : Answer → Bool) (w i left : ℕ) (said : List Answer) : Type 0 where
+-- The answers `said` keep within w contentions won and i idle ones, and within the slots that those take, `spare` slots fewer, if the
+-- contention under way has `left` probes left. L is the number of halvings; `mine` is the length of the waiting packet.
+record Within (L mine : ℕ) (says : Answer → Bool) (w i spare left : ℕ) (said : List Answer) : Type 0 where
   contentions : contentionsIn (upTo says said) ≤ w + i
   idle-ones : idleContentionsIn (upTo says said) ≤ i
-  slots : (P : ℕ) → longestIn (upTo says said) ≤ P → slotsIn (upTo says said) + 2 * L ≤ w * (2 * L - 1 + P) + i + left
+  slots : (P : ℕ) → longestIn (upTo says said) ≤ P → slotsIn (upTo says said) + 2 * L + spare ≤ w * (2 * L - 1 + P) + i + left
   open-contentions : some-of says said ≡ false → suc (contentionsIn said) ≤ w + i
-  open-slots : (P : ℕ) → mine ≤ P → longestIn said ≤ P → some-of says said ≡ false → suc (slotsIn said + 2 * L) ≤ w * (2 * L - 1 + P) + i + left
+  open-slots : (P : ℕ) → mine ≤ P → longestIn said ≤ P → some-of says said ≡ false → suc (slotsIn said + 2 * L + spare) ≤ w * (2 * L - 1 + P) + i + left
 
--- w contentions take at least the slots of one
-one-takes : (w X : ℕ) → 1 ≤ w → X ≤ w * X
-one-takes w X h = let k = mul-le-mul-right X h in omega arith
+-- w − w′ contentions more take at least as many slots more
+takes-more : {w′ w : ℕ} (X : ℕ) → w′ ≤ w → 1 ≤ X → w′ * X + w ≤ w * X + w′
+takes-more {w′} {w} (suc X) h l = omega (arith, mul-le-mul-right X h, mul-suc w X, mul-suc w′ X)
+takes-more zero h l = absurd (omega arith)
 
 -- a step takes at most a packet's length on success, and else at most one slot
 slots-most : (a : Answer) → slotsOf a ≤ cond (eqb (a .event) success) (a .length) 1
@@ -55,22 +57,23 @@ slots-most a = go (eqb (a .refusal) 0)
 
 module _ {L mine : ℕ} {says : Answer → Bool} where
   -- no answer yet
-  within-none : {w i left : ℕ} → 1 ≤ w → 1 ≤ left → 1 ≤ mine → Within L mine says w i left []
-  within-none {w} hw hl hm =
+  within-none : {w i spare left : ℕ} → 1 ≤ L → 1 ≤ w → 2 + spare ≤ w + i + left → 1 ≤ mine → Within L mine says w i spare left []
+  within-none {w} {i} {spare} {left} halved hw hs hm =
       record {
         contentions = omega arith;
         idle-ones = omega arith;
-        slots = λ P h. let k = one-takes w (2 * L - 1 + P) hw in omega arith;
+        slots = λ P h. let k = takes-more (2 * L - 1 + P) hw (omega arith) in omega arith;
         open-contentions = λ e. omega arith;
-        open-slots = λ P a c e. let k = one-takes w (2 * L - 1 + P) hw in omega arith;
+        open-slots = λ P a c e. let k = takes-more (2 * L - 1 + P) hw (omega arith) in omega arith;
       }
 
   -- an answer that does not say it, and the answers after it
   within-more :
-      {w i left w′ i′ left′ : ℕ} (a : Answer) (said : List Answer) → says a ≡ false → bit (eqb (a .ended) 1) + (w′ + i′) ≤ w + i
+      {w i spare left w′ i′ spare′ left′ : ℕ} (a : Answer) (said : List Answer) → says a ≡ false → bit (eqb (a .ended) 1) + (w′ + i′) ≤ w + i
       → bit (eqb (a .ended) 1 && eqb (a .event) idle) + i′ ≤ i
-      → ((P : ℕ) → a .length ≤ P → cond (eqb (a .event) success) (a .length) 1 + (w′ * (2 * L - 1 + P) + i′ + left′) ≤ w * (2 * L - 1 + P) + i + left)
-      → Within L mine says w′ i′ left′ said → Within L mine says w i left (a ∷ said)
+      → ((P : ℕ) → a .length ≤ P
+      → cond (eqb (a .event) success) (a .length) 1 + (w′ * (2 * L - 1 + P) + i′ + left′) + spare ≤ w * (2 * L - 1 + P) + i + left + spare′)
+      → Within L mine says w′ i′ spare′ left′ said → Within L mine says w i spare left (a ∷ said)
   within-more a said e hc hi hs k =
       record {
         contentions = rw e (let c = k .contentions in omega arith);
@@ -86,16 +89,16 @@ module _ {L mine : ℕ} {says : Answer → Bool} where
 
   -- a probe after which the contention goes on
   within-on :
-      {w i left left′ : ℕ} (a : Answer) (said : List Answer) → says a ≡ false → a .ended ≡ 0 → ¬ (a .event ≡ success) → suc left′ ≤ left
-      → Within L mine says w i left′ said → Within L mine says w i left (a ∷ said)
-  within-on {w} {i} {left} {left′} a said e ended event fewer =
+      {w i spare left left′ : ℕ} (a : Answer) (said : List Answer) → says a ≡ false → a .ended ≡ 0 → ¬ (a .event ≡ success) → suc left′ ≤ left
+      → Within L mine says w i spare left′ said → Within L mine says w i spare left (a ∷ said)
+  within-on {w} {i} {spare} {left} {left′} a said e ended event fewer =
       within-more a said e (rw ended (omega arith)) (rw ended (omega arith)) (λ P m. rw (ne-eqb (a .event) success event) (omega arith))
 
   -- another circuit's success
   within-other :
-      {w i left w′ i′ : ℕ} (a : Answer) (said : List Answer) → says a ≡ false → a .ended ≡ 1 → a .event ≡ success → suc w′ ≤ w → i′ ≤ i → 1 ≤ left
-      → Within L mine says w′ i′ (2 * L) said → Within L mine says w i left (a ∷ said)
-  within-other {w} {i} {left} {w′} {i′} a said e ended event fewer idles hl =
+      {w i spare left w′ i′ spare′ : ℕ} (a : Answer) (said : List Answer) → says a ≡ false → a .ended ≡ 1 → a .event ≡ success → suc w′ ≤ w → i′ ≤ i
+      → suc (i′ + spare) ≤ i + left + spare′ → Within L mine says w′ i′ spare′ (2 * L) said → Within L mine says w i spare left (a ∷ said)
+  within-other {w} {i} {spare} {left} {w′} {i′} {spare′} a said e ended event fewer idles hs =
       within-more a said e (rw ended (omega arith)) (rw (ended, event) (omega arith)) (λ P m.
       let k = mul-le-mul-right (2 * L - 1 + P) fewer in
       let q = suc-mul w′ (2 * L - 1 + P) in
@@ -103,22 +106,22 @@ module _ {L mine : ℕ} {says : Answer → Bool} where
 
   -- an idle contention: one probe
   within-idle :
-      {w i w′ i′ : ℕ} (a : Answer) (said : List Answer) → says a ≡ false → a .ended ≡ 1 → a .event ≡ idle → w′ ≤ w → suc i′ ≤ i
-      → Within L mine says w′ i′ (2 * L) said → Within L mine says w i (2 * L) (a ∷ said)
-  within-idle {w} {i} {w′} {i′} a said e ended event wins fewer =
+      {w i spare w′ i′ spare′ : ℕ} (a : Answer) (said : List Answer) → 1 ≤ L → says a ≡ false → a .ended ≡ 1 → a .event ≡ idle → w′ ≤ w → suc i′ ≤ i
+      → w′ + spare ≤ w + spare′ → Within L mine says w′ i′ spare′ (2 * L) said → Within L mine says w i spare (2 * L) (a ∷ said)
+  within-idle {w} {i} {spare} {w′} {i′} {spare′} a said halved e ended event wins fewer hs =
       within-more a said e (rw ended (omega arith)) (rw (ended, event) (omega arith)) (λ P m.
-      let k = mul-le-mul-right (2 * L - 1 + P) wins in
+      let k = takes-more (2 * L - 1 + P) wins (omega arith) in
       rw event (omega arith))
 
   -- the answer that says it
   within-said :
-      {w i left : ℕ} (a : Answer) (said : List Answer) → says a ≡ true → a .ended ≡ 1 → a .event ≡ success → 1 ≤ w → 1 ≤ left
-      → Within L mine says w i left (a ∷ said)
-  within-said {w} a said e ended event hw hl =
+      {w i spare left : ℕ} (a : Answer) (said : List Answer) → says a ≡ true → a .ended ≡ 1 → a .event ≡ success → 1 ≤ w → suc spare ≤ i + left
+      → Within L mine says w i spare left (a ∷ said)
+  within-said {w} {i} {spare} {left} a said e ended event hw hs =
       record {
         contentions = rw (e, ended) (omega arith);
         idle-ones = rw (e, event, ended) (omega arith);
-        slots = rw e (λ P m. let k = one-takes w (2 * L - 1 + P) hw in let t : slotsOf a ≤ a .length = subst (λ n. slotsOf a ≤ cond (eqb n success) (a .length) 1) event (slots-most a) in omega arith);
+        slots = rw e (λ P m. let k = mul-le-mul-right (2 * L - 1 + P) hw in let t : slotsOf a ≤ a .length = subst (λ n. slotsOf a ≤ cond (eqb n success) (a .length) 1) event (slots-most a) in omega arith);
         open-contentions = λ f. clash (rw e) f;
         open-slots = λ P n m f. clash (rw e) f;
       }
@@ -141,14 +144,30 @@ reached-stands {b} h d = go (standing-reached (h .0) (h .1))
     go (inl k) = subst Standing (h .2) k
     go (inr e) = let y : _≡_ {A = ℕ} 2 0 = ap code (sym d) ∙ ap (λ (m : Bus). code (m .discipline)) (sym (h .2) ∙ e) in absurd (omega arith)
 
+-- every reached state is crowded, and no contender in it sits out
+reached-crowded : {b : Bus} → Reached b → Crowded b
+reached-crowded h = subst Crowded (h .2) (crowded-reached (h .0) (h .1))
+
+reached-enabled : {b : Bus} → Reached b → Enabled b
+reached-enabled h = subst Enabled (h .2) (enabled-reached (h .0) (h .1))
+
 -- the probes left between contentions are 2L
 left-at-begin : (b : Bus) (D : ℕ) → b .discipline ≡ RTVC → b .D ≡ D → b .contention ≡ none → probesLeft b ≡ 2 * exponentOf D
 left-at-begin b D d e c = probes-at-begin b c ∙ ap (λ (m : Discipline). mostProbes m (exponentOf (b .D)) (exponentOf (b .A))) d ∙ ap (λ n. 2 * exponentOf n) e
 
-module _ (circuits : List ℕ) (D : ℕ) (s : Station) (p : Packet) (own : Among (s .capability) circuits) (some-slots : 1 ≤ p .length) where
+module _ (circuits : List ℕ) (D : ℕ) (s : Station) (p : Packet) (own : Among (s .capability) circuits) (some-slots : 1 ≤ p .length) (halved : 1 ≤ exponentOf D) where
   -- what is left of the round and of the contention, at the last winner `last` and with `left` probes left
   abbrev Keeping : Option ℕ → ℕ → List Answer → Type 0
-  Keeping last left said = Within (exponentOf D) (p .length) (sends s p) (winsLeft circuits (s .capability) last) (idlesLeft (s .capability) last) left said
+  Keeping last left said =
+      Within
+      (exponentOf D)
+      (p .length)
+      (sends s p)
+      (winsLeft circuits (s .capability) last)
+      (idlesLeft (s .capability) last)
+      (spareLeft circuits (s .capability) last)
+      left
+      said
 
   -- an answer without success does not send p
   unsent-says : (a : Answer) → ¬ (a .event ≡ success) → sends s p a ≡ false
@@ -169,16 +188,18 @@ module _ (circuits : List ℕ) (D : ℕ) (s : Station) (p : Packet) (own : Among
   keeping-step b said h crowded z w (goes-on ended event last w′) more =
       within-on (step b .0) said (unsent-says (step b .0) event) ended event (probes-fall b h z ended)
       (subst (λ l. Keeping l (probesLeft (step b .1)) said) last (more w′))
-  keeping-step b said h crowded z w (its-own ended event it) more =
-      within-said (step b .0) said it ended event (wins-left circuits (s .capability) own (b .last)) (probes-left b h crowded)
-  keeping-step b said h crowded z w (anothers ended event it last i out below c w′) more =
+  keeping-step b said h crowded z w (its-own ended event it out two) more =
+      within-said (step b .0) said it ended event (wins-left circuits (s .capability) own (b .last))
+      (own-wins circuits (s .capability) own (b .last) (probesLeft b) out (probes-left b h crowded) two)
+  keeping-step b said h crowded z w (anothers ended event it last i out below two c w′) more =
       let fewer = other-wins circuits (s .capability) own (b .last) i out below in
-      within-other (step b .0) said it ended event (fewer .0) (fewer .1) (probes-left b h crowded) (next-begins b said last c w′ (more w′))
+      within-other (step b .0) said it ended event (fewer .0) (fewer .1) (fewer .2 (probesLeft b) (probes-left b h crowded) two)
+      (next-begins b said last c w′ (more w′))
   keeping-step b said h crowded z w (nobodys ended event c out last c′ w′) more =
       let fewer = idle-ends circuits (s .capability) own (b .last) out in
       let unsent = unsent-says (step b .0) (λ e. let y : _≡_ {A = ℕ} 0 2 = sym event ∙ e in omega arith) in
       subst (λ n. Keeping (b .last) n (step b .0 ∷ said)) (sym (left-at-begin b D (w .by-circuit) (w .space) c))
-      (within-idle (step b .0) said unsent ended event (fewer .0) (fewer .1) (next-begins b said last c′ w′ (more w′)))
+      (within-idle (step b .0) said halved unsent ended event (fewer .0) (fewer .1) (fewer .2) (next-begins b said last c′ w′ (more w′)))
 
   -- from any reached state on which s waits, over these calls
   abbrev Kept : List Call → Type 0
@@ -212,21 +233,26 @@ module _ (circuits : List ℕ) (D : ℕ) (s : Station) (p : Packet) (own : Among
       go c (admits a z e) f = let y : _≡_ {A = ℕ} 0 1 = cc in absurd (omega arith)
       go c (holds n z e) f = absurd (z (sym (ap (λ (o : Answer × Bus). o .0 .refusal) e) ∙ none-refused (step b .0) (at-head refl)))
       go c (probes-one z a e) f =
-          let crowded = subst Crowded (r .2) (crowded-reached (r .0) (r .1)) in
           keeping-step
           b
           (answers machine (step b .1) later)
           h
-          crowded
+          (reached-crowded r)
           z
           w
-          (turn circuits D s p b h (subst Cleared (r .2) (cleared-reached (r .0) (r .1))) crowded (subst Enabled (r .2) (enabled-reached (r .0) (r .1))) w z)
+          (turn circuits D s p b h (reached-crowded r) (reached-enabled r) w (subst Cleared (r .2) (cleared-reached (r .0) (r .1))) z)
           (λ w′. kept (step b .1) (reached-next r one-step) w′ (λ x i. none-refused x (in-tail i)))
 
+  -- no call yet
+  kept-none : Kept []
+  kept-none b r w none-refused =
+      let h = reached-stands r (w .by-circuit) in
+      let one = probes-left b h (reached-crowded r) in
+      let two = takes-part circuits D s p b h (reached-crowded r) (reached-enabled r) w in
+      within-none halved (wins-left circuits (s .capability) own (b .last)) (spare-paid circuits (s .capability) own (b .last) (probesLeft b) one two) some-slots
+
   kept-all : (later : List Call) → Kept later
-  kept-all [] = λ b r w none-refused.
-      within-none (wins-left circuits (s .capability) own (b .last))
-      (probes-left b (reached-stands r (w .by-circuit)) (subst Crowded (r .2) (crowded-reached (r .0) (r .1)))) some-slots
+  kept-all [] = kept-none
   kept-all (admission a ∷ later) = kept-admission a later (kept-all later)
   kept-all (one-step ∷ later) = kept-step later (kept-all later)
 
@@ -248,55 +274,83 @@ waits-first b s p h =
       contends = λ c e out. let c′ = h .begins in let y : _≡_ {A = ℕ} 0 1 = cc in absurd (omega arith);
     }
 
--- what is kept within is served
-served : (N L w i : ℕ) (s : Station) (p : Packet) (said : List Answer) → w ≤ N → i ≤ 1 → Within L (p .length) (sends s p) w i (2 * L) said → Served N L s p said
-served N L w i s p said hw hi k =
-    record {
-      contentions = let c = k .contentions in omega arith;
-      one-idle = let c = k .idle-ones in omega arith;
-      slots = let c = k .slots (longestIn (upTo (sends s p) said)) (omega arith) in let m = mul-le-mul-right (2 * L - 1 + longestIn (upTo (sends s p) said)) hw in omega arith;
-      ends = λ h. go (some-of (sends s p) said) refl (λ e. let c = k .open-contentions e in omega arith);
-      ends-in-time = λ P n m h. go (some-of (sends s p) said) refl (λ e. let c = k .open-slots P n m e in let l = mul-le-mul-right (2 * L - 1 + P) hw in omega arith);
-    }
+-- a test that does not fail
+never-fails : (t : Bool) → (t ≡ false → ⊥) → t ≡ true
+never-fails true h = refl
+never-fails false h = absurd (h refl)
+
+-- what is kept within, of N circuits
+module _
+    {N L w i spare : ℕ}
+    {s : Station}
+    {p : Packet}
+    {said : List Answer}
+    (most : (w ≤ N) × (w + i ≤ N + spare))
+    (k : Within L (p .length) (sends s p) w i spare (2 * L) said)
   where
-    go : (t : Bool) → some-of (sends s p) said ≡ t → (some-of (sends s p) said ≡ false → ⊥) → t ≡ true
-    go true e h = refl
-    go false e h = absurd (h e)
+    -- is served without the slot of the idle contention,
+    sooner : 1 ≤ L → ServedSooner N L s p said
+    sooner halved =
+        record {
+          slots = let P = longestIn (upTo (sends s p) said) in omega (arith, k .slots P (omega arith), takes-more (2 * L - 1 + P) (most .0) (omega arith));
+          ends-in-time = λ P n m h.
+              never-fails (some-of (sends s p) said) (λ e. omega (arith, k .open-slots P n m e, takes-more (2 * L - 1 + P) (most .0) (omega arith)));
+        }
+
+    -- and so as demand 3 asks
+    served : i ≤ 1 → ServedSooner N L s p said → Served N L s p said
+    served one sooner =
+        record {
+          contentions = omega (arith, k .contentions);
+          one-idle = omega (arith, k .idle-ones);
+          slots = omega (arith, sooner .slots);
+          ends = λ h. never-fails (some-of (sends s p) said) (λ e. omega (arith, k .open-contentions e));
+          ends-in-time = λ P n m h. sooner .ends-in-time P n m (omega arith);
+        }
 
 bit-most : (t : Bool) → bit t ≤ 1
 bit-most true = omega arith
 bit-most false = omega arith
 
-served-at : (b : Bus) → Reached b → (later : List Call) → Serves b (answers machine b later)
-served-at b r later s p h =
-    served
-    (length (b .stations))
-    (exponentOf (b .D))
-    (winsLeft circuits (s .capability) (b .last))
-    (idlesLeft (s .capability) (b .last))
-    s
-    p
-    (answers machine b later)
-    (subst (λ n. winsLeft circuits (s .capability) (b .last) ≤ n) (length-map (b .stations) (λ t. t .capability)) (wins-most circuits (s .capability) own (b .last)))
-    (bit-most (sits-out RTVC (b .last) (s .capability)))
-    (subst
-    (λ n. Within (exponentOf (b .D)) (p .length) (sends s p) (winsLeft circuits (s .capability) (b .last)) (idlesLeft (s .capability) (b .last)) n (answers machine b later))
-    (left-at-begin b (b .D) (h .by-circuit) refl (h .begins))
-    (kept-all circuits (b .D) s p own some-slots later b r (waits-first b s p h) (h .none-refused)))
-  where
-    circuits : List ℕ
-    circuits = map (λ t. t .capability) (b .stations)
+-- a circuit that waits on a reached bus
+module _ (b : Bus) (r : Reached b) (later : List Call) (s : Station) (p : Packet) (h : Waiting b s p (answers machine b later)) where
+  abbrev circuits : List ℕ
+  circuits = map (λ t. t .capability) (b .stations)
 
-    own : Among (s .capability) circuits
-    own = map-into (λ t. t .capability) (b .stations) (h .listed)
+  stands-here : Standing b
+  stands-here = reached-stands r (h .by-circuit)
 
-    some-slots : 1 ≤ p .length
-    some-slots = reached-stands r (h .by-circuit) .each-station s (h .listed) .packets p (subst (Among p) (sym (h .oldest)) (at-head refl)) .least
+  own : Among (s .capability) circuits
+  own = map-into (λ t. t .capability) (b .stations) (h .listed)
+
+  some-slots : 1 ≤ p .length
+  some-slots = stands-here .each-station s (h .listed) .packets p (subst (Among p) (sym (h .oldest)) (at-head refl)) .least
+
+  kept : Keeping circuits (b .D) s p own some-slots (halved-once b stands-here) (b .last) (2 * exponentOf (b .D)) (answers machine b later)
+  kept =
+      rw (left-at-begin b (b .D) (h .by-circuit) refl (h .begins)) at
+      (kept-all circuits (b .D) s p own some-slots (halved-once b stands-here) later b r (waits-first b s p h) (h .none-refused))
+
+  most : Most circuits (s .capability) (b .last) (length (b .stations))
+  most = omega (arith, wins-most circuits (s .capability) own (b .last), length-map (b .stations) (λ t. t .capability))
+
+  sooner-at : ServedSooner (length (b .stations)) (exponentOf (b .D)) s p (answers machine b later)
+  sooner-at = sooner most kept (halved-once b stands-here)
+
+  served-at : Served (length (b .stations)) (exponentOf (b .D)) s p (answers machine b later)
+  served-at = served most kept (bit-most (sits-out RTVC (b .last) (s .capability))) sooner-at
 
 -- the machine itself
 pub demand3-machine : Demand3 machine
 demand3-machine r calls later = served-at (reach machine r calls) (r, calls, refl) later
 
+pub soonerThanDemand3-machine : SoonerThanDemand3 machine
+soonerThanDemand3-machine r calls later = sooner-at (reach machine r calls) (r, calls, refl) later
+
 -- every engine that meets demand 2
 pub demand3 : (E : Engine) → Demand2 E → Demand3 E
 demand3 E meets r calls later = subst (Serves (reach machine r calls)) (sym (answers-agree E meets r calls later)) (demand3-machine r calls later)
+
+pub soonerThanDemand3 : (E : Engine) → Demand2 E → SoonerThanDemand3 E
+soonerThanDemand3 E meets r calls later =
+    subst (ServesSooner (reach machine r calls)) (sym (answers-agree E meets r calls later)) (soonerThanDemand3-machine r calls later)

@@ -10,13 +10,13 @@ use native.Mathlib.Omega.{arith}
 use lib.Dec.{leb, eqb}
 use lib.ListN.{length}
 use lib.Pow.{pow-pos}
-use borrow.Author.Tests.{leb-true, leb-false, eqb-true, eq-eqb}
+use borrow.Author.Tests.{leb-true, leb-false, eqb-true, eqb-false, eq-eqb}
 use Rattle.window.specs.declared.Side.{Side}
 use Rattle.window.specs.declared.Side.the-variants.{Left, Right}
 use Rattle.window.specs.declared.Window.{Window}
 use Rattle.window.specs.Splitting.{exponentOf, firstWindow, leftHalf, moveRight, inWindow}
 use Rattle.window.proofs.Facts.{exponent-le, covers, exponent-power, first-holds, halves, halves-apart, single, Level, placed-level, unit-size, half-level}
-use Rattle.rules.specs.Lists.{bit, count, at-head, All}
+use Rattle.rules.specs.Lists.{bit, count, at-head, in-tail, All, Some}
 use Rattle.rules.specs.Bus.{Discipline, PRI, RTDG, RTVC, code, Contention, Bus}
 use Rattle.rules.specs.SetUp.{Request}
 use Rattle.rules.specs.Standing.{OfferStands, WindowStands, ContentionStands, Standing}
@@ -25,7 +25,7 @@ use Rattle.rules.specs.Probe.{Contender, contenders, able, lies-in, tran
 use Rattle.rules.specs.Step.{opened, openedBy, stepRefusal, step}
 use Rattle.rules.specs.Engine.{Engine, machine, Call, admission, one-step, reach, answers}
 use Rattle.rules.specs.Demands.{Demand2, contendersAt, probes, mostProbes, ProbesBounded}
-use Rattle.rules.proofs.Laws.{and-true, true-and, length-keep, count-same, none-counted, count-parts, count-mono, clash}
+use Rattle.rules.proofs.Laws.{and-true, true-and, length-keep, count-le, count-same, none-counted, count-parts, count-mono, clash}
 use Rattle.rules.proofs.Standing.{set-up-stands, step-accepted, step-is}
 use Rattle.rules.proofs.Keeps.{opened-stands, opened-contention}
 use Rattle.rules.proofs.Reach.{reach-holds, answers-agree}
@@ -343,20 +343,27 @@ none-follow PRI M (some v) e = (λ q. omega (arith, ap code q), λ z. let no-tie
 none-follow RTDG M (some v) e = absurd (omega arith)
 none-follow RTVC M (some v) e = (λ q. omega (arith, ap code q), λ z. refl)
 
+-- the first window of D is halved at least once
+pub halved-once : (b : Bus) → Standing b → 1 ≤ exponentOf (b .D)
+halved-once b h = go (exponentOf (b .D)) (covers (b .D) (omega (arith, set-up-stands b h .D-most)))
+  where
+    go : (L : ℕ) → b .D ≤ 2 ^ L → 1 ≤ L
+    go zero l = absurd (omega (arith, set-up-stands b h .D-least))
+    go (suc L) l = omega arith
+
 -- A contention has a probe left: where the window has one number and nothing can follow, it could not hold the two contenders.
 pub probes-left : (b : Bus) → Standing b → Crowded b → 1 ≤ probesLeft b
 probes-left b h k = go (b .contention) refl k
   where
-    begins : (d : Discipline) (L M : ℕ) → b .D ≤ 2 ^ L → 1 ≤ mostProbes d L M
+    begins : (d : Discipline) (L M : ℕ) → 1 ≤ L → 1 ≤ mostProbes d L M
     begins PRI L M l = omega arith
     begins RTDG L M l = omega arith
-    begins RTVC zero M l = absurd (omega (arith, set-up-stands b h .D-least))
-    begins RTVC (suc L) M l = omega arith
+    begins RTVC L M l = omega arith
 
     go :
         (c : Option Contention) → b .contention ≡ c → CrowdedBy (b .discipline) (contenders (b .stations)) c
         → 1 ≤ leftBy (b .discipline) (exponentOf (b .D)) (exponentOf (b .A)) c
-    go none e k = begins (b .discipline) (exponentOf (b .D)) (exponentOf (b .A)) (covers (b .D) (omega (arith, set-up-stands b h .D-most)))
+    go none e k = begins (b .discipline) (exponentOf (b .D)) (exponentOf (b .A)) (halved-once b h)
     go (some c) e k = lt-of-not-le none-left
       where
         none-left : openLeft (openedBy b (some c)) ≤ 0 → ⊥
@@ -365,6 +372,33 @@ probes-left b h k = go (b .contention) refl k
             let s = right-half (c .window .side) (omega arith) in
             let one = unit-size (c .window) (window-level (openedBy b (some c)) h e) (omega arith) in
             omega (arith, in-right k (f .0) s, alone (openedBy b (some c)) h e (c .window) (c .tie) one (f .1))
+
+-- a test that counts fewer than all fails for some
+some-fails : {X : Type 0} (test : X → Bool) (xs : List X) → count test xs < length xs → Some (λ x. test x ≡ false) xs
+some-fails test [] l = absurd (omega arith)
+some-fails test (x ∷ xs) l = go (test x) refl l (some-fails test xs)
+  where
+    go :
+        (t : Bool) → test x ≡ t → bit t + count test xs < suc (length xs) → (count test xs < length xs → Some (λ y. test y ≡ false) xs)
+        → Some (λ y. test y ≡ false) (x ∷ xs)
+    go true e l more = let (y, i, f) = more (omega arith) in (y, in-tail i, f)
+    go false e l more = (x, at-head refl, e)
+
+-- In RTVC a contention about to begin has two probes left or more, and one under way has a contender of another capability than n.
+pub rival : (b : Bus) → Standing b → Crowded b → b .discipline ≡ RTVC → (n : ℕ) → (2 ≤ probesLeft b) ⊎ Some (λ y. ¬ (y .capability ≡ n)) (contendersAt b)
+rival b h k d n = go (b .contention) k
+  where
+    go :
+        (c : Option Contention) → CrowdedBy (b .discipline) (contenders (b .stations)) c
+        → (2 ≤ leftBy (b .discipline) (exponentOf (b .D)) (exponentOf (b .A)) c)
+        ⊎ Some (λ y. ¬ (y .capability ≡ n)) (contenders (openedBy b c .bus .stations))
+    go none k = inl (rw d (omega (arith, halved-once b h)))
+    go (some c) k =
+        let two = k .several (λ e. omega (arith, ap code (sym d ∙ e))) in
+        let all = count-le (lies-in (span (c .window)) (c .tie)) (contenders (b .stations)) in
+        let one = one-capability n (b .stations) (set-up-stands b h .capabilities-apart d) in
+        let (y, i, f) = some-fails (λ y. eqb (y .capability) n) (contenders (b .stations)) (omega arith) in
+        inr (y, i, eqb-false (y .capability) n f)
 
 pub probes-fall : (b : Bus) → Standing b → stepRefusal b ≡ 0 → step b .0 .ended ≡ 0 → suc (probesLeft (step b .1)) ≤ probesLeft b
 probes-fall b h e = go (step b) (subst (Fewer (probesLeft b)) (sym (step-is b e)) (step-fewer b h) .1)

@@ -65,7 +65,8 @@ addressesApart = Least.addressesApart
 pub starred : firstFailing ≡ none
 starred = Starred.starred
 
--- ---- of every engine that meets demand 2: the winner is least, events, counts and numbers are true, probes are bounded, and demand 3
+-- ---- of every engine that meets demand 2: the winner is least, events, counts and numbers are true, probes are bounded, demand 3,
+-- and a slot fewer than it asks for
 
 pub promised : (E : Engine) → Demand2 E → Promised E
 promised E meets =
@@ -76,6 +77,7 @@ promised E meets =
       countsAreTrue = Counts.countsAreTrue E meets;
       numbersAreAnswers = Numbering.numbersAreAnswers E meets;
       demand3 = Demand3.demand3 E meets;
+      soonerThanDemand3 = Demand3.soonerThanDemand3 E meets;
     }
 
 -- ---- and so of the machine, which meets it

@@ -330,3 +330,4 @@ pub record Promised (E : Engine) : Type 0 where
   pub countsAreTrue : CountsAreTrue E
   pub numbersAreAnswers : NumbersAreAnswers E
   pub demand3 : Demand3 E
+  pub soonerThanDemand3 : SoonerThanDemand3 E
