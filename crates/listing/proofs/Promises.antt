@@ -1,5 +1,6 @@
 -- What is proved of the listing, in one place. `listing` (specs/Run.antt) is the definition, from the bytes of a scenario to the bytes of its
--- listing; `opened` and `turn` (specs/Turns.antt) are what `open` and `next` of src/lib.rt answer. Assumes nothing.
+-- listing; `opened` and `turn` (specs/Turns.antt) are what `open` and `next` of src/lib.rt answer. That each contract says all of its
+-- result and of the room is proofs/Unique.antt. Assumes nothing.
 use Prim.Native.Nat.{ℕ, _≤_, _<_}
 use mathlib.Core.Path.{_≡_}
 use mathlib.Core.Bool.{true, false}

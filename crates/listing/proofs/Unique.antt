@@ -1,23 +1,18 @@
--- Each contract says all of the result and of the room: two that meet it are equal. Assumes nothing.
-use Prim.Native.Nat.{ℕ}
-use mathlib.Core.Path.{_≡_}
-use mathlib.Core.List.{List}
+-- Each contract says all of the result and of the room: two that meet it are equal, whatever the arguments. A line for each, by what the
+-- function's own contract says. The room is the second parameter of `open` and the third of `next`. Assumes nothing.
+use Rattle.window.specs.Determined.{Determines, DeterminesBytes}
 use Rattle.window.proofs.Unique.{unique}
-use Rattle.listing.specs.Turns.{Play, Turn, opened, turn, turnForm, roomWith}
+use Rattle.listing.proofs.«open».Reads as «open»
+use Rattle.listing.proofs.next.Reads as next
 
-pub open-unique : (input : List ℕ) (r r′ : Turn) → r ≡ turnForm (opened input) → r′ ≡ turnForm (opened input) → r ≡ r′
-open-unique input r r′ = unique
+pub open-determined : Determines «open».Learnt
+open-determined κs args r r′ end end′ p q = unique (p .0) (q .0)
 
-pub open-room-unique :
-    (input room after after′ : List ℕ) → after ≡ roomWith (opened input .text) room → after′ ≡ roomWith (opened input .text) room
-    → after ≡ after′
-open-room-unique input room after after′ = unique
+pub open-room-determined : DeterminesBytes «open».Learnt (λ κs end. end .1 .0 .now)
+open-room-determined κs args r r′ end end′ p q = unique (p .1 .0) (q .1 .0)
 
-pub next-unique :
-    (input : List ℕ) (play : Play) (r r′ : Turn) → r ≡ turnForm (turn input play) → r′ ≡ turnForm (turn input play) → r ≡ r′
-next-unique input play r r′ = unique
+pub next-determined : Determines next.Learnt
+next-determined κs args r r′ end end′ p q = unique (p .0) (q .0)
 
-pub next-room-unique :
-    (input : List ℕ) (play : Play) (room after after′ : List ℕ) → after ≡ roomWith (turn input play .text) room
-    → after′ ≡ roomWith (turn input play .text) room → after ≡ after′
-next-room-unique input play room after after′ = unique
+pub next-room-determined : DeterminesBytes next.Learnt (λ κs end. end .1 .1 .0 .now)
+next-room-determined κs args r r′ end end′ p q = unique (p .1 .0) (q .1 .0)

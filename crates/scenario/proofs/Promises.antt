@@ -1,5 +1,6 @@
 -- What is proved of the scenario reader, in one place. `reading` (specs/Reading.antt) is what an input asks for, or what refuses it; `written` and
--- `Good` (specs/Writing.antt) are the bytes of a scenario, and which scenarios are good. Assumes nothing.
+-- `Good` (specs/Writing.antt) are the bytes of a scenario, and which scenarios are good. That each contract says all of its result is
+-- proofs/Unique.antt. Assumes nothing.
 use Prim.Native.Nat.{ℕ}
 use mathlib.Core.Path.{_≡_}
 use mathlib.Core.List.{List}

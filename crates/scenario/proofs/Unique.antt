@@ -1,14 +1,16 @@
--- Each contract says all of the result: two results that meet it are equal. Assumes nothing.
-use Prim.Native.Nat.{ℕ}
+-- Each contract says all of the result: two results that meet it are equal, whatever the arguments. A line for each exported function, by
+-- what its own contract says. Assumes nothing.
 use mathlib.Core.Path.{_≡_, refl, sym, ap, _∙_}
 use mathlib.Core.Bool.{cond}
-use mathlib.Core.List.{List}
 use lib.Dec.{eqb}
-use lib.ListN.{getD, drop}
+use lib.ListN.{getD}
+use Rattle.window.specs.Determined.{Determines}
 use Rattle.window.proofs.Unique.{unique}
-use Rattle.scenario.specs.Format.{Record, Said, said, readRecord}
+use Rattle.scenario.specs.Format.{Record, Said, said}
 use Rattle.scenario.specs.declared.Record.the-variants as Is
-use Rattle.scenario.specs.Reading.{Scenario, settingsFrom, arrivalFrom, stepsFrom, reading, scenarioForm}
+use Rattle.scenario.specs.Reading.{settingsFrom, arrivalFrom, stepsFrom}
+use Rattle.scenario.proofs.«record_at».Reads as «record_at»
+use Rattle.scenario.proofs.read.Reads as read
 
 -- The record that says this.
 abbrev saying : Said → Record
@@ -31,9 +33,8 @@ saying-said (Is.Run steps) = refl
 pub said-injective : (r r′ : Record) → said r ≡ said r′ → r ≡ r′
 said-injective r r′ e = sym (saying-said r) ∙ ap saying e ∙ saying-said r′
 
-pub record-at-unique :
-    (input : List ℕ) (at : ℕ) (r r′ : Record) → said r ≡ readRecord (drop at input) → said r′ ≡ readRecord (drop at input) → r ≡ r′
-record-at-unique input at r r′ p q = said-injective r r′ (unique p q)
+pub record-at-determined : Determines «record_at».Learnt
+record-at-determined κs args r r′ end end′ p q = said-injective r r′ (unique p q)
 
-pub read-unique : (input : List ℕ) (r r′ : Scenario) → r ≡ scenarioForm (reading input) → r′ ≡ scenarioForm (reading input) → r ≡ r′
-read-unique input r r′ = unique
+pub read-determined : Determines read.Learnt
+read-determined κs args r r′ end end′ = unique
