@@ -13,7 +13,7 @@ use Rattle.scenario.specs.Reading.{accepted, reading}
 use Rattle.scenario.specs.Writing.{Bytes, written, Good}
 use Rattle.listing.specs.Run.{listing, answersOf}
 use Rattle.listing.specs.Turns.{Play, opened, turn, roomWith, handed, turnsLeft, played}
-use Rattle.listing.specs.Worked.{worked-input, worked-output, worked-request, worked-arrivals}
+use Rattle.listing.specs.Worked.{worked-input, worked-output, worked-request, worked-arrivals, timed-input, timed-output}
 use Rattle.listing.proofs.Stores as Stores
 use Rattle.listing.proofs.Handed as Handed
 use Rattle.listing.proofs.NeverRefused as NeverRefused
@@ -48,6 +48,10 @@ never-refused = NeverRefused.never-refused-bytes
 -- the worked example of paper 01
 pub worked : listing worked-input ≡ worked-output
 worked = Worked.worked
+
+-- and one whose arrivals come later
+pub timed : listing timed-input ≡ timed-output
+timed = Worked.timed
 
 -- it is a good scenario, so that the premises above and those of the reader's theorems are met
 pub worked-good : (worked-input ≡ written worked-request worked-arrivals 14) × Good worked-request worked-arrivals 14

@@ -1,5 +1,5 @@
--- The worked example of paper 01: its listing is the output that the paper gives, by computation; and it is a good scenario, so that what is
--- proved of good and of accepted scenarios speaks of some. Assumes nothing.
+-- The worked example of paper 01: its listing is the output that the paper gives, by computation, and so for the second example; and it is
+-- a good scenario, so that what is proved of good and of accepted scenarios speaks of some. Assumes nothing.
 use mathlib.Core.Path.{_≡_, refl}
 use lib.Dec.{ltb}
 use borrow.Author.Tests.{ltb-true}
@@ -10,12 +10,17 @@ use Rattle.scenario.specs.Writing.{Bytes, written, Good}
 use Rattle.scenario.proofs.Written.{accepted-only}
 use Rattle.listing.specs.Text.{decimal}
 use Rattle.listing.specs.Run.{listing}
-use Rattle.listing.specs.Worked.{worked-input, worked-output, worked-request, worked-arrivals}
+use Rattle.listing.specs.Worked.{worked-input, worked-output, worked-request, worked-arrivals, timed-input, timed-output}
 
 -- the paper's input and output
 pub worked : listing worked-input ≡ worked-output
 unfolding exponentOf isPower decimal
 worked = refl
+
+-- arrivals that come later, and one that the run never reaches
+pub timed : listing timed-input ≡ timed-output
+unfolding exponentOf isPower decimal
+timed = refl
 
 -- the input is bytes, and accepted
 worked-bytes : Bytes worked-input

@@ -1,5 +1,5 @@
 -- The worked example of paper 01, 'The scenario and its listing': the bytes of its input and of its output, and
--- what it asks for. Assumes nothing.
+-- what it asks for; and a second example, whose arrivals come later. Assumes nothing.
 use Prim.Native.Nat.{ℕ}
 use mathlib.Core.List.{List, [], _∷_}
 use Rattle.rules.specs.SetUp.{Request}
@@ -78,3 +78,35 @@ arrival address value long = record { time = record { 0 = 0 }; address = record 
 
 abbrev pub worked-arrivals : List Arrival
 worked-arrivals = arrival 5 2 3 ∷ arrival 6 2 1 ∷ arrival 1 3 2 ∷ []
+
+-- 'Before each step it admits, in file order, the arrivals whose time is not above the clock.' 'Arrivals the run never reaches are not admitted': the
+-- last is due at slot 3, where no step is left.
+abbrev pub timed-input : List ℕ
+timed-input =
+    -- a set-up: discipline 0 (PRI), D 2, A 2, q 1, N 1
+    14 ∷ 0 ∷ 1 ∷ 0 ∷ 0 ∷ 2 ∷ 0 ∷ 0 ∷ 0 ∷ 2 ∷ 0 ∷ 0 ∷ 0 ∷ 1 ∷ 0 ∷ 1 ∷
+    -- a station: address 0, capability 0
+    6 ∷ 0 ∷ 2 ∷ 0 ∷ 0 ∷ 0 ∷ 0 ∷ 0 ∷
+    -- an arrival: time 1, address 0, value 0, packet length 1
+    14 ∷ 0 ∷ 3 ∷ 0 ∷ 1 ∷ 0 ∷ 0 ∷ 0 ∷ 0 ∷ 0 ∷ 0 ∷ 0 ∷ 0 ∷ 0 ∷ 1 ∷ 0 ∷
+    -- an arrival: time 1, address 1, value 0, packet length 1
+    14 ∷ 0 ∷ 3 ∷ 0 ∷ 1 ∷ 0 ∷ 0 ∷ 0 ∷ 1 ∷ 0 ∷ 0 ∷ 0 ∷ 0 ∷ 0 ∷ 1 ∷ 0 ∷
+    -- an arrival: time 3, address 0, value 0, packet length 1
+    14 ∷ 0 ∷ 3 ∷ 0 ∷ 3 ∷ 0 ∷ 0 ∷ 0 ∷ 0 ∷ 0 ∷ 0 ∷ 0 ∷ 0 ∷ 0 ∷ 1 ∷ 0 ∷
+    -- a run: 3 steps
+    4 ∷ 0 ∷ 4 ∷ 0 ∷ 3 ∷ 0 ∷
+    []
+
+abbrev pub timed-output : List ℕ
+timed-output =
+    -- 0 P 0 2 I
+    48 ∷ 32 ∷ 80 ∷ 32 ∷ 48 ∷ 32 ∷ 50 ∷ 32 ∷ 73 ∷ 10 ∷
+    -- R 1 1 11
+    82 ∷ 32 ∷ 49 ∷ 32 ∷ 49 ∷ 32 ∷ 49 ∷ 49 ∷ 10 ∷
+    -- 1 P 0 2 S 0 1 1
+    49 ∷ 32 ∷ 80 ∷ 32 ∷ 48 ∷ 32 ∷ 50 ∷ 32 ∷ 83 ∷ 32 ∷ 48 ∷ 32 ∷ 49 ∷ 32 ∷ 49 ∷ 10 ∷
+    -- 2 P 0 2 I
+    50 ∷ 32 ∷ 80 ∷ 32 ∷ 48 ∷ 32 ∷ 50 ∷ 32 ∷ 73 ∷ 10 ∷
+    -- END 3 1 1 0 0
+    69 ∷ 78 ∷ 68 ∷ 32 ∷ 51 ∷ 32 ∷ 49 ∷ 32 ∷ 49 ∷ 32 ∷ 48 ∷ 32 ∷ 48 ∷ 10 ∷
+    []
