@@ -18,12 +18,12 @@ use Rattle.rules.specs.Standing.{stands, Standing}
 use Rattle.rules.proofs.Laws.{and-true}
 use Rattle.rules.proofs.Tests.{tells}
 use Rattle.rules.proofs.Standing.{stands-exactly, set-up-stands}
-use Rattle.bus.specs.State.{Packet, Contender, Contention, Segment, State, noContender, nobody, placesAt, queueAt, stationWith, stationAt, valuesFrom, stationsOf, meaning, no-packet, queue-padded, no-station, padded}
+use Rattle.bus.specs.State.{Packet, Contender, Contention, Segment, State, Held, noContender, nobody, placesAt, queueAt, stationWith, stationAt, valuesFrom, stationsOf, meaning, no-packet, queue-padded, no-station, padded}
 use Rattle.bus.specs.Coded.{standing}
 use Rattle.bus.specs.Parts.{Queue, queueOf, withQueue, packetsOf, queueForm}
 use Rattle.bus.proofs.State as state
 use Rattle.bus.proofs.Rows.{values-length, values-map, values-same, among-values}
-use Rattle.bus.proofs.Form.{Held, Padded, padded-parts, places-length}
+use Rattle.bus.proofs.Form.{Padded, padded-parts, places-length}
 use Rattle.bus.proofs.QueueLaws.{packets-of-form, form-places, form-padded, with-queue-lengths, queue-of-with, padded-form-of}
 pub use Rattle.bus.proofs.StandingParts.{state-held}
 
@@ -47,10 +47,13 @@ pub record Lent (s : State) : Type 0 where
   pub stands : Standing (meaning s)
   pub few : s .segment .settings .n ≤ most-stations
 
-pub lent : (s : State) (vs : List Val) → Is state.the-row s vs → standing s ≡ true → Lent s
-lent s vs owned e =
+pub lent-held : (s : State) → Held s → standing s ≡ true → Lent s
+lent-held s held e =
     let both = stood s e in
-    record { held = state-held s vs owned; zeros = padded-parts s (both .0); stands = both .1; few = few-stations s (both .1) }
+    record { held = held; zeros = padded-parts s (both .0); stands = both .1; few = few-stations s (both .1) }
+
+pub lent : (s : State) (vs : List Val) → Is state.the-row s vs → standing s ≡ true → Lent s
+lent s vs owned = lent-held s (state-held s vs owned)
 
 -- at most sixteen packets in each queue
 pub few-packets : (s : State) → Lent s → (i : ℕ) → i < most-stations → getD (s .queues .lengths) i 0 ≤ places

@@ -1,6 +1,6 @@
 -- The coded engine meets demand 2, and so has all that demand 2 promises: after any set-up and any calls its state is the form of the
--- machine's. A refused call hands back the state as lent, and refusal 1 is given exactly where the standing conditions fail.
--- Assumes nothing.
+-- machine's. A refused call hands back the state as lent, and refusal 1 is given exactly where the standing conditions fail; a call that
+-- accepts keeps them. Assumes nothing.
 use Prim.Native.Nat.{ℕ, zero, suc, _≤_}
 use mathlib.Core.Path.{_≡_, refl, sym, ap, ap₂, _∙_, subst}
 use mathlib.Core.Logic.{_⊎_, inl, inr, _↔_}
@@ -26,11 +26,12 @@ use Rattle.rules.proofs.Laws.{clash, and-true, true-and}
 use Rattle.rules.proofs.Tests.{Whether, decides, told, tells}
 use Rattle.rules.proofs.Standing as Rules
 use Rattle.rules.proofs.Refusals.{probe-number, handsBack}
-use Rattle.rules.proofs.Reach.{standing-reached}
+use Rattle.rules.proofs.Keeps.{keepsStanding}
+use Rattle.rules.proofs.Reach.{Does, refuses, admits, holds, probes-one, does, standing-reached}
 use Rattle.rules.proofs.Promises.{promised}
-use Rattle.bus.specs.State.{State, meaning, form, padded}
+use Rattle.bus.specs.State.{State, Held, meaning, form, padded}
 use Rattle.bus.specs.Coded.{standing, codedSetUp, codedAdmit, codedStep, coded, answerForm, answerOf}
-use Rattle.bus.proofs.Form.{Held, form-meaning, Fits, standing-fits, nothing-fits, meaning-form, padded-form}
+use Rattle.bus.proofs.Form.{form-meaning, Fits, standing-fits, nothing-fits, meaning-form, padded-form}
 
 -- ---- demand 2
 
@@ -184,6 +185,11 @@ standing-exactly-step s = go (padded s)
 
 -- ---- a state stands exactly when it is the form of a bus that stands
 
+pub form-stands : (b : Bus) → Standing b → standing (form b) ≡ true
+form-stands b h =
+    let fits = standing-fits b h in
+    true-and (padded-form b fits) (ap stands (meaning-form b fits) ∙ told (Rules.stands-exactly b) h)
+
 pub stands-exactly : (s : State) → Held s → Whether (Standing (meaning s) × (form (meaning s) ≡ s)) (standing s)
 stands-exactly s held = decides (standing s) there back
   where
@@ -193,9 +199,44 @@ stands-exactly s held = decides (standing s) there back
         (tells (Rules.stands-exactly (meaning s)) (parts .1), form-meaning s held (parts .0))
 
     back : standing s ≡ false → ¬ (Standing (meaning s) × (form (meaning s) ≡ s))
-    back e h =
-        let zeros = ap padded (sym (h .1)) ∙ padded-form (meaning s) (standing-fits (meaning s) (h .0)) in
-        clash (true-and zeros (told (Rules.stands-exactly (meaning s)) (h .0))) e
+    back e h = clash (ap standing (sym (h .1)) ∙ form-stands (meaning s) (h .0)) e
+
+-- ---- calls that accept keep the standing conditions
+
+pub keeps-set-up : (r : Request) → codedSetUp r .0 .refusal ≡ 0 → standing (codedSetUp r .1) ≡ true
+keeps-set-up r z = form-stands (setUp r .1) (keepsStanding .set-up r z)
+
+pub keeps-admission : (s : State) (a : Arrival) → codedAdmit s a .0 .refusal ≡ 0 → standing (codedAdmit s a .1) ≡ true
+keeps-admission s a = go (padded s)
+  where
+    go : (t : Bool) → admitted-by s a t .0 .refusal ≡ 0 → standing (admitted-by s a t .1) ≡ true
+    go true z = form-stands (admit (meaning s) a .1) (keepsStanding .admission (meaning s) a z)
+    go false z = absurd (omega arith)
+
+pub keeps-step : (s : State) → codedStep s .0 .refusal ≡ 0 → standing (codedStep s .1) ≡ true
+keeps-step s = go (padded s)
+  where
+    go : (t : Bool) → stepped-by s t .0 .refusal ≡ 0 → standing (stepped-by s t .1) ≡ true
+    go true z = form-stands (step (meaning s) .1) (keepsStanding .step (meaning s) z)
+    go false z = absurd (omega arith)
+
+-- a call on a state whose padding is zero is the machine's on its meaning
+pub next-is : (s : State) (c : Call) → padded s ≡ true → next coded s c ≡ form (next machine (meaning s) c)
+next-is s (admission a) zeros = ap (λ t. admitted-by s a t .1) zeros
+next-is s one-step zeros = ap (λ t. stepped-by s t .1) zeros
+
+-- any call on a state that stands, a refused one too, leaves a state that stands
+pub next-stands : (s : State) (c : Call) → standing s ≡ true → standing (next coded s c) ≡ true
+next-stands s c e =
+    let parts = and-true (padded s) (stands (meaning s)) e in
+    ap standing (next-is s c (parts .0))
+    ∙ form-stands (next machine (meaning s) c) (stays c (does (meaning s) c) (tells (Rules.stands-exactly (meaning s)) (parts .1)))
+  where
+    stays : (k : Call) → Does (meaning s) k → Standing (meaning s) → Standing (next machine (meaning s) k)
+    stays k (refuses a n z is) h = subst (λ (o : Admitted × Bus). Standing (o .1)) (sym is) h
+    stays k (admits a z is) h = keepsStanding .admission (meaning s) a (ap (λ (o : Admitted × Bus). o .0 .refusal) is)
+    stays k (holds n z is) h = subst (λ (o : Answer × Bus). Standing (o .1)) (sym is) h
+    stays k (probes-one z a is) h = keepsStanding .step (meaning s) a
 
 -- ---- an answer in the code's sorts says all of the engine's answer: a contention ended or it did not
 

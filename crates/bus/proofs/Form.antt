@@ -22,21 +22,11 @@ use Rattle.rules.specs.SetUp.{disciplineOf}
 use Rattle.rules.specs.Standing.{Standing}
 use Rattle.rules.proofs.Laws.{clash, and-true, true-and, all-nil, each-view}
 use Rattle.rules.proofs.Standing.{set-up-stands}
-use Rattle.bus.specs.State.{Packet, Contender, Contention, Round, State, noPacket, noContender, nobody, placesAt, queueAt, offerOf, stationAt, stationsOf, lastOf, contentionOf, meaning, noStation, stationOr, listedForm, contenderForm, roundForm, tiedForm, contentionForm, segmentForm, queuesForm, form, no-packet, queue-padded, contender-padded, station-padded, no-station, each-place, round-padded, no-window, contention-padded, padded}
+use Rattle.bus.specs.State.{Packet, Contender, Contention, Round, State, Held, noPacket, noContender, nobody, placesAt, queueAt, offerOf, stationAt, stationsOf, lastOf, contentionOf, meaning, noStation, stationOr, listedForm, contenderForm, roundForm, tiedForm, contentionForm, segmentForm, queuesForm, form, no-packet, queue-padded, contender-padded, station-padded, no-station, each-place, round-padded, no-window, contention-padded, padded}
 use Rattle.bus.proofs.QueueLaws.{places-count, place-at}
 use Rattle.bus.proofs.Rows.{each-place-all, all-each-place, values-length, values-at, values-ext, row-length, row-at, row-ext}
 
--- ---- the rows of a state are as long as the code's arrays
-
--- This and `Padded` are records without a name, so that what they say of one state they say of any that agrees in what they read.
-abbrev pub Held : State → Type 0
-Held s =
-    record {
-      listed : length (s .segment .listed) ≡ 64;
-      contenders : length (s .segment .contenders) ≡ 64;
-      lengths : length (s .queues .lengths) ≡ 64;
-      packets : length (s .queues .packets) ≡ 1024;
-    }
+-- ---- the rows of a form are as long as the code's arrays
 
 pub held-form : (b : Bus) → Held (form b)
 held-form b =
@@ -63,7 +53,7 @@ module _ {X : Type 0} where
 
 -- ---- the parts of a state whose padding is zero
 
--- what `padded` says, part by part
+-- what `padded` says, part by part; a record without a name, as `Held` is, and for the same reason
 abbrev pub Padded : State → Type 0
 Padded s =
     record {

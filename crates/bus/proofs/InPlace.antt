@@ -7,7 +7,7 @@ use native.Mathlib.Nat.{add-zero}
 use native.Mathlib.Omega.{arith}
 use lib.Dec.{eqb, ltb}
 use lib.ListN.{length, getD, take, drop, set, replicate}
-use borrow.Author.Tests.{ltb-false, eqb-true, eqb-false, eq-eqb, ne-eqb}
+use borrow.Author.Tests.{ltb-false, eq-eqb, ne-eqb}
 use Rattle.window.specs.declared.Side.{Side}
 use Rattle.window.specs.declared.Side.the-variants.{Left, Right}
 use Rattle.rules.specs.SetUp.{disciplineOf}
@@ -15,24 +15,24 @@ use Rattle.rules.specs.declared.Admitted.{Admitted}
 use Rattle.rules.specs.Lists.{keep}
 use Rattle.rules.specs.Bus.{Bus, last-slot, most-stations}
 use Rattle.rules.specs.Standing.{Standing}
-use Rattle.rules.specs.Admission as Rules
-use Rattle.rules.specs.Admission.{admit, admissionRefusal}
+use Rattle.rules.specs.Admission.{admissionRefusal}
 use Rattle.rules.specs.Begin.{begin, dropsOf}
-use Rattle.rules.specs.Probe as Probe
-use Rattle.rules.specs.Probe.{success, refusedAnswer}
-use Rattle.rules.specs.Step.{opened, step}
-use Rattle.rules.proofs.Keeps.{keepsStanding, begin-stands}
+use Rattle.rules.specs.Probe.{success}
+use Rattle.rules.specs.Step.{opened}
+use Rattle.rules.specs.Engine as Engine
+use Rattle.rules.specs.Engine.{machine, Call, next}
+use Rattle.rules.proofs.Keeps.{begin-stands}
 use Rattle.rules.proofs.Laws.{clash, true-and}
 use Rattle.rules.proofs.Tests as Tests
 use Rattle.rules.proofs.Standing.{stands-exactly}
-use Rattle.bus.specs.State.{Packet, Settings, Contender, Contention, noContender, Segment, Queues, State, meaning, form, queueAt}
-use Rattle.bus.specs.Coded.{Answer, Stepped, Admission, standing, codedAdmit, codedStep, admissionResult, stepResult}
+use Rattle.bus.specs.State.{Packet, Settings, Contender, Contention, noContender, Segment, Queues, State, Held, meaning, form, queueAt}
+use Rattle.bus.specs.Coded.{Answer, Stepped, Admission, standing, codedAdmit, codedStep, coded, admissionResult, stepResult}
 use Rattle.bus.specs.Stretch.{Arrival, Arrivals, Report, noArrival, most-calls, noReport, asks, due, arrivalReport, stepReport, inRow, mayBeMore}
 use Rattle.bus.specs.Parts.{Queue, openingOf, addressPlace, refusalAt, Begun, Probed, Heard, Progress, Moved, unheardOn, wonOn, collidedOn, openOf, probed, heardIn, progressOf, movedBy, withMoved, segmentWith, noContenders, withQueue, queueForm, stays, Sent}
 use Rattle.bus.proofs.Rows.{row-replicate}
-use Rattle.bus.proofs.Form.{held-form, padded-parts, parts-padded, standing-fits, meaning-form, padded-form}
-use Rattle.bus.proofs.Coded.{hands-back-admission, hands-back-step}
-use Rattle.bus.proofs.Changed.{Lent, few-stations}
+use Rattle.bus.proofs.Form.{held-form, parts-padded}
+use Rattle.bus.proofs.Coded.{form-stands, next-is, next-stands}
+use Rattle.bus.proofs.Changed.{Lent, lent-held}
 use Rattle.bus.proofs.Admitting.{refusal-is, gives-refusal, joinedAt, in-row, room-at, joined-in-place}
 use Rattle.bus.proofs.Tested.{denied}
 use Rattle.bus.proofs.Changed.{segmentCounting}
@@ -50,45 +50,16 @@ whole g queues = record { segment = g; queues = queues }
 -- ---- a state that stands stands after each call
 
 pub lent-form : (b : Bus) → Standing b → Lent (form b)
-lent-form b h =
-    let fits = standing-fits b h in
-    let stands! = subst Standing (sym (meaning-form b fits)) h in
-    record {
-      held = held-form b;
-      zeros = padded-parts (form b) (padded-form b fits);
-      stands = stands!;
-      few = few-stations (form b) stands!;
-    }
+lent-form b h = lent-held (form b) (held-form b) (form-stands b h)
 
-module _ (s : State) (r : Lent s) where
-  pub lent-stepped : Lent (codedStep s .1)
-  lent-stepped = go (eqb (codedStep s .0 .refusal) 0) refl
-    where
-      of-rules : codedStep s ≡ (step (meaning s) .0, form (step (meaning s) .1))
-      of-rules = ap (λ t. cond t (step (meaning s) .0, form (step (meaning s) .1)) (refusedAnswer 1, s)) (parts-padded s (r .zeros))
+-- the test that refusal 1 goes by is passed
+pub passed : (s : State) → Lent s → standing s ≡ true
+passed s r = true-and (parts-padded s (r .zeros)) (Tests.told (stands-exactly (meaning s)) (r .stands))
 
-      go : (t : Bool) → eqb (codedStep s .0 .refusal) 0 ≡ t → Lent (codedStep s .1)
-      go true e =
-          let none! = sym (ap (λ (o : Probe.Answer × State). o .0 .refusal) of-rules) ∙ eqb-true (codedStep s .0 .refusal) 0 e in
-          subst Lent (sym (ap (λ (o : Probe.Answer × State). o .1) of-rules)) (lent-form (step (meaning s) .1) (keepsStanding .step (meaning s) none!))
-      go false e =
-          subst Lent (sym (ap (λ (o : Probe.Answer × State). o .1) (hands-back-step s (r .held) (eqb-false (codedStep s .0 .refusal) 0 e)))) r
-
-  pub lent-admitted : (a : Rules.Arrival) → Lent (codedAdmit s a .1)
-  lent-admitted a = go (eqb (codedAdmit s a .0 .refusal) 0) refl
-    where
-      of-rules : codedAdmit s a ≡ (admit (meaning s) a .0, form (admit (meaning s) a .1))
-      of-rules =
-          ap
-          (λ t. cond t (admit (meaning s) a .0, form (admit (meaning s) a .1)) (record { refusal = 1; number = 0 }, s))
-          (parts-padded s (r .zeros))
-
-      go : (t : Bool) → eqb (codedAdmit s a .0 .refusal) 0 ≡ t → Lent (codedAdmit s a .1)
-      go true e =
-          let none! = sym (ap (λ (o : Admitted × State). o .0 .refusal) of-rules) ∙ eqb-true (codedAdmit s a .0 .refusal) 0 e in
-          subst Lent (sym (ap (λ (o : Admitted × State). o .1) of-rules)) (lent-form (admit (meaning s) a .1) (keepsStanding .admission (meaning s) a none!))
-      go false e =
-          subst Lent (sym (ap (λ (o : Admitted × State). o .1) (hands-back-admission s (r .held) a (eqb-false (codedAdmit s a .0 .refusal) 0 e)))) r
+lent-next : (s : State) → Lent s → (c : Call) → Lent (next coded s c)
+lent-next s r c =
+    let held = subst Held (sym (next-is s c (parts-padded s (r .zeros)))) (held-form (next machine (meaning s) c)) in
+    lent-held (next coded s c) held (next-stands s c (passed s r))
 
 -- ---- an admission in place
 
@@ -160,10 +131,6 @@ pub opened-as :
 opened-as {s} {g} {g′} {queues} {queues′} {drops} {drops′} a b c o =
     subst (λ (k : ℕ). Opened s g′ queues′ k) (sym c)
     (subst (λ (q : Queues). Opened s g′ q drops) (sym b) (subst (λ (h : Segment). Opened s h queues drops) (sym a) o))
-
--- the test that refusal 1 goes by is passed
-pub passed : (s : State) → Lent s → standing s ≡ true
-passed s r = true-and (parts-padded s (r .zeros)) (Tests.told (stands-exactly (meaning s)) (r .stands))
 
 -- a segment with another contention and other contenders
 abbrev pub contending : Segment → Contention → List Contender → Segment
@@ -347,7 +314,7 @@ module _ (x : Arrivals) (places : length (x .row) ≡ 64) (s : State) (steps : �
   with-arrival e admission f r h =
       record {
         so-far = took x places s steps (whole g queues) reports made taken left (y .so-far) m t l e admission f r h;
-        lent = subst (λ (o : Admission). Lent (o .state)) (sym f) (lent-admitted (whole g queues) (y .lent) (asks coming));
+        lent = subst (λ (o : Admission). Lent (o .state)) (sym f) (lent-next (whole g queues) (y .lent) (Engine.admission (asks coming)));
         few = omega arith;
         here = omega (arith, row-due x places taken (due (g .clock .0) coming) t e);
       }
@@ -359,7 +326,7 @@ module _ (x : Arrivals) (places : length (x .row) ≡ 64) (s : State) (steps : �
   with-step e o f r h =
       record {
         so-far = stepped-on x places s steps (whole g queues) reports made taken left (y .so-far) m t l e o f r h;
-        lent = subst (λ (u : Stepped). Lent (u .state)) (sym f) (lent-stepped (whole g queues) (y .lent));
+        lent = subst (λ (u : Stepped). Lent (u .state)) (sym f) (lent-next (whole g queues) (y .lent) Engine.one-step);
         few = omega arith;
         here = y .here;
       }

@@ -5,25 +5,26 @@
 use Prim.Native.Nat.{ℕ, _≤_}
 use mathlib.Core.Path.{_≡_}
 use mathlib.Core.Logic.{_↔_}
-use mathlib.Core.Bool.{Bool, false}
-use mathlib.Core.List.{List, [], _++_}
+use mathlib.Core.Bool.{Bool, true, false}
+use mathlib.Core.List.{List, [], _++_, map}
+use Rattle.rules.specs.Lists.{All}
 use Rattle.rules.specs.Bus.{nothing}
 use Rattle.rules.specs.Standing.{Standing}
 use Rattle.rules.specs.SetUp.{Request}
 use Rattle.rules.specs.Admission.{Arrival}
 use Rattle.rules.specs.Probe.{refusedAnswer}
-use Rattle.rules.specs.Engine.{machine, Call, reach}
+use Rattle.rules.specs.Engine.{machine, Call, replies, reach}
 use Rattle.rules.specs.Demands.{Demand2, Promised}
-use Rattle.rules.proofs.Tests.{Whether}
-use Rattle.bus.specs.State.{State, meaning, form}
+use Rattle.rules.proofs.Tests.{tells, told}
+use Rattle.bus.specs.State.{State, Held, meaning, form}
 use Rattle.bus.specs.Coded.{standing, codedSetUp, codedAdmit, codedStep, coded, answerForm, answerOf}
-use Rattle.bus.proofs.Form.{Held}
-use Rattle.bus.specs.Stretch.{course, stepReports, afterSteps}
+use Rattle.bus.specs.Stretch.{course, stepReports, afterSteps, replyOf, refusalIn, Called}
 use Rattle.bus.specs.Stretch.{Arrival as Timed}
-use Rattle.bus.proofs.SingleCalls.{Called, called, still-reached, steps-alone}
+use Rattle.bus.proofs.SingleCalls as SingleCalls
 use Rattle.bus.proofs.Coded as Coded
 
--- ---- demand 2, and what follows from it: the winner is least, events and counts are true, probes are bounded, and demand 3
+-- ---- demand 2, and what follows from it: the winner is least, events, counts and numbers are true, probes are bounded, demand 3, and a slot
+-- fewer than it asks for
 
 pub demand2-coded : Demand2 coded
 demand2-coded = Coded.demand2-coded
@@ -39,8 +40,8 @@ reached = Coded.reached-coded
 -- the code have.
 
 -- a state stands exactly when it is the form of a bus that keeps the standing conditions of paper 01
-pub stands-exactly : (s : State) → Held s → Whether (Standing (meaning s) × (form (meaning s) ≡ s)) (standing s)
-stands-exactly = Coded.stands-exactly
+pub stands-exactly : (s : State) → Held s → (standing s ≡ true) ↔ (Standing (meaning s) × (form (meaning s) ≡ s))
+stands-exactly s held = (tells (Coded.stands-exactly s held), told (Coded.stands-exactly s held))
 
 -- refusal 1 is given exactly when it does not
 pub refused-exactly-admission : (s : State) (a : Arrival) → (codedAdmit s a .0 .refusal ≡ 1) ↔ (standing s ≡ false)
@@ -48,6 +49,16 @@ refused-exactly-admission = Coded.standing-exactly-admission
 
 pub refused-exactly-step : (s : State) → (codedStep s .0 .refusal ≡ 1) ↔ (standing s ≡ false)
 refused-exactly-step = Coded.standing-exactly-step
+
+-- 'Every call that accepts keeps these conditions.'
+pub keeps-standing-set-up : (r : Request) → codedSetUp r .0 .refusal ≡ 0 → standing (codedSetUp r .1) ≡ true
+keeps-standing-set-up = Coded.keeps-set-up
+
+pub keeps-standing-admission : (s : State) (a : Arrival) → codedAdmit s a .0 .refusal ≡ 0 → standing (codedAdmit s a .1) ≡ true
+keeps-standing-admission = Coded.keeps-admission
+
+pub keeps-standing-step : (s : State) → codedStep s .0 .refusal ≡ 0 → standing (codedStep s .1) ≡ true
+keeps-standing-step = Coded.keeps-step
 
 -- refused calls hand back the state as lent, and zeros; a refused set-up the all-zero state, which refusal 1 catches
 pub hands-back-admission :
@@ -74,17 +85,31 @@ answer-read = Coded.answer-read
 
 pub stretch-called :
     (calls : ℕ) (s : State) (arrivals : List Timed) (more : Bool) (left : ℕ) → Called s (course calls s arrivals more left)
-stretch-called = called
+stretch-called = SingleCalls.called
 
--- from a state that calls have reached it comes to a state that calls reach
+-- from a state that calls have reached it comes to a state that calls reach, and what it reports is what is replied to them
 pub stretch-reached :
     (r : Request) (calls : List Call) (n : ℕ) (arrivals : List Timed) (more : Bool) (left : ℕ)
-    → course n (reach coded r calls) arrivals more left .state
-    ≡ reach coded r (calls ++ called n (reach coded r calls) arrivals more left .calls)
-stretch-reached = still-reached
+    → (later : List Call)
+    × (course n (reach coded r calls) arrivals more left .state ≡ reach coded r (calls ++ later))
+    × (map replyOf (course n (reach coded r calls) arrivals more left .reports) ≡ replies coded (reach coded r calls) later)
+stretch-reached = SingleCalls.still-reached
+
+-- from a state that stands it comes to a state that stands
+pub stretch-stands :
+    (calls : ℕ) (s : State) (arrivals : List Timed) (more : Bool) (left : ℕ) → standing s ≡ true
+    → standing (course calls s arrivals more left .state) ≡ true
+stretch-stands = SingleCalls.still-stands
+
+-- any other state it hands back as lent, and each of its calls is refused with 1
+pub stretch-refused :
+    (calls : ℕ) (s : State) (arrivals : List Timed) (more : Bool) (left : ℕ) → Held s → standing s ≡ false
+    → (course calls s arrivals more left .state ≡ s)
+    × All (λ r. refusalIn (replyOf r) ≡ 1) (course calls s arrivals more left .reports)
+stretch-refused = SingleCalls.stays-refused
 
 -- where no arrival comes it is that many steps
 pub stretch-steps :
     (calls steps : ℕ) (s : State) → steps ≤ calls
     → course calls s [] false steps ≡ record { reports = stepReports steps s; taken = 0; left = 0; state = afterSteps steps s }
-stretch-steps = steps-alone
+stretch-steps = SingleCalls.steps-alone

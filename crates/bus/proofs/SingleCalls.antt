@@ -1,18 +1,22 @@
--- A stretch is single calls, one after the other: the state that it comes to is theirs, and its reports are what they reply. Assumes
--- nothing.
+-- A stretch is single calls, one after the other: the state that it comes to is theirs, and its reports are what they reply. So a state
+-- that stands stands after it, and one that does not comes back as lent. Assumes nothing.
 use Prim.Native.Nat.{ℕ, zero, suc, _≤_}
-use mathlib.Core.Path.{_≡_, refl, sym, ap, ap₂, _∙_}
+use mathlib.Core.Path.{_≡_, refl, sym, ap, ap₂, _∙_, subst}
 use mathlib.Core.Bool.{Bool, true, false, cond}
 use mathlib.Core.List.{List, [], _∷_, _++_, map}
 use native.Mathlib.Omega.{arith}
+use Rattle.rules.specs.Lists.{All}
 use Rattle.rules.specs.SetUp.{Request}
+use Rattle.rules.specs.declared.Admitted.{Admitted}
+use Rattle.rules.specs.Probe.{Answer}
 use Rattle.rules.specs.Engine as Engine
 use Rattle.rules.specs.Engine.{Reply, admitted, stepped, Call, admission, one-step, replies, reach}
+use Rattle.rules.proofs.Laws.{all-nil, all-cons, map-into}
 use Rattle.rules.proofs.Reach.{after-more}
-use Rattle.bus.specs.State.{State}
-use Rattle.bus.specs.Coded.{answerOf, codedAdmit, codedStep, coded}
-use Rattle.bus.specs.Stretch.{Arrival, Report, Course, asks, due, arrivalReport, rests, after, stepThen, course, stepReports, afterSteps}
-use Rattle.bus.proofs.Coded.{answer-read}
+use Rattle.bus.specs.State.{State, Held}
+use Rattle.bus.specs.Coded.{standing, codedAdmit, codedStep, coded}
+use Rattle.bus.specs.Stretch.{Arrival, Course, asks, due, arrivalReport, rests, after, stepThen, course, stepReports, afterSteps, replyOf, refusalIn, Called}
+use Rattle.bus.proofs.Coded.{hands-back-admission, hands-back-step, standing-exactly-admission, standing-exactly-step, next-stands, answer-read}
 
 -- ---- where no arrival comes, a stretch is that many steps, one after the other
 
@@ -26,16 +30,6 @@ steps-alone (suc calls) zero s h = refl
 steps-alone (suc calls) (suc steps) s h = ap (stepThen s) (steps-alone calls steps (codedStep s .1) (omega arith))
 
 -- ---- a stretch is single calls, one after the other, and its reports are what they reply
-
--- what a report says that the engine replied
-abbrev pub replyOf : Report → Reply
-replyOf r = cond (r .arrival) (admitted (r .admitted)) (stepped (answerOf (r .answer)))
-
--- the calls of a course from a state
-pub record Called (s : State) (c : Course) : Type 0 where
-  pub calls : List Call
-  pub state : c .state ≡ Engine.after coded s calls
-  pub replied : map replyOf (c .reports) ≡ replies coded s calls
 
 by-step : (s : State) (c : Course) → Called (codedStep s .1) c → Called s (stepThen s c)
 by-step s c x =
@@ -91,7 +85,54 @@ called (suc calls) s (a ∷ arrivals) more (suc left) =
 -- a stretch from a state that calls have reached comes to a state that calls reach
 pub still-reached :
     (r : Request) (calls : List Call) (n : ℕ) (arrivals : List Arrival) (more : Bool) (left : ℕ)
-    → course n (reach coded r calls) arrivals more left .state ≡ reach coded r (calls ++ called n (reach coded r calls) arrivals more left .calls)
+    → (later : List Call)
+    × (course n (reach coded r calls) arrivals more left .state ≡ reach coded r (calls ++ later))
+    × (map replyOf (course n (reach coded r calls) arrivals more left .reports) ≡ replies coded (reach coded r calls) later)
 still-reached r calls n arrivals more left =
     let x = called n (reach coded r calls) arrivals more left in
-    x .state ∙ sym (after-more coded (coded .setUp r .1) calls (x .calls))
+    (x .calls, x .state ∙ sym (after-more coded (coded .setUp r .1) calls (x .calls)), x .replied)
+
+-- ---- a state that stands stands after calls; one that does not comes back as lent, and each call is refused with 1
+
+after-stands : (s : State) (calls : List Call) → standing s ≡ true → standing (Engine.after coded s calls) ≡ true
+after-stands s [] e = e
+after-stands s (c ∷ calls) e = after-stands (Engine.next coded s c) calls (next-stands s c e)
+
+not-accepted : {n : ℕ} → n ≡ 1 → ¬ (n ≡ 0)
+not-accepted one z = omega arith
+
+module _ (s : State) (held : Held s) (e : standing s ≡ false) where
+  reply-refused : (c : Call) → refusalIn (Engine.reply coded s c) ≡ 1
+  reply-refused (admission a) = standing-exactly-admission s a .1 e
+  reply-refused one-step = standing-exactly-step s .1 e
+
+  next-same : (c : Call) → Engine.next coded s c ≡ s
+  next-same (admission a) =
+      ap (λ (o : Admitted × State). o .1) (hands-back-admission s held a (not-accepted (reply-refused (admission a))))
+  next-same one-step = ap (λ (o : Answer × State). o .1) (hands-back-step s held (not-accepted (reply-refused one-step)))
+
+  after-same : (calls : List Call) → Engine.after coded s calls ≡ s
+  after-same [] = refl
+  after-same (c ∷ calls) = ap (λ o. Engine.after coded o calls) (next-same c) ∙ after-same calls
+
+  all-refused : (calls : List Call) → All (λ r. refusalIn r ≡ 1) (replies coded s calls)
+  all-refused [] = all-nil (λ r. refusalIn r ≡ 1)
+  all-refused (c ∷ calls) =
+      all-cons (Engine.reply coded s c) (reply-refused c)
+      (subst (λ o. All (λ r. refusalIn r ≡ 1) (replies coded o calls)) (sym (next-same c)) (all-refused calls))
+
+-- and so of a stretch
+module _ (calls : ℕ) (s : State) (arrivals : List Arrival) (more : Bool) (left : ℕ) where
+  pub still-stands : standing s ≡ true → standing (course calls s arrivals more left .state) ≡ true
+  still-stands e = let x = called calls s arrivals more left in ap standing (x .state) ∙ after-stands s (x .calls) e
+
+  pub stays-refused :
+      Held s → standing s ≡ false
+      → (course calls s arrivals more left .state ≡ s)
+      × All (λ r. refusalIn (replyOf r) ≡ 1) (course calls s arrivals more left .reports)
+  stays-refused held e =
+      let x = called calls s arrivals more left in
+      let refused = subst (All (λ r. refusalIn r ≡ 1)) (sym (x .replied)) (all-refused s held e (x .calls)) in (
+        x .state ∙ after-same s held e (x .calls),
+        λ r i. refused (replyOf r) (map-into replyOf (course calls s arrivals more left .reports) i),
+      )

@@ -22,12 +22,12 @@ use Rattle.rules.specs.Standing.{value-fits, length-fits, rising, same-packet, 
 use Rattle.rules.proofs.Laws.{clash, and-true, true-and}
 use Rattle.rules.proofs.Tests.{Whether, holds, fails}
 use Rattle.rules.proofs.Standing.{stands-exactly}
-use Rattle.bus.specs.State.{Contender, Contention, Segment, Queues, State, noContender, nobody, placesAt, queueAt, stationAt, stationsOf, valuesFrom, tieOf, meaning, no-packet, queue-padded, contender-padded, station-padded, no-station, each-place, round-padded, contention-padded, padded}
+use Rattle.bus.specs.State.{Contender, Contention, Segment, Queues, State, Held, noContender, nobody, placesAt, queueAt, stationAt, stationsOf, valuesFrom, tieOf, meaning, no-packet, queue-padded, contender-padded, station-padded, no-station, each-place, round-padded, contention-padded, padded}
 use Rattle.bus.specs.Coded.{standing, askedOf, requestWith}
 use Rattle.bus.specs.Parts.{parameterFits, contenderSound, stationSound, nobodyAt, placeSound, numbersFrom, queuesSound, roundSound, contentionSound}
 use Rattle.bus.proofs.State as state
 use Rattle.bus.proofs.Rows.{each-place-all, values-take}
-use Rattle.bus.proofs.Form.{Held, padded-parts, places-length}
+use Rattle.bus.proofs.Form.{padded-parts, places-length}
 use Rattle.bus.proofs.QueueLaws.{queues-arrays}
 use Rattle.bus.proofs.SettingUp.{set-up-pass, passes-as-asked}
 

@@ -7,19 +7,17 @@ use mathlib.Core.Option.{none, some}
 use native.Mathlib.Omega.{arith}
 use lib.Dec.{ltb}
 use Rattle.rules.specs.Bus.{Bus, last-slot}
-use Rattle.rules.specs.Standing.{stands}
 use Rattle.rules.specs.Begin.{begin, dropsOf, opening}
 use Rattle.rules.specs.Probe.{Answer, Open, probe, refusedAnswer}
 use Rattle.rules.specs.Step.{openedBy, opened, stepRefusal, step}
-use Rattle.rules.proofs.Laws.{true-and}
 use Rattle.rules.proofs.Tests.{told}
 use Rattle.rules.proofs.Standing.{stands-exactly, step-is}
 use Rattle.rules.proofs.Keeps.{begin-stands}
-use Rattle.bus.specs.State.{State, tieOf, meaning, form}
+use Rattle.bus.specs.State.{State, Held, tieOf, meaning, form}
 use Rattle.bus.specs.Coded.{standing, codedStep, stepResult}
 use Rattle.bus.specs.Parts.{openOf}
-use Rattle.bus.proofs.Form.{Held, parts-padded, Fits, standing-fits, meaning-form, padded-form}
-use Rattle.bus.proofs.Coded.{hands-back-step, step-bears, standing-exactly-step}
+use Rattle.bus.proofs.Form.{parts-padded, Fits, standing-fits, meaning-form}
+use Rattle.bus.proofs.Coded.{hands-back-step, step-bears, standing-exactly-step, form-stands}
 use Rattle.bus.proofs.Changed.{Lent}
 
 -- ---- a refused step gives its number, and the state as lent
@@ -80,8 +78,4 @@ module _ (s : State) (r : Lent s) where
       ap (opened-by s) e ∙ (λ i. record { bus = sym same i; contention = opening (meaning s); drops = dropsOf (meaning s) })
 
   pub begun-stands : standing (form (begin (meaning s))) ≡ true
-  begun-stands =
-      let b = begin (meaning s) in
-      true-and
-      (padded-form b begun-fits)
-      (ap stands (meaning-form b begun-fits) ∙ told (stands-exactly b) (begin-stands (meaning s) (r .stands)))
+  begun-stands = form-stands (begin (meaning s)) (begin-stands (meaning s) (r .stands))

@@ -1,6 +1,7 @@
 -- The state of the code (src/lib.rt), and what it means: the machine of the rules. `meaning` leaves out the places that have no
 -- meaning, `form` pads a bus with zeros, and `padded` is paper 01's 'What has no meaning is zero'. Assumes nothing.
 use Prim.Native.Nat.{ℕ, zero, suc, _-_, _*_, _/_, _%_}
+use mathlib.Core.Path.{_≡_}
 use mathlib.Core.Bool.{Bool, true, false, not, _&&_, _||_, cond}
 use mathlib.Core.Option.{Option, none, some}
 use mathlib.Core.List.{List, [], _∷_}
@@ -25,6 +26,17 @@ pub use Rattle.bus.specs.declared.Round.{Round}
 pub use Rattle.bus.specs.declared.Segment.{Segment}
 pub use Rattle.bus.specs.declared.Queues.{Queues}
 pub use Rattle.bus.specs.declared.State.{State}
+
+-- The rows of a state are as long as the code's arrays, as those of every state in the code are. It is a record without a name, so that what
+-- it says of one state it says of any that agrees in what it reads.
+abbrev pub Held : State → Type 0
+Held s =
+    record {
+      listed : length (s .segment .listed) ≡ 64;
+      contenders : length (s .segment .contenders) ≡ 64;
+      lengths : length (s .queues .lengths) ≡ 64;
+      packets : length (s .queues .packets) ≡ 1024;
+    }
 
 -- ---- what has no meaning is zero: a packet, a contender, a contention, a round's last winner, a station that are not there
 

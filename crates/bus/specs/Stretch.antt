@@ -1,15 +1,18 @@
 -- A stretch of a run: arrivals and steps, one call after the other (paper 01, 'The scenario and its listing'). `play` of src/lib.rt is held
 -- to it; it says the same as the single calls, because it is made of them. Assumes nothing.
 use Prim.Native.Nat.{ℕ, zero, suc, _+_, _-_}
+use mathlib.Core.Path.{_≡_}
 use mathlib.Core.Bool.{Bool, true, false, cond}
-use mathlib.Core.List.{List, [], _∷_, _++_}
+use mathlib.Core.List.{List, [], _∷_, _++_, map}
 use lib.Dec.{leb}
 use lib.ListN.{length, take, replicate}
 use Rattle.rules.specs.declared.Admitted.{Admitted}
 use Rattle.rules.specs.Admission as Rules
 use Rattle.rules.specs.Probe.{refusedAnswer}
+use Rattle.rules.specs.Engine as Engine
+use Rattle.rules.specs.Engine.{Call, Reply, replies}
 use Rattle.bus.specs.State.{State}
-use Rattle.bus.specs.Coded.{Answer, arrivalOf, answerForm, codedAdmit, codedStep}
+use Rattle.bus.specs.Coded.{Answer, arrivalOf, answerForm, answerOf, codedAdmit, codedStep, coded}
 pub use Rattle.bus.specs.declared.Arrival.{Arrival}
 pub use Rattle.bus.specs.declared.Arrivals.{Arrivals}
 pub use Rattle.bus.specs.declared.Report.{Report}
@@ -126,3 +129,20 @@ stretchForm c =
       left = c .left;
       state = c .state;
     }
+
+-- ---- the single calls that a stretch is
+
+-- what a report says that the engine replied
+abbrev pub replyOf : Report → Reply
+replyOf r = cond (r .arrival) (Engine.admitted (r .admitted)) (Engine.stepped (answerOf (r .answer)))
+
+-- the refusal number in a reply, 0 where the call was accepted
+abbrev pub refusalIn : Reply → ℕ
+refusalIn (Engine.admitted a) = a .refusal
+refusalIn (Engine.stepped a) = a .refusal
+
+-- the calls of a course from a state: it comes to the state that they come to, and its reports say what is replied to them
+pub record Called (s : State) (c : Course) : Type 0 where
+  pub calls : List Call
+  pub state : c .state ≡ Engine.after coded s calls
+  pub replied : map replyOf (c .reports) ≡ replies coded s calls

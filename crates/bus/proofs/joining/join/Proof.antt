@@ -1,14 +1,15 @@
 -- `joining::join` meets its contract: the packet joins the queue of the station at the place, which is put back into the row.
 -- Assumes nothing.
-use Prim.Native.Nat.{_+_}
-use mathlib.Core.Path.{sym, ap, ap₂, _∙_}
+use Prim.Native.Nat.{ℕ, _+_}
+use mathlib.Core.Path.{_≡_, sym, ap, ap₂, _∙_}
 use mathlib.Core.List.{[], _∷_, _++_}
 use native.Mathlib.Numerals.{add-one}
 use native.Mathlib.Omega.{arith}
 use borrow.Author.Needs.{needs}
-use Rattle.bus.specs.State.{Packet}
-use Rattle.bus.specs.Parts.{Queue, queueForm, packetsOf, withQueue}
-use Rattle.bus.proofs.Changed.{lent, queue-formed}
+use Rattle.bus.specs.State.{Packet, Address, State}
+use Rattle.bus.specs.Coded.{arrivalOf}
+use Rattle.bus.specs.Parts.{Queue, queueForm, packetsOf, withQueue, addressPlace, accepted}
+use Rattle.bus.proofs.Changed.{Lent, lent, queue-formed}
 use Rattle.bus.proofs.Admitting.{counted, state-joined, taken}
 use Rattle.bus.proofs.joining.join.Statement.{statement}
 use Rattle.bus.proofs.joining.join.Tie as tie
@@ -35,21 +36,37 @@ with-queue-requires c κs =
     let start = c .before .before .before .before .before in
     omega (arith, lent (start .args .s) _ (start .good .0) (start .pre .0) .few)
 
+-- the queue with the packet is back in the row
+module _ (c : tie.After-with-queue) where
+  abbrev start : tie.Start
+  start = c .before .before .before .before .before .before
+
+  abbrev s : State
+  s = start .args .s
+
+  r : Lent s
+  r = lent s _ (start .good .0) (start .pre .0)
+
+  abbrev number : ℕ
+  number = s .segment .admitted + 1
+
+  joins :
+      (address : Address) → start .args .place ≡ addressPlace s address
+      → taken number (record { segment = counted s number .segment; queues = c .with-queue .result })
+      ≡ accepted s (arrivalOf address (start .args .value) (start .args .length))
+  joins address e =
+      let args = start .args in
+      let next = add-one (s .segment .admitted) in
+      let packet : Packet = record { number = number; value = args .value; length = args .length } in
+      let queue = ap (λ q. queueForm (packetsOf q ++ (packet ∷ []))) (c .before .before .queue-at .ensures) in
+      let filled = c .with-queue .ensures ∙ ap (withQueue (s .queues) (args .place)) (c .before .joined .ensures ∙ queue) in
+      let here = start .pre .1 .0 in
+      let room = start .pre .1 .1 .0 in
+      ap (λ queues. taken number (record { segment = counted s number .segment; queues = queues })) filled
+      ∙ ap₂ taken next (state-joined s r (args .place) address e (args .value) (args .length) here number next room)
+
 returns : tie.Need-returns
-returns c address e =
-    let start = c .before .before .before .before .before .before in
-    let args = start .args in
-    let s = args .s in
-    let r = lent s _ (start .good .0) (start .pre .0) in
-    let number = s .segment .admitted + 1 in
-    let next = add-one (s .segment .admitted) in
-    let packet : Packet = record { number = number; value = args .value; length = args .length } in
-    let queue = ap (λ q. queueForm (packetsOf q ++ (packet ∷ []))) (c .before .before .queue-at .ensures) in
-    let filled = c .with-queue .ensures ∙ ap (withQueue (s .queues) (args .place)) (c .before .joined .ensures ∙ queue) in
-    let here = start .pre .1 .0 in
-    let room = start .pre .1 .1 .0 in
-    ap (λ queues. taken number (record { segment = counted s number .segment; queues = queues })) filled
-    ∙ ap₂ taken next (state-joined s r (args .place) address e (args .value) (args .length) here number next room)
+returns c = joins c
 
 pub join-spec : {M : Type 1} → statement M
 join-spec = tie.close (tie.spec add-number queue-at-requires joined-requires with-queue-requires returns)

@@ -1,11 +1,13 @@
 -- `split` meets its contract: a window of size 2 or more is halved, else the tie phase begins. Assumes nothing.
 use Prim.Native.Nat.{ℕ}
-use mathlib.Core.Path.{ap}
-use mathlib.Core.Bool.{Bool, true}
+use mathlib.Core.Path.{_≡_, sym, ap, ap₂, _∙_}
+use mathlib.Core.Bool.{Bool, true, cond}
+use lib.Dec.{leb}
 use borrow.Author.Needs.{needs}
 use borrow.Author.Tests.{le-leb, lt-leb}
 use Rattle.window.specs.declared.Window.{Window}
 use Rattle.bus.specs.State.{Contention}
+use Rattle.bus.specs.Parts.{splitOf}
 use Rattle.bus.proofs.probing.split.Statement.{statement}
 use Rattle.bus.proofs.probing.split.Tie as tie
 
@@ -24,19 +26,29 @@ returns c =
 tie-window-requires : tie.Need-tie-window-requires
 tie-window-requires c κs = search needs
 
+-- the tie phase begins, with the tie value that there is, or with the window's parameter
+module _ (first : tie.After-tie-window) where
+  abbrev start : tie.Start
+  start = first .before .before .before .before
+
+  abbrev now : Contention
+  now = start .args .c
+
+  abbrev opening : Bool → Window → Contention
+  opening tied w = under-way true (cond tied (now .tie) (now .window .start)) w
+
+  opens :
+      {tied : Bool} → now .tied ≡ tied
+      → opening tied (first .tie-window .result) ≡ splitOf (start .args .a) now (leb 2 (now .window .size)) (now .tied)
+  opens {tied} e =
+      ap (opening tied) (first .tie-window .ensures)
+      ∙ sym (ap₂ (splitOf (start .args .a) now) (lt-leb 2 (now .window .size) (first .before .if1 .left)) e)
+
 returns-2 : tie.Need-returns-2
-returns-2 c =
-    let first = c .before in
-    let now = first .before .before .before .before .args .c in
-    simp (lt-leb 2 (now .window .size) (first .before .if1 .left), c .if2 .taken) (ap (under-way true (now .tie)) (first .tie-window .ensures))
+returns-2 c = opens (c .before) (c .if2 .taken)
 
 returns-3 : tie.Need-returns-3
-returns-3 c =
-    let first = c .before in
-    let now = first .before .before .before .before .args .c in
-    simp
-    (lt-leb 2 (now .window .size) (first .before .if1 .left), c .if2 .left)
-    (ap (under-way true (now .window .start)) (first .tie-window .ensures))
+returns-3 c = opens (c .before) (c .if2 .left)
 
 pub split-spec : {M : Type 1} → statement M
 split-spec =
