@@ -27,7 +27,8 @@ use Rattle.rules.proofs.Tests.{Whether, decides, told, tells}
 use Rattle.rules.proofs.Standing as Rules
 use Rattle.rules.proofs.Refusals.{probe-number, handsBack}
 use Rattle.rules.proofs.Keeps.{keepsStanding}
-use Rattle.rules.proofs.Reach.{Does, refuses, admits, holds, probes-one, does, standing-reached}
+use Rattle.rules.proofs.Reach as Reach
+use Rattle.rules.proofs.Reach.{standing-reached}
 use Rattle.rules.proofs.Promises.{promised}
 use Rattle.bus.specs.State.{State, Held, meaning, form, padded}
 use Rattle.bus.specs.Coded.{standing, codedSetUp, codedAdmit, codedStep, coded, answerForm, answerOf}
@@ -88,7 +89,7 @@ reached-coded r calls = coded-after (setUp r .1) calls (fits-reached r)
 pub demand2-coded : Demand2 coded
 demand2-coded = record { setUps = λ r. refl; calls = λ r calls. coded-replies (setUp r .1) calls (fits-reached r) }
 
--- the winner is least, events and counts are true, probes are bounded, and demand 3
+-- and so all that demand 2 gives
 pub promised-coded : Promised coded
 promised-coded = promised coded demand2-coded
 
@@ -230,13 +231,7 @@ pub next-stands : (s : State) (c : Call) → standing s ≡ true → standing (n
 next-stands s c e =
     let parts = and-true (padded s) (stands (meaning s)) e in
     ap standing (next-is s c (parts .0))
-    ∙ form-stands (next machine (meaning s) c) (stays c (does (meaning s) c) (tells (Rules.stands-exactly (meaning s)) (parts .1)))
-  where
-    stays : (k : Call) → Does (meaning s) k → Standing (meaning s) → Standing (next machine (meaning s) k)
-    stays k (refuses a n z is) h = subst (λ (o : Admitted × Bus). Standing (o .1)) (sym is) h
-    stays k (admits a z is) h = keepsStanding .admission (meaning s) a (ap (λ (o : Admitted × Bus). o .0 .refusal) is)
-    stays k (holds n z is) h = subst (λ (o : Answer × Bus). Standing (o .1)) (sym is) h
-    stays k (probes-one z a is) h = keepsStanding .step (meaning s) a
+    ∙ form-stands (next machine (meaning s) c) (Reach.next-stands (meaning s) (tells (Rules.stands-exactly (meaning s)) (parts .1)) c)
 
 -- ---- an answer in the code's sorts says all of the engine's answer: a contention ended or it did not
 

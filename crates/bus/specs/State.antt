@@ -27,8 +27,7 @@ pub use Rattle.bus.specs.declared.Segment.{Segment}
 pub use Rattle.bus.specs.declared.Queues.{Queues}
 pub use Rattle.bus.specs.declared.State.{State}
 
--- The rows of a state are as long as the code's arrays, as those of every state in the code are. It is a record without a name, so that what
--- it says of one state it says of any that agrees in what it reads.
+-- The rows of a state are as long as the code's arrays, as those of every state in the code are: all of these.
 abbrev pub Held : State → Type 0
 Held s =
     record {

@@ -1,7 +1,6 @@
 -- The modules of the shared laws and theorems. Assumes nothing.
 pub mod Decimals
 pub mod Stores
-pub mod Keeping
 pub mod Gathered
 pub mod Played
 pub mod TurnLaws

@@ -23,6 +23,7 @@ use Rattle.rules.proofs.Standing.{stands-exactly, accepted-set-up, step-is}
 use Rattle.rules.proofs.Refusals.{probe-number}
 use Rattle.rules.proofs.Contenders.{contender-from}
 use Rattle.rules.proofs.Keeps.{keepsStanding, opened-stands, opened-contention, opened-same}
+use Rattle.rules.proofs.Reach.{next-stands}
 use Rattle.window.specs.declared.Side.{Side}
 use Rattle.window.specs.declared.Side.the-variants as Is
 use Rattle.bus.specs.declared.Arrival.{Arrival}
@@ -33,7 +34,6 @@ use Rattle.scenario.proofs.Sound.{Sound, sound}
 use Rattle.scenario.proofs.Written.{accepted-only}
 use Rattle.listing.specs.Text.{refusalText}
 use Rattle.listing.specs.Run.{Left, after, admitDue, answersOf}
-use Rattle.listing.proofs.Keeping.{next-stands}
 
 -- ---- the clock
 

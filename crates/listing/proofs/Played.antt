@@ -16,6 +16,7 @@ use Rattle.rules.specs.Probe as Probe
 use Rattle.rules.specs.Step.{step}
 use Rattle.rules.specs.Engine.{admission, one-step}
 use Rattle.rules.proofs.Laws.{clash}
+use Rattle.rules.proofs.Reach.{next-stands}
 use Rattle.bus.specs.declared.State.{State}
 use Rattle.bus.specs.declared.Arrival.{Arrival}
 use Rattle.bus.specs.State.{form}
@@ -27,7 +28,6 @@ use Rattle.bus.proofs.Promises.{answer-read}
 use Rattle.listing.specs.Text.{refusalText, droppedText, probedText}
 use Rattle.listing.specs.Run.{Left, admitDue, runText}
 use Rattle.listing.specs.Turns.{Play, reportText, reportsText, courseOf}
-use Rattle.listing.proofs.Keeping.{next-stands}
 
 -- ---- what a stretch takes and leaves
 

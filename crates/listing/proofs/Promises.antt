@@ -49,10 +49,10 @@ never-refused = NeverRefused.never-refused-bytes
 pub worked : listing worked-input ≡ worked-output
 worked = Worked.worked
 
--- and one whose arrivals come later
-pub timed : listing timed-input ≡ timed-output
-timed = Worked.timed
-
 -- it is a good scenario, so that the premises above and those of the reader's theorems are met
 pub worked-good : (worked-input ≡ written worked-request worked-arrivals 14) × Good worked-request worked-arrivals 14
 worked-good = Worked.worked-good
+
+-- an example whose arrivals come later
+pub timed : listing timed-input ≡ timed-output
+timed = Worked.timed

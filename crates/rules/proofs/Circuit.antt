@@ -11,15 +11,16 @@ use borrow.Author.Tests.{eqb-true, eqb-false, eq-eqb, ne-eqb, le-ltb, lt-ltb}
 use Rattle.window.specs.declared.Side.{Side}
 use Rattle.window.specs.declared.Side.the-variants.{Left, Right}
 use Rattle.window.specs.Splitting.{moveRight}
-use Rattle.rules.specs.Lists.{keep, Among, at-head, Some}
+use Rattle.rules.specs.Lists.{keep, Among, at-head, All, Some}
 use Rattle.rules.specs.Bus.{late, RTDG, RTVC, code, Packet, Station, Contention, Bus}
 use Rattle.rules.specs.Standing.{Rising, Standing}
 use Rattle.rules.specs.Admission.{Arrival, named, newPacket, queued, joined, withPacket}
-use Rattle.rules.specs.Begin.{goes-before, chosen, choice, sits-out, offers, inTime, entered, begin, parameterOf}
+use Rattle.rules.specs.Begin.{chosen, choice, sits-out, offers, inTime, entered, begin, parameterOf}
 use Rattle.rules.specs.Probe.{Answer, Contender, contenderOf, able, transmits, transmitters, goesOn, withdrawn, unwon, left, lastWinner, won, split, unheard, heard, success, idle}
 use Rattle.rules.specs.Step.{openedBy, opened, stepRefusal, step}
 use Rattle.rules.specs.Demands.{contendersAt, Ahead, Least, sends}
-use Rattle.rules.proofs.Laws.{true-and, among-none, keep-all, keep-from, count-some, map-into, map-map, map-same}
+use Rattle.rules.proofs.Laws.{true-and, among-none, all-cons, all-nil, keep-all, keep-from, count-some, map-into, map-map, map-same}
+use Rattle.rules.proofs.Offers.{ChosenOf, chosen-first}
 use Rattle.rules.proofs.Numbers.{same-apart}
 use Rattle.rules.proofs.Contenders.{contender-from, contender-into, joined-alike, same-address, same-capability}
 use Rattle.rules.proofs.Enabled.{Enabled, opened-enabled}
@@ -31,27 +32,17 @@ use Rattle.rules.proofs.Round.{above}
 
 -- ---- the oldest packet is the one offered
 
--- the packet chosen of a rising queue comes after what stands before the queue
-choice-above : (n m : ℕ) (queue : List Packet) (p : Packet) → Rising n m queue → choice RTVC queue ≡ some p → n < p .number
-choice-above n m [] p h e = let z : _≡_ {A = ℕ} 0 1 = cc in absurd (omega arith)
-choice-above n m (q ∷ queue) p h e = go (choice RTVC queue) refl e (choice-above (q .number) m queue)
-  where
-    some-of-two : (t : Bool) (q′ : Packet) → q .number < q′ .number → some (cond t q′ q) ≡ some p → n < p .number
-    some-of-two true q′ l f = let g : q′ ≡ p = cc in let k = ap (λ (r : Packet). r .number) g in let a = h .0 in omega arith
-    some-of-two false q′ l f = let g : q ≡ p = cc in let k = ap (λ (r : Packet). r .number) g in let a = h .0 in omega arith
-
-    go :
-        (c : Option Packet) → choice RTVC queue ≡ c → chosen RTVC q c ≡ some p
-        → ((q′ : Packet) → Rising (q .number) m queue → choice RTVC queue ≡ some q′ → q .number < q′ .number) → n < p .number
-    go none f g more = let k : q ≡ p = cc in let j = ap (λ (r : Packet). r .number) k in let a = h .0 in omega arith
-    go (some q′) f g more = some-of-two (goes-before RTVC q′ q) q′ (more q′ (h .1) f) g
+-- the packets of a rising queue come after what stands before it
+above-all : (n m : ℕ) (queue : List Packet) → Rising n m queue → All (λ p. n < p .number) queue
+above-all n m [] h = all-nil (λ p. n < p .number)
+above-all n m (p ∷ queue) h = let l = h .0 in all-cons p l (λ q i. let k = above-all (p .number) m queue (h .1) q i in omega arith)
 
 oldest-chosen : (n m : ℕ) (p : Packet) (rest : List Packet) → Rising n m (p ∷ rest) → choice RTVC (p ∷ rest) ≡ some p
-oldest-chosen n m p rest h = go (choice RTVC rest) refl
+oldest-chosen n m p rest h = go (choice RTVC rest) (chosen-first RTVC rest)
   where
-    go : (c : Option Packet) → choice RTVC rest ≡ c → chosen RTVC p c ≡ some p
+    go : (c : Option Packet) → ChosenOf RTVC rest c → chosen RTVC p c ≡ some p
     go none e = refl
-    go (some q) e = let l = choice-above (p .number) m rest q (h .1) e in rw (le-ltb (q .number) (p .number) (omega arith))
+    go (some q) e = let l = above-all (p .number) m rest (h .1) q (e .0) in rw (le-ltb (q .number) (p .number) (omega arith))
 
 -- opening a contention leaves the last winner
 opened-last : (b : Bus) → opened b .bus .last ≡ b .last

@@ -22,7 +22,7 @@ use Rattle.rules.specs.Begin.{sits-out}
 use Rattle.rules.specs.Probe.{Answer, success, idle}
 use Rattle.rules.specs.Step.{stepRefusal, step}
 use Rattle.rules.specs.Engine.{Engine, machine, Call, admission, one-step, next, reach, answers}
-use Rattle.rules.specs.Demands.{Demand2, mostProbes, slotsOf, contentionsIn, idleContentionsIn, slotsIn, longestIn, sends, upTo, Waiting, Served, Serves, Demand3, ServedSooner, ServesSooner, SoonerThanDemand3}
+use Rattle.rules.specs.Demands.{Demand2, mostProbes, slotsOf, contentionsIn, idleContentionsIn, slotsIn, longestIn, sends, upTo, CircuitWaits, Served, Serves, Demand3, ServedSooner, ServesSooner, SoonerThanDemand3}
 use Rattle.rules.proofs.Laws.{clash, or-false, map-into}
 use Rattle.rules.proofs.Reach.{Does, refuses, admits, holds, probes-one, does, standing-reached, after-more, answers-agree}
 use Rattle.rules.proofs.Least.{Cleared, cleared-reached}
@@ -259,7 +259,7 @@ module _ (circuits : List ℕ) (D : ℕ) (s : Station) (p : Packet) (own : Among
 -- ---- the demand
 
 -- a circuit with a packet, as a contention begins
-waits-first : {said : List Answer} (b : Bus) (s : Station) (p : Packet) → Waiting b s p said → Waits (map (λ t. t .capability) (b .stations)) (b .D) s p b
+waits-first : {said : List Answer} (b : Bus) (s : Station) (p : Packet) → CircuitWaits b s p said → Waits (map (λ t. t .capability) (b .stations)) (b .D) s p b
 waits-first b s p h =
     record {
       by-circuit = h .by-circuit;
@@ -313,7 +313,7 @@ bit-most true = omega arith
 bit-most false = omega arith
 
 -- a circuit that waits on a reached bus
-module _ (b : Bus) (r : Reached b) (later : List Call) (s : Station) (p : Packet) (h : Waiting b s p (answers machine b later)) where
+module _ (b : Bus) (r : Reached b) (later : List Call) (s : Station) (p : Packet) (h : CircuitWaits b s p (answers machine b later)) where
   abbrev circuits : List ℕ
   circuits = map (λ t. t .capability) (b .stations)
 

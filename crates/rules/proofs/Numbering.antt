@@ -4,14 +4,14 @@ use mathlib.Core.Path.{_≡_, refl, sym, ap, _∙_, subst}
 use mathlib.Core.List.{List, [], _∷_}
 use native.Mathlib.Omega.{arith}
 use borrow.Author.Tests.{ne-eqb}
-use Rattle.rules.specs.Lists.{total}
+use Rattle.rules.specs.Lists.{total, countUp}
 use Rattle.rules.specs.Bus.{Bus}
 use Rattle.rules.specs.SetUp.{Request, setUp}
 use Rattle.rules.specs.Admission.{Admitted}
 use Rattle.rules.specs.Probe.{Answer}
 use Rattle.rules.specs.Step.{step}
 use Rattle.rules.specs.Engine.{Engine, machine, Call, admission, one-step, Reply, admitted, stepped, reply, next, replies}
-use Rattle.rules.specs.Demands.{Demand2, adds-admitted, numberIn, numbersAnswered, countUp, NumbersAreAnswers, QueuedAsAnswered}
+use Rattle.rules.specs.Demands.{Demand2, adds-admitted, numbersAnswered, NumbersAreAnswers, QueuedAsAnswered}
 use Rattle.rules.proofs.Standing.{accepted-admission, admit-is}
 use Rattle.rules.proofs.Reach.{Does, refuses, admits, holds, probes-one, does, replies-agree}
 use Rattle.rules.proofs.Counts.{step-rise, fresh-zero}
@@ -21,7 +21,9 @@ abbrev Counting : ℕ → List Reply → Type 0
 Counting n rs = numbersAnswered rs ≡ countUp (suc n) (total adds-admitted rs)
 
 -- a reply that is no accepted admission, and the replies after it
-not-counted : {n m : ℕ} (r : Reply) (rs : List Reply) → adds-admitted r ≡ 0 → numberIn r (numbersAnswered rs) ≡ numbersAnswered rs → m ≡ n → Counting m rs → Counting n (r ∷ rs)
+not-counted :
+    {n m : ℕ} (r : Reply) (rs : List Reply) → adds-admitted r ≡ 0 → numbersAnswered (r ∷ rs) ≡ numbersAnswered rs → m ≡ n → Counting m rs
+    → Counting n (r ∷ rs)
 not-counted {n} r rs none same e h =
     let sum : total adds-admitted rs ≡ adds-admitted r + total adds-admitted rs = omega arith in
     same ∙ h ∙ ap (λ k. countUp (suc k) (total adds-admitted rs)) e ∙ ap (countUp (suc n)) sum

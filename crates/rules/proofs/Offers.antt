@@ -1,5 +1,5 @@
 -- What a station offers as a contention begins: of its packets in time the one that goes before every other. Assumes nothing.
-use Prim.Native.Nat.{_≤_, _<_}
+use Prim.Native.Nat.{ℕ, _≤_, _<_}
 use mathlib.Core.Path.{_≡_, refl, sym, _∙_, subst}
 use mathlib.Core.Logic.{_⊎_, inl, inr}
 use mathlib.Core.Bool.{Bool, true, false, not, cond}
@@ -10,9 +10,9 @@ use Rattle.rules.specs.Lists.{keep, Among, at-head, in-tail, All}
 use Rattle.rules.specs.Bus.{Discipline, PRI, RTDG, RTVC, Packet, late, Offer, Station, Bus}
 use Rattle.rules.specs.Conditions.{Late}
 use Rattle.rules.specs.Begin.{smaller, goes-before, chosen, choice, parameterOf, sits-out, offers, inTime}
-use Rattle.rules.specs.Demands.{Smaller, Before, Offered, OffersBy, OffersTheFirst}
+use Rattle.rules.specs.Demands.{Smaller, Before, SitsOut, Offered, OffersBy, OffersTheFirst}
 use Rattle.rules.proofs.Laws.{clash, among-none, all-cons, all-nil, keep-from, keep-into}
-use Rattle.rules.proofs.Tests.{Whether, holds, fails, stable, tells, told, negated, both, one-of, below, equal}
+use Rattle.rules.proofs.Tests.{Whether, holds, fails, stable, tells, told, negated, both, one-of, below, at-most, equal}
 use Rattle.rules.proofs.Standing.{late-whether}
 
 -- ---- the order of offers: the test tells which of two goes before the other, and the order can be chained
@@ -69,11 +69,11 @@ before-chained RTVC p q r a b = omega arith
 -- ---- the packet chosen
 
 -- of these packets p goes before every other; there is no choice among none
-abbrev ChosenOf : Discipline → List Packet → Option Packet → Type 0
+abbrev pub ChosenOf : Discipline → List Packet → Option Packet → Type 0
 ChosenOf d queue none = queue ≡ []
 ChosenOf d queue (some p) = Among p queue × All (Before d p) queue
 
-chosen-first : (d : Discipline) (queue : List Packet) → ChosenOf d queue (choice d queue)
+pub chosen-first : (d : Discipline) (queue : List Packet) → ChosenOf d queue (choice d queue)
 chosen-first d [] = refl
 chosen-first d (p ∷ queue) = go (choice d queue) (chosen-first d queue)
   where
@@ -88,6 +88,13 @@ chosen-first d (p ∷ queue) = go (choice d queue) (chosen-first d queue)
     go (some q) h = of-two q (goes-before d q p) (before-tells d q p) h
 
 -- ---- what a station offers
+
+-- the test of who sits out, and the condition
+sits-whether : (d : Discipline) (last : Option ℕ) (capability : ℕ) → Whether (SitsOut d last capability) (sits-out d last capability)
+sits-whether PRI last capability = fails (λ h. h)
+sits-whether RTDG last capability = fails (λ h. h)
+sits-whether RTVC none capability = fails (λ h. h)
+sits-whether RTVC (some winner) capability = at-most capability winner
 
 module _ (b : Bus) (s : Station) where
   -- a packet is in time, by the test and by the condition
@@ -105,16 +112,19 @@ module _ (b : Bus) (s : Station) where
       own : Among p (s .queue) × (not (late (b .discipline) (b .clock) (p .value)) ≡ true)
       own = keep-from (λ q. not (late (b .discipline) (b .clock) (q .value))) (s .queue) (h .0)
 
+      sitting : Whether (SitsOut (b .discipline) (b .last) (s .capability)) (sits-out (b .discipline) (b .last) (s .capability))
+      sitting = sits-whether (b .discipline) (b .last) (s .capability)
+
       go :
           (t : Bool) → sits-out (b .discipline) (b .last) (s .capability) ≡ t
           → OffersBy b s (cond t none (some (record { parameter = parameterOf (b .discipline) b s p; packet = p })))
-      go true e = inr e
+      go true e = inr (tells sitting e)
       go false e =
           record {
             own = own .0;
             in-time = tells (in-time p) (own .1);
             first = λ q i n. h .1 q (keep-into _ (s .queue) i (told (in-time q) n));
-            takes-part = e;
+            takes-part = λ out. clash (told sitting out) e;
             parameter = refl;
           }
 

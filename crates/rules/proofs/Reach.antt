@@ -66,6 +66,13 @@ module _ (P : Bus → Type 0) (keeps : Keeps P) where
   after-keeps b [] h p = (h, p)
   after-keeps b (c ∷ calls) h p = let k = next-keeps b c h p in after-keeps (next machine b c) calls (k .0) (k .1)
 
+-- whatever is called, a bus that stands goes on standing
+anything : Keeps (λ b. Unit {0})
+anything = record { at-set-up = λ r z. tt; at-admission = λ b a h p z. tt; at-step = λ b h p z. tt }
+
+pub next-stands : (b : Bus) → Standing b → (c : Call) → Standing (next machine b c)
+next-stands b h c = next-keeps (λ b. Unit {0}) anything b c h tt .0
+
 -- what a refused set-up hands back stays as it is, whatever is called
 nothing-next : (c : Call) → next machine nothing c ≡ nothing
 nothing-next (admission a) = refl
@@ -92,8 +99,7 @@ accepted-or-nothing r calls = go (eqb (setUpVerdict r .refusal) 0) refl
         inr (ap (λ b. after machine b calls) (handsBack .set-up r (eqb-false (setUpVerdict r .refusal) 0 e)) ∙ nothing-stays calls)
 
 pub reachedStands : ReachedStands
-reachedStands r calls z =
-    accepted-keeps (λ b. Unit {0}) (record { at-set-up = λ r z. tt; at-admission = λ b a h p z. tt; at-step = λ b h p z. tt }) r calls z .0
+reachedStands r calls z = accepted-keeps (λ b. Unit {0}) anything r calls z .0
 
 pub standing-reached : (r : Request) (calls : List Call) → Standing (reach machine r calls) ⊎ (reach machine r calls ≡ nothing)
 standing-reached r calls = go (accepted-or-nothing r calls)

@@ -43,6 +43,7 @@ admission-recorded b a = go a (does b (admission a))
 pub contendersStay : ContendersStay
 contendersStay =
     record {
+      begins = λ b e. ap (λ (o : Option Contention). contenders (openedBy b o .bus .stations)) e;
       admission = admission-recorded;
       under-way = λ b c e. ap (λ (o : Option Contention). contenders (openedBy b o .bus .stations)) e;
       goes-on = λ b z e. step-recorded b z .goes-on e;

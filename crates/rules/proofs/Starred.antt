@@ -47,11 +47,11 @@ orders-hold : failingFrom computes 29 orders ≡ none
 unfolding computes exponentOf isPower
 orders-hold = refl
 
-edges-hold : failingFrom computes 32 edges ≡ none
+edges-hold : failingFrom computes 33 edges ≡ none
 unfolding computes exponentOf isPower
 edges-hold = refl
 
-bounds-hold : failingFrom computes 48 bounds ≡ none
+bounds-hold : failingFrom computes 51 bounds ≡ none
 unfolding computes exponentOf isPower
 bounds-hold = refl
 
@@ -60,4 +60,4 @@ pub starred : firstFailing ≡ none
 starred =
     ap (λ holding. failingFrom holding 1 table) (fun-ext rewritten)
     ∙ both-hold 1 29 settled (orders ++ (edges ++ bounds)) refl settled-hold
-    (both-hold 29 32 orders (edges ++ bounds) refl orders-hold (both-hold 32 48 edges bounds refl edges-hold bounds-hold))
+    (both-hold 29 33 orders (edges ++ bounds) refl orders-hold (both-hold 33 51 edges bounds refl edges-hold bounds-hold))

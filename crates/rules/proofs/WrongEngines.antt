@@ -1,5 +1,5 @@
--- Demand 2 rules out each wrong engine of specs/WrongEngines.antt, by a script of calls to which its replies are not the machine's; and
--- demand 3 rules out the one that names the first station. Assumes nothing.
+-- Demand 2 rules out each wrong engine of specs/WrongEngines.antt, by a script of calls to which its replies are not the machine's; demand 3
+-- rules out the one that names the first station, and that numbers are answers the one that answers one too low. Assumes nothing.
 use Prim.Native.Nat.{ℕ, suc, _+_}
 use mathlib.Core.Path.{_≡_, refl, sym, ap, _∙_}
 use mathlib.Core.Option.{none}

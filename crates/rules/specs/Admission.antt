@@ -35,9 +35,13 @@ admissionTests b a =
 abbrev pub admissionRefusal : Bus → Arrival → ℕ
 admissionRefusal b a = firstOf 0 (admissionTests b a)
 
+-- the packet that an arrival asks for, with a number
+abbrev pub numbered : Arrival → ℕ → Packet
+numbered a n = record { number = n; value = a .value; length = a .length }
+
 -- 'An accepted packet is numbered 1, 2, 3 and so on.'
 abbrev pub newPacket : Bus → Arrival → Packet
-newPacket b a = record { number = suc (b .admitted); value = a .value; length = a .length }
+newPacket b a = numbered a (suc (b .admitted))
 
 -- the packet goes to the end of its station's queue; 'a packet admitted while a contention is under way does not join it'
 abbrev pub queued : Packet → Station → Station

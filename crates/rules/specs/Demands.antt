@@ -1,25 +1,25 @@
 -- The demands, and what else paper 01 promises of its machine, as statements. The theorems that prove them bear the same names
 -- in small letters, in proofs/. `r` is a set-up as asked for, `calls` are the calls after it, `later` are the calls after those.
 -- Assumes nothing.
-use Prim.Native.Nat.{ℕ, zero, suc, _+_, _-_, _*_, _≤_, _<_, max}
+use Prim.Native.Nat.{ℕ, suc, _+_, _-_, _*_, _≤_, _<_, max}
 use mathlib.Core.Path.{_≡_}
 use mathlib.Core.Logic.{_⊎_, _↔_}
-use mathlib.Core.Bool.{Bool, true, false, _&&_, cond}
+use mathlib.Core.Bool.{Bool, true, _&&_, cond}
 use mathlib.Core.Option.{Option, none, some}
 use mathlib.Core.List.{List, [], _∷_, map}
 use lib.Dec.{eqb}
 use lib.ListN.{length}
 use Rattle.window.specs.Splitting.{exponentOf}
-use Rattle.rules.specs.Lists.{bit, kept, count, some-of, total, Among, All, Distinct}
+use Rattle.rules.specs.Lists.{bit, keep, count, some-of, total, countUp, Among, All, Distinct}
 use Rattle.rules.specs.Bus.{Discipline, PRI, RTDG, RTVC, Packet, Offer, Station, Contention, Bus, nothing, waiting}
 use Rattle.rules.specs.SetUp.{Request, setUp}
 use Rattle.rules.specs.Standing.{stands, Standing}
-use Rattle.rules.specs.Admission.{Arrival, queued, admit}
-use Rattle.rules.specs.Begin.{parameterOf, sits-out, entered}
+use Rattle.rules.specs.Admission.{Arrival, numbered, queued, admit}
+use Rattle.rules.specs.Begin.{parameterOf, entered}
 use Rattle.rules.specs.Conditions.{Late}
 use Rattle.rules.specs.Probe.{Answer, Contender, able, contenders, transmitters, idle, collision, success, refusedAnswer}
 use Rattle.rules.specs.Step.{opened, step}
-use Rattle.rules.specs.Engine.{Engine, machine, Call, admission, Reply, admitted, stepped, replies, reach, answers}
+use Rattle.rules.specs.Engine.{Engine, machine, Call, Reply, admitted, stepped, replies, reach, admissionsIn, answers}
 
 -- ---- demand 2
 
@@ -70,7 +70,7 @@ pub record Heard (n : ℕ) (event : ℕ) : Type 0 where
 abbrev pub NoFalseWin : Type 0
 NoFalseWin = (b : Bus) → step b .0 .refusal ≡ 0 → Heard (length (transmittersAt b)) (step b .0 .event)
 
--- and so does any engine's, in reached states
+-- and, of an engine, its event in reached states
 abbrev pub EventsAreTrue : Engine → Type 0
 EventsAreTrue E =
     (r : Request) (calls : List Call) → E .step (reach E r calls) .0 .refusal ≡ 0
@@ -116,27 +116,36 @@ Before PRI p p′ = Smaller p p′
 Before RTDG p p′ = Smaller p p′
 Before RTVC p p′ = p .number ≤ p′ .number
 
+-- 'if no circuit has won in this round or the capability is above the last winner's; otherwise the station sits out'
+abbrev pub SitsOut : Discipline → Option ℕ → ℕ → Type 0
+SitsOut PRI last capability = ⊥
+SitsOut RTDG last capability = ⊥
+SitsOut RTVC none capability = ⊥
+SitsOut RTVC (some winner) capability = capability ≤ winner
+
 -- The packet offered is one of the station's, it is in time, and it goes before every other that is in time; the parameter goes by it.
 pub record Offered (b : Bus) (s : Station) (o : Offer) : Type 0 where
   pub own : Among (o .packet) (s .queue)
   pub in-time : ¬ Late (b .discipline) (b .clock) (o .packet .value)
   pub first : All (λ p. ¬ Late (b .discipline) (b .clock) (p .value) → Before (b .discipline) (o .packet) p) (s .queue)
-  pub takes-part : sits-out (b .discipline) (b .last) (s .capability) ≡ false
+  pub takes-part : ¬ SitsOut (b .discipline) (b .last) (s .capability)
   pub parameter : o .parameter ≡ parameterOf (b .discipline) b s (o .packet)
 
 -- 'Each station then offers one packet', or none: then all that it has are late, or it sits out
 abbrev pub OffersBy : Bus → Station → Option Offer → Type 0
 OffersBy b s none =
-    All (λ p. Late (b .discipline) (b .clock) (p .value)) (s .queue) ⊎ (sits-out (b .discipline) (b .last) (s .capability) ≡ true)
+    All (λ p. Late (b .discipline) (b .clock) (p .value)) (s .queue) ⊎ SitsOut (b .discipline) (b .last) (s .capability)
 OffersBy b s (some o) = Offered b s o
 
--- what each station offers as a contention begins, in any state whatever
+-- what each station offers as a contention begins (`begins`, below), in any state whatever
 abbrev pub OffersTheFirst : Type 0
 OffersTheFirst = (b : Bus) (s : Station) → OffersBy b s (entered b s .offer)
 
 -- 'Contenders stay recorded until the contention ends', each with its packet and its parameter, which 'is fixed for the whole contention'; and 'a
 -- packet admitted while a contention is under way does not join it'.
 pub record ContendersStay : Type 0 where
+  -- a step that begins a contention probes among what all stations offer
+  pub begins : (b : Bus) → b .contention ≡ none → contendersAt b ≡ contenders (map (entered b) (b .stations))
   pub admission : (b : Bus) (a : Arrival) → contenders (admit b a .1 .stations) ≡ contenders (b .stations)
   -- a step in a contention under way probes among the contenders recorded
   pub under-way : (b : Bus) (c : Contention) → b .contention ≡ some c → contendersAt b ≡ contenders (b .stations)
@@ -201,18 +210,8 @@ CountsAreTrue E = (r : Request) (calls : List Call) → Counted (reach machine r
 -- ---- numbers
 
 -- the numbers that accepted admissions were answered with, in the order of the replies
-abbrev pub numberIn : Reply → List ℕ → List ℕ
-numberIn (admitted a) rest = kept (eqb (a .refusal) 0) (a .number) rest
-numberIn (stepped a) rest = rest
-
 abbrev pub numbersAnswered : List Reply → List ℕ
-numbersAnswered [] = []
-numbersAnswered (r ∷ rest) = numberIn r (numbersAnswered rest)
-
--- n numbers, each one more than the one before it
-abbrev pub countUp : ℕ → ℕ → List ℕ
-countUp first zero = []
-countUp first (suc n) = first ∷ countUp (suc first) n
+numbersAnswered rs = map (λ a. a .number) (keep (λ a. eqb (a .refusal) 0) (admissionsIn rs))
 
 -- 'An accepted packet is numbered 1, 2, 3 and so on; the number is the answer': counted over all replies since set-up, the k-th accepted
 -- admission answers k.
@@ -220,10 +219,6 @@ abbrev pub NumbersAreAnswers : Engine → Type 0
 NumbersAreAnswers E =
     (r : Request) (calls : List Call)
     → numbersAnswered (replies E (E .setUp r .1) calls) ≡ countUp 1 (total adds-admitted (replies E (E .setUp r .1) calls))
-
--- the packet that an arrival asks for, with a number
-abbrev pub numbered : Arrival → ℕ → Packet
-numbered a n = record { number = n; value = a .value; length = a .length }
 
 -- and the packet that an accepted admission queues, at the station of that full address alone, bears the number that was answered
 abbrev pub QueuedAsAnswered : Type 0
@@ -247,7 +242,7 @@ mostSlots N L P = N * (2 * L - 1 + P) + 1
 
 -- N × (2L − 1 + P) slots: one fewer than demand 3 asks for
 abbrev pub fewerSlots : ℕ → ℕ → ℕ → ℕ
-fewerSlots N L P = N * (2 * L - 1 + P)
+fewerSlots N L P = mostSlots N L P - 1
 
 -- contentions that ended among answers, and those that ended idle
 abbrev pub contentionsIn : List Answer → ℕ
@@ -275,7 +270,7 @@ upTo says [] = []
 upTo says (a ∷ said) = a ∷ cond (says a) [] (upTo says said)
 
 -- A circuit s that waits with its oldest packet p on the bus b, and what is `said` to the steps from there on: demand 3's premises.
-pub record Waiting (b : Bus) (s : Station) (p : Packet) (said : List Answer) : Type 0 where
+pub record CircuitWaits (b : Bus) (s : Station) (p : Packet) (said : List Answer) : Type 0 where
   -- 'Under RTVC'
   pub by-circuit : b .discipline ≡ RTVC
   -- 'if a circuit has a packet': p is the oldest, the first of its queue
@@ -299,7 +294,7 @@ pub record Served (N L : ℕ) (s : Station) (p : Packet) (said : List Answer) : 
 
 -- whoever waits on the bus b is served: N is the number of its circuits, L the number of halvings of the first window of D
 abbrev pub Serves : Bus → List Answer → Type 0
-Serves b said = (s : Station) (p : Packet) → Waiting b s p said → Served (length (b .stations)) (exponentOf (b .D)) s p said
+Serves b said = (s : Station) (p : Packet) → CircuitWaits b s p said → Served (length (b .stations)) (exponentOf (b .D)) s p said
 
 -- 'Under RTVC with N circuits, from any state reached from set-up ..'. The bus is the machine's after these calls, and the answers are the
 -- engine's, after the same calls, to the steps among `later`. 'Other stations may admit as they like': any calls may stand there.
@@ -314,7 +309,7 @@ pub record ServedSooner (N L : ℕ) (s : Station) (p : Packet) (said : List Answ
   pub ends-in-time : (P : ℕ) → p .length ≤ P → longestIn said ≤ P → fewerSlots N L P ≤ slotsIn said → some-of (sends s p) said ≡ true
 
 abbrev pub ServesSooner : Bus → List Answer → Type 0
-ServesSooner b said = (s : Station) (p : Packet) → Waiting b s p said → ServedSooner (length (b .stations)) (exponentOf (b .D)) s p said
+ServesSooner b said = (s : Station) (p : Packet) → CircuitWaits b s p said → ServedSooner (length (b .stations)) (exponentOf (b .D)) s p said
 
 -- the same for engines
 abbrev pub SoonerThanDemand3 : Engine → Type 0

@@ -59,6 +59,15 @@ abbrev pub stepsIn : List Reply → List Answer
 stepsIn [] = []
 stepsIn (r ∷ rest) = stepIn r (stepsIn rest)
 
+-- the answers to the admissions among replies
+abbrev pub admissionIn : Reply → List Admitted → List Admitted
+admissionIn (admitted a) rest = a ∷ rest
+admissionIn (stepped a) rest = rest
+
+abbrev pub admissionsIn : List Reply → List Admitted
+admissionsIn [] = []
+admissionsIn (r ∷ rest) = admissionIn r (admissionsIn rest)
+
 -- the answers to the steps among calls, from a state
 abbrev pub answers : (E : Engine) → E .State → List Call → List Answer
 answers E s calls = stepsIn (replies E s calls)

@@ -1,13 +1,15 @@
--- The starred examples of paper 01 ('Settled examples') as one table over the definitions, with a few rows more on its traps and on open
--- points that docs/DECISIONS.md settles. Each row quotes its line. proofs/Starred.antt proves that no row fails. Assumes nothing.
+-- The starred examples of paper 01 ('Settled examples') as one table over the definitions, with rows on its traps, on open points that
+-- docs/DECISIONS.md settles, on the order of offers, at the edges of the ranges, and where the bounds are met. Each row quotes its line.
+-- proofs/Starred.antt proves that no row fails. Assumes nothing.
 use Prim.Native.Nat.{ℕ, zero, suc}
 use mathlib.Core.Bool.{Bool, true, false, not, _&&_, cond}
 use mathlib.Core.Option.{Option, none, some}
-use mathlib.Core.List.{List, [], _∷_, _++_}
+use mathlib.Core.List.{List, [], _∷_, _++_, map}
 use lib.Dec.{leb, eqb}
 use lib.ListN.{length, drop}
 use Rattle.window.specs.declared.Side.the-variants.{Right}
 use Rattle.window.specs.Splitting.{exponentOf, firstWindow, sameSide}
+use Rattle.rules.specs.Lists.{countUp}
 use Rattle.rules.specs.Bus.{Discipline, PRI, RTDG, RTVC, code, Packet, late, Station, Contention, Bus}
 use Rattle.rules.specs.SetUp.{Asked, Request, freshStation, setUp}
 use Rattle.rules.specs.Standing.{stands}
@@ -15,7 +17,7 @@ use Rattle.rules.specs.Admission.{Admitted, admissionRefusal, admit}
 use Rattle.rules.specs.Begin.{parameterOf}
 use Rattle.rules.specs.Probe.{withdrawn, parameter-phase, tie-phase, idle, collision, success, Answer}
 use Rattle.rules.specs.Step.{stepRefusal, step}
-use Rattle.rules.specs.Engine.{machine, Call, admission, one-step, Reply, admitted, stepped, replies, stepsIn}
+use Rattle.rules.specs.Engine.{machine, Call, admission, one-step, Reply, replies, stepsIn, admissionsIn}
 use Rattle.rules.specs.Demands.{probes, mostProbes, contentionsIn, idleContentionsIn, slotsIn, sends, upTo, mostContentions, most-idle, mostSlots, fewerSlots}
 
 -- ---- rows
@@ -140,24 +142,15 @@ same-answers (e ∷ expected) (a ∷ said) = same-answer e a && same-answers exp
 abbrev pub are : List Answer → List Reply → Bool
 are expected rs = same-answers expected (stepsIn rs)
 
--- ---- words for admissions: accepted with a number, refused with a number of the table
+-- ---- words for the answers to admissions: accepted with a number, refused with a number of the table
 
-abbrev pub A : ℕ → Admitted
-A number = record { refusal = 0; number = number }
+abbrev pub taken : ℕ → Admitted
+taken number = record { refusal = 0; number = number }
 
-abbrev pub R : ℕ → Admitted
-R refusal = record { refusal = refusal; number = 0 }
+abbrev pub refused : ℕ → Admitted
+refused refusal = record { refusal = refusal; number = 0 }
 
--- the answers to the admissions among replies
-abbrev pub admissionIn : Reply → List Admitted → List Admitted
-admissionIn (admitted a) rest = a ∷ rest
-admissionIn (stepped a) rest = rest
-
-abbrev pub admissionsIn : List Reply → List Admitted
-admissionsIn [] = []
-admissionsIn (r ∷ rest) = admissionIn r (admissionsIn rest)
-
--- whether they are these
+-- whether they are these, all of them
 abbrev pub same-admissions : List Admitted → List Admitted → Bool
 same-admissions [] [] = true
 same-admissions [] (a ∷ said) = false
@@ -204,8 +197,11 @@ abbrev pub rtdg : ℕ → ℕ → Request
 rtdg D q = record { discipline = code RTDG; D = D; A = 4; q = q; N = 3; row = station 0 0 ∷ station 1 0 ∷ station 2 0 ∷ [] }
 
 -- capabilities 0, 1, 3 at addresses 5, 6, 7
+abbrev pub circuitsIn : ℕ → Request
+circuitsIn D = record { discipline = code RTVC; D = D; A = 8; q = 1; N = 3; row = station 5 0 ∷ station 6 1 ∷ station 7 3 ∷ [] }
+
 abbrev pub circuits : Request
-circuits = record { discipline = code RTVC; D = 4; A = 8; q = 1; N = 3; row = station 5 0 ∷ station 6 1 ∷ station 7 3 ∷ [] }
+circuits = circuitsIn 4
 
 -- addresses 263 and 7, which agree in the lower byte
 abbrev pub apart : Request
@@ -291,17 +287,12 @@ repeated = record { discipline = code PRI; D = 4; A = 8; q = 1; N = 3; row = sta
 
 -- ---- at the edges of the ranges
 
--- n stations, at the addresses from i on
-abbrev pub stationsFrom : ℕ → ℕ → List Asked
-stationsFrom i zero = []
-stationsFrom i (suc n) = station i 0 ∷ stationsFrom (suc i) n
-
 -- what refuses a set-up: of n stations under PRI; of one station by its numbers, address and capability
 abbrev pub refusalOf : Request → ℕ
 refusalOf r = setUp r .0 .refusal
 
 abbrev pub refusalFor : ℕ → ℕ
-refusalFor n = refusalOf (record { discipline = code PRI; D = 2; A = 65_536; q = 1; N = n; row = stationsFrom 0 n })
+refusalFor n = refusalOf (record { discipline = code PRI; D = 2; A = 65_536; q = 1; N = n; row = map (λ address. station address 0) (countUp 0 n) })
 
 abbrev pub alone : Discipline → ℕ → ℕ → ℕ → ℕ → ℕ → Request
 alone d D A q address capability = record { discipline = code d; D = D; A = A; q = q; N = 1; row = station address capability ∷ [] }
@@ -313,15 +304,22 @@ refusalAlone d D A q address capability = refusalOf (alone d D A q address capab
 abbrev pub pairOf : List Asked → Request
 pairOf row = record { discipline = code PRI; D = 2; A = 2; q = 1; N = 2; row = row }
 
+-- by the number of a discipline; of two circuits by their capabilities
+abbrev pub refusalNamed : ℕ → ℕ
+refusalNamed discipline = refusalOf (record { discipline = discipline; D = 2; A = 2; q = 1; N = 1; row = station 0 0 ∷ [] })
+
+abbrev pub twoCircuits : ℕ → ℕ → Request
+twoCircuits capability capability′ =
+    record { discipline = code RTVC; D = 2; A = 2; q = 1; N = 2; row = station 0 capability ∷ station 1 capability′ ∷ [] }
+
 -- n arrivals of length 1 at address 0
 abbrev pub arrivals : ℕ → List Call
 arrivals zero = []
 arrivals (suc n) = arrives 0 0 1 ∷ arrivals n
 
 -- so many admissions accepted, numbered from here on
-abbrev pub acceptedFrom : ℕ → ℕ → List Admitted
-acceptedFrom number zero = []
-acceptedFrom number (suc n) = A number ∷ acceptedFrom (suc number) n
+abbrev pub takenFrom : ℕ → ℕ → List Admitted
+takenFrom number n = map taken (countUp number n)
 
 -- PRI, D 4, A 8, station 0 without a packet, when so many packets have been admitted and sent
 abbrev pub sentAll : ℕ → Bus
@@ -425,7 +423,7 @@ settled =
     ∷ script listing run (λ rs. are output rs && eqb (probes (stepsIn rs)) 8 && eqb (probes (drop 8 (stepsIn rs))) 4)
     ∷ []
 
--- which packet a station offers
+-- which packet a station offers, and which station goes before which
 abbrev pub orders : List Row
 orders =
     -- 29, 30: 'PRI and RTDG the smallest value, the lowest packet number among equals', of three packets in one queue: the second, the third, the first
@@ -442,13 +440,24 @@ orders =
     circuits
     (arrives 5 0 1 ∷ arrives 5 0 2 ∷ arrives 5 0 3 ∷ steps 5)
     (are (S 0 P 0 4 5 1 1 ∷ I-end 1 P 0 4 ∷ S 2 P 0 4 5 2 2 ∷ I-end 4 P 0 4 ∷ S 5 P 0 4 5 3 3 ∷ []))
+    -- 32: row 14 in a larger space: the round goes on after the top circuit, which is not D - 1
+    ∷ script
+    (circuitsIn 8)
+    (arrives 6 0 1 ∷ steps 1 ++ (arrives 6 0 1 ∷ arrives 7 0 1 ∷ steps 3))
+    (are (S 0 P 0 8 6 1 1 ∷ S 1 P 0 8 7 3 1 ∷ I-end 2 P 0 8 ∷ S 3 P 0 8 6 2 1 ∷ []))
     ∷ []
 
 -- the edges of the ranges, on both sides
 abbrev pub edges : List Row
 edges =
-    -- 32, 33: 'parameter space D', 'address space A: 2 to 65,536'
+    -- 33: 'discipline is not 0 PRI, 1 RTDG, 2 RTVC'
     fact
+    (eqb (refusalNamed 0) 0
+    && eqb (refusalNamed 1) 0
+    && eqb (refusalNamed 2) 0
+    && eqb (refusalNamed 3) 2)
+    -- 34, 35: 'parameter space D', 'address space A: 2 to 65,536'
+    ∷ fact
     (eqb (refusalAlone PRI 1 2 1 0 0) 3
     && eqb (refusalAlone PRI 2 2 1 0 0) 0
     && eqb (refusalAlone PRI 65_536 2 1 0 0) 0
@@ -458,41 +467,36 @@ edges =
     && eqb (refusalAlone PRI 2 2 1 0 0) 0
     && eqb (refusalAlone PRI 2 65_536 1 0 0) 0
     && eqb (refusalAlone PRI 2 65_537 1 0 0) 4)
-    -- 34: 'address: 0 to A - 1'
+    -- 36: 'address: 0 to A - 1'
     ∷ fact (eqb (refusalAlone PRI 2 300 1 299 0) 0 && eqb (refusalAlone PRI 2 300 1 300 0) 7)
-    -- 35: 'capability: RTVC: 0 to D - 1, distinct; otherwise 0'
+    -- 37: 'capability: RTVC: 0 to D - 1, distinct; otherwise 0'
     ∷ fact
     (eqb (refusalAlone RTVC 300 2 1 0 299) 0
     && eqb (refusalAlone RTVC 300 2 1 0 300) 9
     && eqb (refusalAlone PRI 300 2 1 0 1) 9
     && eqb (refusalAlone RTDG 300 2 1 0 1) 9)
-    -- 36: 'laxity step q: RTDG: 1 to 65,535; otherwise exactly 1'
+    -- 38: 'distinct' in RTVC
+    ∷ fact (eqb (refusalOf (twoCircuits 1 1)) 10 && eqb (refusalOf (twoCircuits 0 1)) 0)
+    -- 39: 'laxity step q: RTDG: 1 to 65,535; otherwise exactly 1'
     ∷ fact
     (eqb (refusalAlone RTDG 2 2 0 0 0) 5
     && eqb (refusalAlone RTDG 2 2 1 0 0) 0
     && eqb (refusalAlone RTDG 2 2 65_535 0 0) 0
     && eqb (refusalAlone RTDG 2 2 65_536 0 0) 5)
-    -- 37: the same under the other two
+    -- 40: the same under the other two
     ∷ fact
     (eqb (refusalAlone PRI 2 2 0 0 0) 5
     && eqb (refusalAlone PRI 2 2 2 0 0) 5
     && eqb (refusalAlone RTVC 2 2 0 0 0) 5
     && eqb (refusalAlone RTVC 2 2 1 0 0) 0
     && eqb (refusalAlone RTVC 2 2 2 0 0) 5)
-    -- 38: 'queue: 16 packets a station'; 'The 17th packet gives 15'; 'A place freed by a sent .. packet can be filled again'
-    ∷ script
-    (pri 2)
-    (arrivals 17 ++ (one-step ∷ arrivals 2))
-    (answer (acceptedFrom 1 16 ++ (R 15 ∷ A 17 ∷ R 15 ∷ [])))
-    -- 39: 'or dropped packet': sixteen with latest start 0, which a collision delays and the next contention drops
-    ∷ script (rtdg 2 1) (arrives 1 0 1 ∷ arrivals 16 ++ steps 4 ++ (arrives 0 4 1 ∷ [])) (answer (acceptedFrom 1 18))
-    -- 40: 'packet length: 1 to 4,096 slots'
+    -- 41: 'packet length: 1 to 4,096 slots'
     ∷ fact
     (eqb (refusal listing 1 0 0) 13
     && eqb (refusal listing 1 0 1) 0
     && eqb (refusal listing 1 0 4_096) 0
     && eqb (refusal listing 1 0 4_097) 13)
-    -- 41: 'for PRI, a priority 0 to D - 1'; 'for RTDG .. 0 to 1,073,741,824'; 'for RTVC, 0'
+    -- 42: 'for PRI, a priority 0 to D - 1'; 'for RTDG .. 0 to 1,073,741,824'; 'for RTVC, 0'
     ∷ fact
     (eqb (refusal listing 1 3 1) 0
     && eqb (refusal listing 1 4 1) 12
@@ -500,53 +504,60 @@ edges =
     && eqb (refusal (rtdg 2 1) 1 1_073_741_825 1) 12
     && eqb (refusal circuits 5 0 1) 0
     && eqb (refusal circuits 5 1 1) 12)
-    -- 42: 'RTDG latest start below the present clock'; 'Latest start equal to the clock is admitted'
-    ∷ script (rtdg 2 1) (steps 5 ++ (arrives 1 4 1 ∷ arrives 1 5 1 ∷ [])) (answer (R 14 ∷ A 1 ∷ []))
-    -- 43: 'clock: slots 0 to 1,073,741,824'
+    -- 43: 'RTDG latest start below the present clock'; 'Latest start equal to the clock is admitted'
+    ∷ script (rtdg 2 1) (steps 5 ++ (arrives 1 4 1 ∷ arrives 1 5 1 ∷ [])) (answer (refused 14 ∷ taken 1 ∷ []))
+    -- 44: 'clock: slots 0 to 1,073,741,824'
     ∷ fact (stands (lentAt 1_073_741_824) && not (stands (lentAt 1_073_741_825)))
-    -- 44: 'packets admitted: at most 4,294,967,295'
+    -- 45: 'packets admitted: at most 4,294,967,295'
     ∷ fact
     (eqb (nextNumber 4_294_967_294 .refusal) 0
     && eqb (nextNumber 4_294_967_294 .number) 4_294_967_295
     && eqb (nextNumber 4_294_967_295 .refusal) 16
     && eqb (nextNumber 4_294_967_296 .refusal) 1)
-    -- 45: 'An accepted packet is numbered 1, 2, 3 and so on; the number is the answer', refused ones and a step in between
+    -- 46: 'An accepted packet is numbered 1, 2, 3 and so on; the number is the answer', refused ones and a step in between
     ∷ script
     listing
     (arrives 1 0 1 ∷ arrives 9 0 1 ∷ arrives 5 1 1 ∷ arrives 5 4 1 ∷ one-step ∷ arrives 1 0 1 ∷ [])
-    (answer (A 1 ∷ R 11 ∷ A 2 ∷ R 12 ∷ A 3 ∷ []))
-    -- 46: 'A station row shorter than N gives 6; what stands past N is unread', be it an address at A or one that an earlier station has
+    (answer (taken 1 ∷ refused 11 ∷ taken 2 ∷ refused 12 ∷ taken 3 ∷ []))
+    -- 47: 'A station row shorter than N gives 6; what stands past N is unread', be it an address at A or one that an earlier station has
     ∷ fact
     (eqb (refusalOf (pairOf (station 0 0 ∷ []))) 6
     && eqb (refusalOf (pairOf (station 0 0 ∷ station 1 0 ∷ []))) 0
     && eqb (refusalOf (pairOf (station 0 0 ∷ station 1 0 ∷ station 2 0 ∷ station 0 0 ∷ []))) 0)
-    -- 47: 'stations N: 1 to 64'
+    -- 48: 'queue: 16 packets a station'; 'The 17th packet gives 15'; 'A place freed by a sent .. packet can be filled again'
+    ∷ script
+    (pri 2)
+    (arrivals 17 ++ (one-step ∷ arrivals 2))
+    (answer (takenFrom 1 16 ++ (refused 15 ∷ taken 17 ∷ refused 15 ∷ [])))
+    -- 49: 'or dropped packet': sixteen with latest start 0, which a collision delays and the next contention drops
+    ∷ script (rtdg 2 1) (arrives 1 0 1 ∷ arrivals 16 ++ steps 4 ++ (arrives 0 4 1 ∷ [])) (answer (takenFrom 1 18))
+    -- 50: 'stations N: 1 to 64'
     ∷ fact (eqb (refusalFor 0) 6 && eqb (refusalFor 1) 0 && eqb (refusalFor 64) 0 && eqb (refusalFor 65) 6)
     ∷ []
 
 -- where the bounds are met
 abbrev pub bounds : List Row
 bounds =
-    -- 48: the most probes in RTDG, 2L + 2M + 2: latest starts 3 and 9, of which the first is late when its address is probed
+    -- 51: the most probes in RTDG, 2L + 2M + 2: latest starts 3 and 9, of which the first is late when its address is probed
     script
     (pair RTDG)
     (arrives 0 3 1 ∷ arrives 1 9 1 ∷ steps 6)
     (λ rs.
     are (C 0 P 0 2 ∷ I 1 P 0 1 ∷ C 2 P 1 1 ∷ C 3 T 0 2 ∷ I 4 T 0 1 ∷ S 5 T 1 1 1 2 1 ∷ []) rs
     && eqb (probes (stepsIn rs)) (mostProbes RTDG 1 1))
-    -- 49: the most in PRI, 2L + 2M + 1: both priority 1
+    -- 52: the most in PRI, 2L + 2M + 1: both priority 1
     ∷ script
     (pair PRI)
     (arrives 0 1 1 ∷ arrives 1 1 1 ∷ steps 5)
     (λ rs.
     are (C 0 P 0 2 ∷ I 1 P 0 1 ∷ C 2 P 1 1 ∷ C 3 T 0 2 ∷ S 4 T 0 1 0 1 1 ∷ []) rs
     && eqb (probes (stepsIn rs)) (mostProbes PRI 1 1))
-    -- 50: the most in RTVC, 2L
+    -- 53: the most in RTVC, 2L
     ∷ script
     (pair RTVC)
     (arrives 0 0 1 ∷ arrives 1 0 1 ∷ steps 2)
     (λ rs. are (C 0 P 0 2 ∷ S 1 P 0 1 0 1 1 ∷ []) rs && eqb (probes (stepsIn rs)) (mostProbes RTVC 1 1))
-    -- 51: 'within N + 1 contentions, at most one of them idle': last winner 0, packets at both; that of circuit 0 takes 3, one of them idle
+    -- 54: 'within N + 1 contentions, at most one of them idle': last winner 0, packets at both; that of circuit 0 takes 3, one of them idle
     ∷ script
     (pair RTVC)
     (arrives 0 0 1 ∷ one-step ∷ arrives 0 0 1 ∷ arrives 1 0 1 ∷ steps 3)
@@ -554,7 +565,7 @@ bounds =
     are (S 0 P 0 2 0 1 1 ∷ S 1 P 0 2 1 3 1 ∷ I-end 2 P 0 2 ∷ S 3 P 0 2 0 2 1 ∷ []) rs
     && eqb (contentionsIn (untilSent 1 0 2 rs)) (mostContentions 2)
     && eqb (idleContentionsIn (untilSent 1 0 2 rs)) most-idle)
-    -- 52: 'within N × (2L − 1 + P) + 1 slots', and N × (2L − 1 + P): last winner 1, packets of one slot at both; that of circuit 1 takes 4
+    -- 55: 'within N × (2L − 1 + P) + 1 slots', and N × (2L − 1 + P): last winner 1, packets of one slot at both; that of circuit 1 takes 4
     ∷ script
     (pair RTVC)
     (arrives 1 0 1 ∷ one-step ∷ arrives 0 0 1 ∷ arrives 1 0 1 ∷ steps 4)

@@ -1,5 +1,5 @@
 -- Small words on lists and tests, in which the rules are written. Assumes nothing.
-use Prim.Native.Nat.{ℕ, _+_}
+use Prim.Native.Nat.{ℕ, zero, suc, _+_}
 use mathlib.Core.Path.{_≡_}
 use mathlib.Core.Logic.{_⊎_}
 use mathlib.Core.Bool.{Bool, true, false, not, _&&_, _||_}
@@ -41,6 +41,11 @@ module _ {X : Type 0} where
   abbrev pub total : (X → ℕ) → List X → ℕ
   total f [] = 0
   total f (x ∷ xs) = f x + total f xs
+
+-- n numbers, each one more than the one before it
+abbrev pub countUp : ℕ → ℕ → List ℕ
+countUp first zero = []
+countUp first (suc n) = first ∷ countUp (suc first) n
 
 -- x is one of the list's elements
 pub data Among {X : Type 0} (x : X) : List X → Type 0 where
