@@ -104,7 +104,7 @@ pub record HandsBack : Type 0 where
   pub step : (b : Bus) → ¬ (step b .0 .refusal ≡ 0) → step b ≡ (refusedAnswer (step b .0 .refusal), b)
   pub caught : ¬ Standing nothing
 
--- ---- offers
+-- ---- offers and contenders
 
 -- 'the smallest value, the lowest packet number among equals'
 abbrev pub Smaller : Packet → Packet → Type 0

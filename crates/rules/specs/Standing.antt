@@ -144,7 +144,7 @@ LastStands PRI stations (some c) = ⊥
 LastStands RTDG stations (some c) = ⊥
 LastStands RTVC stations (some c) = Some (λ s. c ≡ s .capability) stations
 
--- `window-stands`
+-- `window-stands`; what a window that is `placed` is, as conditions, is `Placed` of the crate window
 abbrev pub WindowStands : Bus → Contention → Option ℕ → Type 0
 WindowStands b c none = placed (b .D) (c .window) ≡ true
 WindowStands b c (some v) = (v < b .D) × (placed (b .A) (c .window) ≡ true)
