@@ -36,6 +36,18 @@ use Rattle.bus.proofs.Form.{form-meaning, Fits, standing-fits, nothing-
 
 -- ---- demand 2
 
+-- what a call gives on a lent state, by whether its padding is zero
+abbrev admitted-by : State → Arrival → Bool → Admitted × State
+admitted-by s a t = cond t (admit (meaning s) a .0, form (admit (meaning s) a .1)) (record { refusal = 1; number = 0 }, s)
+
+abbrev stepped-by : State → Bool → Answer × State
+stepped-by s t = cond t (step (meaning s) .0, form (step (meaning s) .1)) (refusedAnswer 1, s)
+
+-- a call on a state whose padding is zero is the machine's on its meaning
+pub next-is : (s : State) (c : Call) → padded s ≡ true → next coded s c ≡ form (next machine (meaning s) c)
+next-is s (admission a) zeros = ap (λ t. admitted-by s a t .1) zeros
+next-is s one-step zeros = ap (λ t. stepped-by s t .1) zeros
+
 -- a call on the form of a bus is the machine's call on the bus
 pub coded-admit : (b : Bus) → Fits b → (a : Arrival) → codedAdmit (form b) a ≡ (admit b a .0, form (admit b a .1))
 coded-admit b fits a =
@@ -53,8 +65,7 @@ coded-reply b fits (admission a) = ap (λ (o : Admitted × State). admitted (o .
 coded-reply b fits one-step = ap (λ (o : Answer × State). stepped (o .0)) (coded-step b fits)
 
 coded-next : (b : Bus) → Fits b → (c : Call) → next coded (form b) c ≡ form (next machine b c)
-coded-next b fits (admission a) = ap (λ (o : Admitted × State). o .1) (coded-admit b fits a)
-coded-next b fits one-step = ap (λ (o : Answer × State). o .1) (coded-step b fits)
+coded-next b fits c = next-is (form b) c (padded-form b fits) ∙ ap (λ m. form (next machine m c)) (meaning-form b fits)
 
 -- and so are calls, while the machine's states fit
 coded-after :
@@ -100,13 +111,6 @@ hands-back-set-up r h = ap form (handsBack .set-up r h)
 
 pub caught : standing (form nothing) ≡ false
 caught = ap₂ (λ t b. t && stands b) (padded-form nothing nothing-fits) (meaning-form nothing nothing-fits)
-
--- what a call gives on a lent state, by whether its padding is zero
-abbrev admitted-by : State → Arrival → Bool → Admitted × State
-admitted-by s a t = cond t (admit (meaning s) a .0, form (admit (meaning s) a .1)) (record { refusal = 1; number = 0 }, s)
-
-abbrev stepped-by : State → Bool → Answer × State
-stepped-by s t = cond t (step (meaning s) .0, form (step (meaning s) .1)) (refusedAnswer 1, s)
 
 pub hands-back-admission :
     (s : State) → Held s → (a : Arrival) → ¬ (codedAdmit s a .0 .refusal ≡ 0)
@@ -202,29 +206,10 @@ stands-exactly s held = decides (standing s) there back
     back : standing s ≡ false → ¬ (Standing (meaning s) × (form (meaning s) ≡ s))
     back e h = clash (ap standing (sym (h .1)) ∙ form-stands (meaning s) (h .0)) e
 
--- ---- calls that accept keep the standing conditions
+-- ---- calls keep the standing conditions
 
 pub keeps-set-up : (r : Request) → codedSetUp r .0 .refusal ≡ 0 → standing (codedSetUp r .1) ≡ true
 keeps-set-up r z = form-stands (setUp r .1) (keepsStanding .set-up r z)
-
-pub keeps-admission : (s : State) (a : Arrival) → codedAdmit s a .0 .refusal ≡ 0 → standing (codedAdmit s a .1) ≡ true
-keeps-admission s a = go (padded s)
-  where
-    go : (t : Bool) → admitted-by s a t .0 .refusal ≡ 0 → standing (admitted-by s a t .1) ≡ true
-    go true z = form-stands (admit (meaning s) a .1) (keepsStanding .admission (meaning s) a z)
-    go false z = absurd (omega arith)
-
-pub keeps-step : (s : State) → codedStep s .0 .refusal ≡ 0 → standing (codedStep s .1) ≡ true
-keeps-step s = go (padded s)
-  where
-    go : (t : Bool) → stepped-by s t .0 .refusal ≡ 0 → standing (stepped-by s t .1) ≡ true
-    go true z = form-stands (step (meaning s) .1) (keepsStanding .step (meaning s) z)
-    go false z = absurd (omega arith)
-
--- a call on a state whose padding is zero is the machine's on its meaning
-pub next-is : (s : State) (c : Call) → padded s ≡ true → next coded s c ≡ form (next machine (meaning s) c)
-next-is s (admission a) zeros = ap (λ t. admitted-by s a t .1) zeros
-next-is s one-step zeros = ap (λ t. stepped-by s t .1) zeros
 
 -- any call on a state that stands, a refused one too, leaves a state that stands
 pub next-stands : (s : State) (c : Call) → standing s ≡ true → standing (next coded s c) ≡ true

@@ -53,7 +53,8 @@ module _ {X : Type 0} where
 
 -- ---- the parts of a state whose padding is zero
 
--- what `padded` says, part by part; a record without a name, as `Held` is, and for the same reason
+-- What `padded` says, part by part. `Held` and this are records without a name, so that what they say of one state they say of any that agrees in
+-- what they read.
 abbrev pub Padded : State → Type 0
 Padded s =
     record {

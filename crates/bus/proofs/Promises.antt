@@ -13,7 +13,7 @@ use Rattle.rules.specs.Standing.{Standing}
 use Rattle.rules.specs.SetUp.{Request}
 use Rattle.rules.specs.Admission.{Arrival}
 use Rattle.rules.specs.Probe.{refusedAnswer}
-use Rattle.rules.specs.Engine.{machine, Call, replies, reach}
+use Rattle.rules.specs.Engine.{machine, Call, admission, one-step, replies, reach}
 use Rattle.rules.specs.Demands.{Demand2, Promised}
 use Rattle.rules.proofs.Tests.{tells, told}
 use Rattle.bus.specs.State.{State, Held, meaning, form}
@@ -55,10 +55,10 @@ pub keeps-standing-set-up : (r : Request) → codedSetUp r .0 .refusal ≡ 0 →
 keeps-standing-set-up = Coded.keeps-set-up
 
 pub keeps-standing-admission : (s : State) (a : Arrival) → codedAdmit s a .0 .refusal ≡ 0 → standing (codedAdmit s a .1) ≡ true
-keeps-standing-admission = Coded.keeps-admission
+keeps-standing-admission s a = SingleCalls.accepted-stands s (admission a)
 
 pub keeps-standing-step : (s : State) → codedStep s .0 .refusal ≡ 0 → standing (codedStep s .1) ≡ true
-keeps-standing-step = Coded.keeps-step
+keeps-standing-step s = SingleCalls.accepted-stands s one-step
 
 -- refused calls hand back the state as lent, and zeros; a refused set-up the all-zero state, which refusal 1 catches
 pub hands-back-admission :

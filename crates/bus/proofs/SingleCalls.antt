@@ -101,15 +101,23 @@ after-stands s (c ∷ calls) e = after-stands (Engine.next coded s c) calls (nex
 not-accepted : {n : ℕ} → n ≡ 1 → ¬ (n ≡ 0)
 not-accepted one z = omega arith
 
-module _ (s : State) (held : Held s) (e : standing s ≡ false) where
-  reply-refused : (c : Call) → refusalIn (Engine.reply coded s c) ≡ 1
-  reply-refused (admission a) = standing-exactly-admission s a .1 e
-  reply-refused one-step = standing-exactly-step s .1 e
+reply-refused : (s : State) → standing s ≡ false → (c : Call) → refusalIn (Engine.reply coded s c) ≡ 1
+reply-refused s e (admission a) = standing-exactly-admission s a .1 e
+reply-refused s e one-step = standing-exactly-step s .1 e
 
+-- a call that is accepted was lent a state that stands, and leaves one
+pub accepted-stands : (s : State) (c : Call) → refusalIn (Engine.reply coded s c) ≡ 0 → standing (Engine.next coded s c) ≡ true
+accepted-stands s c z = go (standing s) refl
+  where
+    go : (t : Bool) → standing s ≡ t → standing (Engine.next coded s c) ≡ true
+    go true e = next-stands s c e
+    go false e = absurd (not-accepted (reply-refused s e c) z)
+
+module _ (s : State) (held : Held s) (e : standing s ≡ false) where
   next-same : (c : Call) → Engine.next coded s c ≡ s
   next-same (admission a) =
-      ap (λ (o : Admitted × State). o .1) (hands-back-admission s held a (not-accepted (reply-refused (admission a))))
-  next-same one-step = ap (λ (o : Answer × State). o .1) (hands-back-step s held (not-accepted (reply-refused one-step)))
+      ap (λ (o : Admitted × State). o .1) (hands-back-admission s held a (not-accepted (reply-refused s e (admission a))))
+  next-same one-step = ap (λ (o : Answer × State). o .1) (hands-back-step s held (not-accepted (reply-refused s e one-step)))
 
   after-same : (calls : List Call) → Engine.after coded s calls ≡ s
   after-same [] = refl
@@ -118,7 +126,7 @@ module _ (s : State) (held : Held s) (e : standing s ≡ false) where
   all-refused : (calls : List Call) → All (λ r. refusalIn r ≡ 1) (replies coded s calls)
   all-refused [] = all-nil (λ r. refusalIn r ≡ 1)
   all-refused (c ∷ calls) =
-      all-cons (Engine.reply coded s c) (reply-refused c)
+      all-cons (Engine.reply coded s c) (reply-refused s e c)
       (subst (λ o. All (λ r. refusalIn r ≡ 1) (replies coded o calls)) (sym (next-same c)) (all-refused calls))
 
 -- and so of a stretch
