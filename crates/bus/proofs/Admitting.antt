@@ -18,11 +18,14 @@ use Rattle.rules.specs.declared.Admitted.{Admitted}
 use Rattle.rules.specs.Admission.{Arrival, named, admissionRefusal, newPacket, queued, joined, withPacket, admit}
 use Rattle.rules.proofs.Tests.{told}
 use Rattle.rules.proofs.Standing.{stands-exactly, admission-accepted, admit-is}
-use Rattle.bus.specs.State.{Address, Packet, Queues, State, Held, queueAt, stationWith, stationAt, valuesFrom, stationsOf, meaning, form}
-use Rattle.bus.specs.Coded.{Admission, standing, arrivalOf, codedAdmit, admissionResult}
-use Rattle.bus.specs.Parts.{Queue, queueOf, queueForm, withQueue, firstPlace, addressPlace, refusalTests, refusalAt, accepted}
-use Rattle.bus.proofs.Rows.{among-values, first-place-holds, first-place-before}
-use Rattle.bus.proofs.Form.{parts-padded, queue-length, to-form}
+use Rattle.bus.specs.Types.{Address, Packet, Queues, State, Queue}
+use Rattle.state.specs.State.{Held, queueAt, stationWith, stationAt, valuesFrom, stationsOf, meaning, form, standing}
+use Rattle.bus.specs.Coded.{Admission, arrivalOf, codedAdmit, admissionResult}
+use Rattle.state.specs.Parts.{queueOf}
+use Rattle.bus.specs.Parts.{queueForm, withQueue, firstPlace, addressPlace, refusalTests, refusalAt, accepted}
+use Rattle.state.proofs.Rows.{among-values}
+use Rattle.bus.proofs.FirstPlace.{first-place-holds, first-place-before}
+use Rattle.state.proofs.Form.{parts-padded, queue-length, to-form}
 use Rattle.bus.proofs.Coded.{hands-back-admission, admit-bears, standing-exactly-admission}
 use Rattle.bus.proofs.QueueLaws.{form-joined}
 use Rattle.bus.proofs.Changed.{Lent, queue-formed, address-of, own-address, segmentCounting, recounted, requeued, requeued-held, requeued-padded, stations-now}

@@ -16,11 +16,14 @@ use Rattle.rules.specs.SetUp.{disciplineOf}
 use Rattle.rules.specs.Standing.{OfferStands}
 use Rattle.rules.specs.Begin.{sits-out, parameterOf, offers, choice, entered, dropsOf, begin}
 use Rattle.rules.proofs.Laws.{and-true, true-and, keep-all, kept-failed, count-le, total-among, total-mono}
-use Rattle.bus.specs.State.{Slot, Settings, Listed, Contender, Contention, Round, Segment, Queues, State, Held, Packet, noContender, nobody, placesAt, queueAt, offerOf, stationAt, valuesFrom, stationsOf, lastOf, contentionOf, meaning, contenderForm, form, row, queue-padded, contender-padded, no-station}
-use Rattle.bus.specs.Parts.{Queue, openingOf, Begun, Late, queueOf, packetsOf, queueForm, withQueue, stays, chosenForm, parameterFor, contenderOn, contenderFor}
-use Rattle.bus.proofs.Rows.{values-take, values-map, values-same, among-values, row-length, row-at, row-ext, row-replicate, row-same, row-set}
-use Rattle.bus.proofs.Form.{Padded, parts-padded, contender-form, queue-length, to-form}
-use Rattle.bus.proofs.QueueLaws.{places-count, kept-length, kept-room, packets-of-form, form-padded, form-places, queue-of-with}
+use Rattle.bus.specs.Types.{Slot, Settings, Listed, Contender, Contention, Round, Segment, Queues, State, Packet, Queue}
+use Rattle.state.specs.State.{Held, noContender, nobody, placesAt, queueAt, offerOf, stationAt, valuesFrom, stationsOf, lastOf, contentionOf, meaning, contenderForm, form, row, queue-padded, contender-padded, no-station}
+use Rattle.bus.specs.Parts.{openingOf, Begun, Late, queueForm, withQueue, stays, chosenForm, parameterFor, contenderOn, contenderFor}
+use Rattle.state.specs.Parts.{queueOf, packetsOf}
+use Rattle.state.proofs.Rows.{values-take, values-map, values-same, among-values, row-length, row-at, row-ext, row-replicate, row-same, row-set}
+use Rattle.state.proofs.Form.{Padded, parts-padded, contender-form, queue-length, to-form}
+use Rattle.state.proofs.Places.{places-count}
+use Rattle.bus.proofs.QueueLaws.{kept-length, kept-room, packets-of-form, form-padded, form-places, queue-of-with}
 use Rattle.bus.proofs.Changed.{Lent, few-packets, queue-formed, segmentCounting, recounted}
 
 -- another station is before i + 1 if it is before i

@@ -18,14 +18,15 @@ use Rattle.rules.specs.Standing.{stands, Standing}
 use Rattle.rules.proofs.Laws.{and-true}
 use Rattle.rules.proofs.Tests.{tells}
 use Rattle.rules.proofs.Standing.{stands-exactly, set-up-stands}
-use Rattle.bus.specs.State.{Packet, Contender, Contention, Segment, State, Held, noContender, nobody, placesAt, queueAt, stationWith, stationAt, valuesFrom, stationsOf, meaning, no-packet, queue-padded, no-station, padded}
-use Rattle.bus.specs.Coded.{standing}
-use Rattle.bus.specs.Parts.{Queue, queueOf, withQueue, packetsOf, queueForm}
-use Rattle.bus.proofs.State as state
-use Rattle.bus.proofs.Rows.{values-length, values-map, values-same, among-values}
-use Rattle.bus.proofs.Form.{Padded, padded-parts, places-length}
+use Rattle.bus.specs.Types.{Packet, Contender, Contention, Segment, State, Queue}
+use Rattle.state.specs.State.{Held, noContender, nobody, placesAt, queueAt, stationWith, stationAt, valuesFrom, stationsOf, meaning, no-packet, queue-padded, no-station, padded, standing}
+use Rattle.state.specs.Parts.{queueOf, packetsOf}
+use Rattle.bus.specs.Parts.{withQueue, queueForm}
+use Rattle.state.proofs.State as state
+use Rattle.state.proofs.Rows.{values-length, values-map, values-same, among-values}
+use Rattle.state.proofs.Form.{Padded, padded-parts, places-length}
 use Rattle.bus.proofs.QueueLaws.{packets-of-form, form-places, form-padded, with-queue-lengths, queue-of-with, padded-form-of}
-pub use Rattle.bus.proofs.StandingParts.{state-held}
+pub use Rattle.state.proofs.StandingParts.{state-held}
 
 -- ---- what a state that stands has
 

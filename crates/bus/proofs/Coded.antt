@@ -30,9 +30,12 @@ use Rattle.rules.proofs.Keeps.{keepsStanding}
 use Rattle.rules.proofs.Reach as Reach
 use Rattle.rules.proofs.Reach.{standing-reached}
 use Rattle.rules.proofs.Promises.{promised}
-use Rattle.bus.specs.State.{State, Held, meaning, form, padded}
-use Rattle.bus.specs.Coded.{standing, codedSetUp, codedAdmit, codedStep, coded, answerForm, answerOf}
-use Rattle.bus.proofs.Form.{form-meaning, Fits, standing-fits, nothing-fits, meaning-form, padded-form}
+use Rattle.bus.specs.Types.{State}
+use Rattle.state.specs.State.{Held, meaning, form, padded, standing}
+use Rattle.state.specs.SetUp.{codedSetUp}
+use Rattle.bus.specs.Coded.{codedAdmit, codedStep, coded, answerForm, answerOf}
+use Rattle.state.proofs.Form.{form-meaning, Fits, standing-fits, nothing-fits, meaning-form, padded-form}
+use Rattle.state.proofs.Stands.{form-stands}
 
 -- ---- demand 2
 
@@ -104,13 +107,7 @@ demand2-coded = record { setUps = λ r. refl; calls = λ r calls. coded-replies 
 pub promised-coded : Promised coded
 promised-coded = promised coded demand2-coded
 
--- ---- a refused set-up hands back the all-zero state, which refusal 1 catches; any other refused call, the state as lent
-
-pub hands-back-set-up : (r : Request) → ¬ (codedSetUp r .0 .refusal ≡ 0) → codedSetUp r .1 ≡ form nothing
-hands-back-set-up r h = ap form (handsBack .set-up r h)
-
-pub caught : standing (form nothing) ≡ false
-caught = ap₂ (λ t b. t && stands b) (padded-form nothing nothing-fits) (meaning-form nothing nothing-fits)
+-- ---- a refused call hands back the state as lent
 
 pub hands-back-admission :
     (s : State) → Held s → (a : Arrival) → ¬ (codedAdmit s a .0 .refusal ≡ 0)
@@ -188,28 +185,7 @@ standing-exactly-step s = go (padded s)
     go true = one-first (stands (meaning s)) (drop 1 (stepTests (meaning s))) refl (step-bears (meaning s))
     go false = ((λ z. refl), (λ z. refl))
 
--- ---- a state stands exactly when it is the form of a bus that stands
-
-pub form-stands : (b : Bus) → Standing b → standing (form b) ≡ true
-form-stands b h =
-    let fits = standing-fits b h in
-    true-and (padded-form b fits) (ap stands (meaning-form b fits) ∙ told (Rules.stands-exactly b) h)
-
-pub stands-exactly : (s : State) → Held s → Whether (Standing (meaning s) × (form (meaning s) ≡ s)) (standing s)
-stands-exactly s held = decides (standing s) there back
-  where
-    there : standing s ≡ true → Standing (meaning s) × (form (meaning s) ≡ s)
-    there e =
-        let parts = and-true (padded s) (stands (meaning s)) e in
-        (tells (Rules.stands-exactly (meaning s)) (parts .1), form-meaning s held (parts .0))
-
-    back : standing s ≡ false → ¬ (Standing (meaning s) × (form (meaning s) ≡ s))
-    back e h = clash (ap standing (sym (h .1)) ∙ form-stands (meaning s) (h .0)) e
-
 -- ---- calls keep the standing conditions
-
-pub keeps-set-up : (r : Request) → codedSetUp r .0 .refusal ≡ 0 → standing (codedSetUp r .1) ≡ true
-keeps-set-up r z = form-stands (setUp r .1) (keepsStanding .set-up r z)
 
 -- any call on a state that stands, a refused one too, leaves a state that stands
 pub next-stands : (s : State) (c : Call) → standing s ≡ true → standing (next coded s c) ≡ true

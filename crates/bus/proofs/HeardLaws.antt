@@ -7,9 +7,9 @@ use native.Mathlib.Omega.{arith}
 use lib.Dec.{eqb}
 use borrow.Author.Tests.{eqb-true, eqb-false, eq-eqb}
 use Rattle.rules.specs.Probe.{success}
-use Rattle.bus.specs.State.{Segment, State}
+use Rattle.bus.specs.Types.{Segment, State}
 use Rattle.bus.specs.Parts.{Moved, contenderAt, transmitsAt, nextTransmitter, probed, heardIn, progressOf, movedBy, withMoved}
-use Rattle.bus.proofs.Rows.{first-place-le, first-place-holds}
+use Rattle.bus.proofs.FirstPlace.{first-place-le, first-place-holds}
 use Rattle.bus.proofs.Changed.{Lent}
 use Rattle.bus.proofs.ProbedSlot.{heardWhere, sent-short, sent-counted}
 

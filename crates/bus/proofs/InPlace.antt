@@ -25,17 +25,19 @@ use Rattle.rules.proofs.Keeps.{begin-stands}
 use Rattle.rules.proofs.Laws.{clash, true-and}
 use Rattle.rules.proofs.Tests as Tests
 use Rattle.rules.proofs.Standing.{stands-exactly}
-use Rattle.bus.specs.State.{Packet, Settings, Contender, Contention, noContender, Segment, Queues, State, Held, meaning, form, queueAt}
-use Rattle.bus.specs.Coded.{Answer, Stepped, Admission, standing, codedAdmit, codedStep, coded, admissionResult, stepResult}
-use Rattle.bus.specs.Stretch.{Arrival, Arrivals, Report, noArrival, most-calls, noReport, asks, due, arrivalReport, stepReport, inRow, mayBeMore}
-use Rattle.bus.specs.Parts.{Queue, openingOf, addressPlace, refusalAt, Begun, Probed, Heard, Progress, Moved, unheardOn, wonOn, collidedOn, openOf, probed, heardIn, progressOf, movedBy, withMoved, segmentWith, noContenders, withQueue, queueForm, stays, Sent}
-use Rattle.bus.proofs.Rows.{row-replicate}
-use Rattle.bus.proofs.Form.{held-form, parts-padded}
-use Rattle.bus.proofs.Coded.{form-stands, next-is, next-stands}
-use Rattle.bus.proofs.Changed.{Lent, lent-held}
+use Rattle.bus.specs.Types.{Packet, Settings, Contender, Contention, Segment, Queues, State, Arrival, Queue}
+use Rattle.state.specs.State.{noContender, Held, meaning, form, queueAt, standing}
+use Rattle.bus.specs.Coded.{Answer, Stepped, Admission, codedAdmit, codedStep, coded, admissionResult, stepResult}
+use Rattle.bus.specs.Stretch.{Arrivals, Report, noArrival, most-calls, noReport, asks, due, arrivalReport, stepReport, inRow, mayBeMore}
+use Rattle.bus.specs.Parts.{openingOf, addressPlace, refusalAt, Begun, Probed, Heard, Progress, Moved, unheardOn, wonOn, collidedOn, openOf, probed, heardIn, progressOf, movedBy, withMoved, segmentWith, withQueue, queueForm, stays, Sent}
+use Rattle.state.specs.Parts.{noContenders}
+use Rattle.state.proofs.Rows.{row-replicate}
+use Rattle.state.proofs.Form.{held-form, parts-padded}
+use Rattle.state.proofs.Stands.{form-stands}
+use Rattle.bus.proofs.Coded.{next-is, next-stands}
+use Rattle.bus.proofs.Changed.{Lent, lent-held, segmentCounting}
 use Rattle.bus.proofs.Admitting.{refusal-is, gives-refusal, joinedAt, in-row, room-at, joined-in-place}
-use Rattle.bus.proofs.Tested.{denied}
-use Rattle.bus.proofs.Changed.{segmentCounting}
+use Rattle.state.proofs.Tested.{denied}
 use Rattle.bus.proofs.BeginningLaws.{placesTo, placeFor, begunState, begun-is, begun-idle, all-in-time, waiting-dropped}
 use Rattle.bus.proofs.BeginningLaws.{opened as begun-state}
 use Rattle.bus.proofs.Steps.{goes-on, begins, probes}

@@ -21,11 +21,14 @@ use Rattle.rules.specs.Standing.{OfferStands, StationStands, WindowStands, Cont
 use Rattle.rules.specs.Probe as Probe
 use Rattle.rules.specs.Probe.{contending, contenders, transmits, transmitters, phaseOf, tie-phase, parameter-phase, idle, collision, success, answered, unsent, sentBy, goesOn, withdrawn, unwon, left, lastWinner, tiedAt, split, heard, probe}
 use Rattle.rules.proofs.Laws.{and-true, true-and, count-some, count-le, total-among}
-use Rattle.bus.specs.State.{Packet, Address, Capability, Listed, Contention, Round, Segment, Queues, State, Held, noPacket, noContender, noRound, noContention, nobody, queueAt, offerOf, stationWith, stationAt, valuesFrom, stationsOf, lastOf, tieOf, contentionOf, meaning, form, contender-padded, no-station, round-padded, no-window, contention-padded}
+use Rattle.bus.specs.Types.{Packet, Address, Capability, Listed, Contention, Round, Segment, Queues, State}
+use Rattle.state.specs.State.{Held, noPacket, noContender, noRound, noContention, nobody, queueAt, offerOf, stationWith, stationAt, valuesFrom, stationsOf, lastOf, tieOf, contentionOf, meaning, form, contender-padded, no-station, round-padded, no-window, contention-padded}
 use Rattle.bus.specs.Coded.{Stepped, answerForm, stepResult}
-use Rattle.bus.specs.Parts.{Probed, Heard, Progress, Moved, Sent, stays, queueForm, withQueue, firstPlace, noContenders, contenderAt, transmitsAt, nextTransmitter, openOf, progressOf, answerAt, splitOf, collidedOn, unheardOn, roundAfter, wonOn, movedBy, segmentWith, probedWith, probed}
-use Rattle.bus.proofs.Rows.{values-map, values-same, row-length, row-at, among-values, first-place-le}
-use Rattle.bus.proofs.Form.{Padded, parts-padded, to-form}
+use Rattle.bus.specs.Parts.{Probed, Heard, Progress, Moved, Sent, stays, queueForm, withQueue, firstPlace, contenderAt, transmitsAt, nextTransmitter, openOf, progressOf, answerAt, splitOf, collidedOn, unheardOn, roundAfter, wonOn, movedBy, segmentWith, probedWith, probed}
+use Rattle.state.specs.Parts.{noContenders}
+use Rattle.state.proofs.Rows.{values-map, values-same, row-length, row-at, among-values}
+use Rattle.bus.proofs.FirstPlace.{first-place-le}
+use Rattle.state.proofs.Form.{Padded, parts-padded, to-form}
 use Rattle.bus.proofs.QueueLaws.{kept-length}
 use Rattle.bus.proofs.Changed.{Lent, own-address, requeued, requeued-held, requeued-padded, stations-now}
 

@@ -1,4 +1,4 @@
--- What is proved of the code, in one place. The contracts of src/lib.rt cite `codedSetUp`, `codedAdmit`, `codedStep` and `totalsOf`
+-- What is proved of the calls, in one place. The contracts of src/lib.rt cite `codedAdmit`, `codedStep` and `totalsOf`
 -- (specs/Coded.antt), and that of `play` cites `stretchOf` (specs/Stretch.antt), which is made of them; each function is proved to meet
 -- its contract, and here stands what those functions are worth. What the words mean is in specs/ here and in the crate rules;
 -- docs/PROMISES.md says which sentence each theorem answers. Assumes nothing.
@@ -8,18 +8,16 @@ use mathlib.Core.Logic.{_↔_}
 use mathlib.Core.Bool.{Bool, true, false}
 use mathlib.Core.List.{List, [], _++_, map}
 use Rattle.rules.specs.Lists.{All}
-use Rattle.rules.specs.Bus.{nothing}
-use Rattle.rules.specs.Standing.{Standing}
 use Rattle.rules.specs.SetUp.{Request}
 use Rattle.rules.specs.Admission.{Arrival}
 use Rattle.rules.specs.Probe.{refusedAnswer}
 use Rattle.rules.specs.Engine.{machine, Call, admission, one-step, replies, reach}
 use Rattle.rules.specs.Demands.{Demand2, Promised}
-use Rattle.rules.proofs.Tests.{tells, told}
-use Rattle.bus.specs.State.{State, Held, meaning, form}
-use Rattle.bus.specs.Coded.{standing, codedSetUp, codedAdmit, codedStep, coded, answerForm, answerOf}
+use Rattle.bus.specs.Types.{State}
+use Rattle.state.specs.State.{Held, form, standing}
+use Rattle.bus.specs.Coded.{codedAdmit, codedStep, coded, answerForm, answerOf}
 use Rattle.bus.specs.Stretch.{course, stepReports, afterSteps, replyOf, refusalIn, Called}
-use Rattle.bus.specs.Stretch.{Arrival as Timed}
+use Rattle.bus.specs.Types.{Arrival as Timed}
 use Rattle.bus.proofs.SingleCalls as SingleCalls
 use Rattle.bus.proofs.Coded as Coded
 
@@ -39,11 +37,7 @@ reached = Coded.reached-coded
 -- ---- for any state lent, whatever it holds. `Held s` says that its rows have the lengths of the code's arrays, as those of every state in
 -- the code have.
 
--- a state stands exactly when it is the form of a bus that keeps the standing conditions of paper 01
-pub stands-exactly : (s : State) → Held s → (standing s ≡ true) ↔ (Standing (meaning s) × (form (meaning s) ≡ s))
-stands-exactly s held = (tells (Coded.stands-exactly s held), told (Coded.stands-exactly s held))
-
--- refusal 1 is given exactly when it does not
+-- refusal 1 is given exactly when it does not stand
 pub refused-exactly-admission : (s : State) (a : Arrival) → (codedAdmit s a .0 .refusal ≡ 1) ↔ (standing s ≡ false)
 refused-exactly-admission = Coded.standing-exactly-admission
 
@@ -51,16 +45,13 @@ pub refused-exactly-step : (s : State) → (codedStep s .0 .refusal ≡ 1) ↔ (
 refused-exactly-step = Coded.standing-exactly-step
 
 -- 'Every call that accepts keeps these conditions.'
-pub keeps-standing-set-up : (r : Request) → codedSetUp r .0 .refusal ≡ 0 → standing (codedSetUp r .1) ≡ true
-keeps-standing-set-up = Coded.keeps-set-up
-
 pub keeps-standing-admission : (s : State) (a : Arrival) → codedAdmit s a .0 .refusal ≡ 0 → standing (codedAdmit s a .1) ≡ true
 keeps-standing-admission s a = SingleCalls.accepted-stands s (admission a)
 
 pub keeps-standing-step : (s : State) → codedStep s .0 .refusal ≡ 0 → standing (codedStep s .1) ≡ true
 keeps-standing-step s = SingleCalls.accepted-stands s one-step
 
--- refused calls hand back the state as lent, and zeros; a refused set-up the all-zero state, which refusal 1 catches
+-- refused calls hand back the state as lent, and zeros
 pub hands-back-admission :
     (s : State) → Held s → (a : Arrival) → ¬ (codedAdmit s a .0 .refusal ≡ 0)
     → codedAdmit s a ≡ (record { refusal = codedAdmit s a .0 .refusal; number = 0 }, s)
@@ -69,12 +60,6 @@ hands-back-admission = Coded.hands-back-admission
 pub hands-back-step :
     (s : State) → Held s → ¬ (codedStep s .0 .refusal ≡ 0) → codedStep s ≡ (refusedAnswer (codedStep s .0 .refusal), s)
 hands-back-step = Coded.hands-back-step
-
-pub hands-back-set-up : (r : Request) → ¬ (codedSetUp r .0 .refusal ≡ 0) → codedSetUp r .1 ≡ form nothing
-hands-back-set-up = Coded.hands-back-set-up
-
-pub caught : standing (form nothing) ≡ false
-caught = Coded.caught
 
 -- an answer in the code's sorts says all that the engine's answer says
 pub answer-read : (s : State) → answerOf (answerForm (codedStep s .0)) ≡ codedStep s .0

@@ -1,5 +1,4 @@
--- One station's queue: how long the arrays are, the row with one queue taken out and put back, and queues by their packets.
--- Assumes nothing.
+-- One station's queue by its packets, and the row with one queue put back. Assumes nothing.
 use Prim.Native.Nat.{ℕ, zero, suc, _+_, _-_, _*_, _≤_, _<_}
 use mathlib.Core.Path.{_≡_, refl, sym, ap, ap₂, _∙_}
 use mathlib.Core.Bool.{Bool, true, false, _&&_, cond}
@@ -16,60 +15,11 @@ use lib.Seq.{length-take-le, take-all, take-suc, take-at, drop-at, set-at, getD-
 use lib.Seq.{take-append-seam, drop-append-seam, take-append-le, drop-append-le, drop-append-add, append-snoc, paste, paste-suc}
 use Rattle.rules.specs.Lists.{kept, keep, each-of}
 use Rattle.rules.proofs.Laws.{and-true, true-and, length-keep, count-le}
-use Rattle.bus.specs.State.{Queues, Packet, noPacket, placesAt, queueAt, no-packet, queue-padded}
-use Rattle.bus.specs.Parts.{Queue, queueOf, withQueue, packetsOf, queueForm}
-use Rattle.bus.proofs.Queues as queues
-use Rattle.bus.proofs.Queue as queue
-
--- ---- the arrays of what a function is handed have their lengths
-
-pub queues-arrays : (qs : Queues) (vs : List Val) → Is queues.the-row qs vs → (length (qs .lengths) ≡ 64) × (length (qs .packets) ≡ 1024)
-queues-arrays qs vs owned =
-    (sym (length-map (qs .lengths) _) ∙ owned .1 .1 .0 .1 .0 .1, sym (length-map (qs .packets) _) ∙ owned .1 .1 .1 .0 .1 .0 .1)
-
-pub queue-array : (q : Queue) (vs : List Val) → Is queue.the-row q vs → length (q .packets) ≡ 16
-queue-array q vs owned = sym (length-map (q .packets) _) ∙ owned .1 .1 .0 .1 .0 .1
-
--- ---- station i's places in the row
-
-pub places-count : (qs : Queues) (i : ℕ) → i < 64 → length (qs .packets) ≡ 1024 → length (placesAt qs i) ≡ 16
-places-count qs i h e = simp (length-take, length-drop) (omega arith)
-
-pub place-at : (qs : Queues) (i j : ℕ) → j < 16 → getD (placesAt qs i) j noPacket ≡ getD (qs .packets) (16 * i + j) noPacket
-place-at qs i j h = getD-take 16 (drop (16 * i) (qs .packets)) j noPacket h ∙ getD-drop (16 * i) (qs .packets) j noPacket
-
--- ---- loops that copy places
-
--- one place more
-pub copied-one :
-    (d : List Packet) (at : ℕ) (s : List Packet) (j : ℕ) {xs : List Packet} {p : Packet} {k : ℕ} → xs ≡ paste d at s j
-    → p ≡ getD s j noPacket → k ≡ at + j → at + j < length d → j < length s → set xs k p ≡ paste d at s (j + 1)
-copied-one d at s j {xs} {p} e same place h k =
-    ap (λ n. set xs n p) place ∙ ap₂ (λ ys q. set ys (at + j) q) e same ∙ paste-suc d at s j noPacket h k
-    ∙ ap (λ n. paste d at s n) (sym (add-one j))
-
--- all places
-pub copied-all :
-    (d : List Packet) (at : ℕ) (s : List Packet) (j n : ℕ) {xs : List Packet} → xs ≡ paste d at s j → j ≡ n → length s ≡ n
-    → xs ≡ take at d ++ s ++ drop (at + n) d
-copied-all d at s j n e done h =
-    e ∙ ap (λ k. paste d at s k) done ∙ ap (λ t. take at d ++ t ++ drop (at + n) d) (take-all n s (omega arith))
-
--- station i's places taken out of the row: one place more
-pub taken-one :
-    (qs : Queues) (i j : ℕ) {places : List Packet} → i < 64 → length (qs .packets) ≡ 1024 → j < 16
-    → places ≡ paste (replicate 16 noPacket) 0 (placesAt qs i) j
-    → set places j (getD (qs .packets) (16 * i + j) noPacket) ≡ paste (replicate 16 noPacket) 0 (placesAt qs i) (j + 1)
-taken-one qs i j here row h e =
-    let n = places-count qs i here row in
-    copied-one (replicate 16 noPacket) 0 (placesAt qs i) j e (sym (place-at qs i j h)) (omega arith) (omega arith) (omega arith)
-
--- all of them
-pub taken-all :
-    (qs : Queues) (i j : ℕ) {places : List Packet} → i < 64 → length (qs .packets) ≡ 1024 → j ≡ 16
-    → places ≡ paste (replicate 16 noPacket) 0 (placesAt qs i) j → places ≡ placesAt qs i
-taken-all qs i j here row done e =
-    copied-all (replicate 16 noPacket) 0 (placesAt qs i) j 16 e done (places-count qs i here row) ∙ append-nil (placesAt qs i)
+use Rattle.bus.specs.Types.{Queues, Queue, Packet}
+use Rattle.state.specs.State.{noPacket, placesAt, queueAt, no-packet, queue-padded}
+use Rattle.state.specs.Parts.{queueOf, packetsOf}
+use Rattle.state.proofs.Places.{place-at}
+use Rattle.bus.specs.Parts.{withQueue, queueForm}
 
 -- ---- queues by their packets
 

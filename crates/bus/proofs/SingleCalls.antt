@@ -13,9 +13,10 @@ use Rattle.rules.specs.Engine as Engine
 use Rattle.rules.specs.Engine.{Reply, admitted, stepped, Call, admission, one-step, replies, reach}
 use Rattle.rules.proofs.Laws.{all-nil, all-cons, map-into}
 use Rattle.rules.proofs.Reach.{after-more}
-use Rattle.bus.specs.State.{State, Held}
-use Rattle.bus.specs.Coded.{standing, codedAdmit, codedStep, coded}
-use Rattle.bus.specs.Stretch.{Arrival, Course, asks, due, arrivalReport, rests, after, stepThen, course, stepReports, afterSteps, replyOf, refusalIn, Called}
+use Rattle.bus.specs.Types.{State, Arrival}
+use Rattle.state.specs.State.{Held, standing}
+use Rattle.bus.specs.Coded.{codedAdmit, codedStep, coded}
+use Rattle.bus.specs.Stretch.{Course, asks, due, arrivalReport, rests, after, stepThen, course, stepReports, afterSteps, replyOf, refusalIn, Called}
 use Rattle.bus.proofs.Coded.{hands-back-admission, hands-back-step, standing-exactly-admission, standing-exactly-step, next-stands, answer-read}
 
 -- ---- where no arrival comes, a stretch is that many steps, one after the other

@@ -13,11 +13,13 @@ use Rattle.rules.specs.Step.{openedBy, opened, stepRefusal, step}
 use Rattle.rules.proofs.Tests.{told}
 use Rattle.rules.proofs.Standing.{stands-exactly, step-is}
 use Rattle.rules.proofs.Keeps.{begin-stands}
-use Rattle.bus.specs.State.{State, Held, tieOf, meaning, form}
-use Rattle.bus.specs.Coded.{standing, codedStep, stepResult}
+use Rattle.bus.specs.Types.{State}
+use Rattle.state.specs.State.{Held, tieOf, meaning, form, standing}
+use Rattle.bus.specs.Coded.{codedStep, stepResult}
 use Rattle.bus.specs.Parts.{openOf}
-use Rattle.bus.proofs.Form.{parts-padded, Fits, standing-fits, meaning-form}
-use Rattle.bus.proofs.Coded.{hands-back-step, step-bears, standing-exactly-step, form-stands}
+use Rattle.state.proofs.Form.{parts-padded, Fits, standing-fits, meaning-form}
+use Rattle.bus.proofs.Coded.{hands-back-step, step-bears, standing-exactly-step}
+use Rattle.state.proofs.Stands.{form-stands}
 use Rattle.bus.proofs.Changed.{Lent}
 
 -- ---- a refused step gives its number, and the state as lent

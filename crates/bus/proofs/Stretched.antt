@@ -14,9 +14,9 @@ use lib.ListN.{length, getD, drop, set, replicate, length-append, length-map, le
 use lib.Seq.{drop-cons, set-at, append-snoc, getD-take}
 use borrow.Author.Tests.{ltb-true, ltb-false, le-leb, lt-leb}
 use Rattle.rules.proofs.Laws.{and-true, and-false}
-use Rattle.bus.specs.State.{State}
+use Rattle.bus.specs.Types.{State, Arrival}
 use Rattle.bus.specs.Coded.{Admission, Stepped, answerForm, codedAdmit, codedStep, admissionResult, stepResult}
-use Rattle.bus.specs.Stretch.{Arrival, Arrivals, Report, noArrival, Stretch, Course, most-calls, asks, due, noReport, arrivalReport, stepReport, rests, after, stepThen, course, inRow, mayBeMore, stretchForm}
+use Rattle.bus.specs.Stretch.{Arrivals, Report, noArrival, Stretch, Course, most-calls, asks, due, noReport, arrivalReport, stepReport, rests, after, stepThen, course, inRow, mayBeMore, stretchForm}
 use Rattle.bus.proofs.Arrivals as arrivals-of
 
 -- a course with nothing before it, and one course after another

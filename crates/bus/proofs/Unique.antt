@@ -2,22 +2,10 @@
 -- what its own contract says. Assumes nothing.
 use Rattle.window.specs.Determined.{Determines}
 use Rattle.window.proofs.Unique.{unique}
-use Rattle.bus.proofs.all_zero.Reads as all_zero
-use Rattle.bus.proofs.settings_refusal.Reads as settings_refusal
-use Rattle.bus.proofs.set_up.Reads as set_up
 use Rattle.bus.proofs.admit.Reads as admit
 use Rattle.bus.proofs.step.Reads as step
 use Rattle.bus.proofs.play.Reads as play
 use Rattle.bus.proofs.closing.Reads as closing
-
-pub all-zero-determined : Determines all_zero.Learnt
-all-zero-determined κs args r r′ end end′ = unique
-
-pub settings-refusal-determined : Determines settings_refusal.Learnt
-settings-refusal-determined κs args r r′ end end′ = unique
-
-pub set-up-determined : Determines set_up.Learnt
-set-up-determined κs args r r′ end end′ = unique
 
 pub admit-determined : Determines admit.Learnt
 admit-determined κs args r r′ end end′ = unique

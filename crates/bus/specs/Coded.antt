@@ -2,56 +2,30 @@
 -- they make. A call on a state whose padding is zero is the call of the rules on its meaning; on any other it is refused with 1.
 -- Assumes nothing.
 use Prim.Native.Nat.{ℕ}
-use mathlib.Core.Bool.{Bool, not, _&&_, cond}
-use mathlib.Core.List.{List, map}
+use mathlib.Core.Bool.{not, cond}
 use lib.Dec.{eqb}
-use lib.ListN.{take, replicate}
-use Rattle.rules.specs.Lists.{bit, firstOf}
-use Rattle.rules.specs.Bus.{most-stations, waiting}
-use Rattle.rules.specs.declared.Verdict.{Verdict}
+use Rattle.rules.specs.Lists.{bit}
+use Rattle.rules.specs.Bus.{waiting}
 use Rattle.rules.specs.declared.Admitted.{Admitted}
-use Rattle.rules.specs.SetUp.{Asked, Request, fine, settingsTests, setUp}
-use Rattle.rules.specs.Standing.{stands}
 use Rattle.rules.specs.Admission.{Arrival, admit}
 use Rattle.rules.specs.Probe as Probe
 use Rattle.rules.specs.Probe.{refusedAnswer}
 use Rattle.rules.specs.Step.{step}
 use Rattle.rules.specs.Engine.{Engine}
-use Rattle.bus.specs.State.{Address, Settings, Listed, State, nobody, meaning, form, padded}
-pub use Rattle.bus.specs.declared.Row.{Row}
-pub use Rattle.bus.specs.declared.SetUp.{SetUp}
+use Rattle.state.specs.State.{meaning, form, padded, standing}
+use Rattle.state.specs.SetUp.{codedSetUp}
+use Rattle.bus.specs.Types.{Address, State}
 pub use Rattle.bus.specs.declared.Admission.{Admission}
 pub use Rattle.bus.specs.declared.Answer.{Answer}
 pub use Rattle.bus.specs.declared.Stepped.{Stepped}
 pub use Rattle.bus.specs.declared.Totals.{Totals}
 
--- the standing conditions of a lent state
-abbrev pub standing : State → Bool
-standing s = padded s && stands (meaning s)
-
--- ---- what is asked for: a station, a set-up by its numbers and its row, an admission
-
-abbrev pub askedOf : Listed → Asked
-askedOf l = record { address = l .address .0; capability = l .capability .0 }
-
-abbrev pub requestWith : Settings → List Asked → Request
-requestWith g row = record { discipline = g .discipline; D = g .d; A = g .a; q = g .q; N = g .n; row = row }
-
-abbrev pub requestOf : Settings → Row → Request
-requestOf g r = requestWith g (map askedOf (take (r .length) (r .stations)))
-
--- 2 to 6, 'as the set-up is read': whatever the stations are, as long as there are enough of them
-abbrev pub settingsRefusal : Settings → ℕ
-settingsRefusal g = firstOf fine (settingsTests (requestWith g (replicate most-stations (askedOf nobody)))) .refusal
-
+-- what an admission asks for
 abbrev pub arrivalOf : Address → ℕ → ℕ → Arrival
 arrivalOf address value length = record { address = address .0; value = value; length = length }
 
--- ---- the three calls. 'Any other refusal hands back the number, zero in the answer's other fields, and the state exactly as lent': on a padded
+-- ---- the calls. 'Any other refusal hands back the number, zero in the answer's other fields, and the state exactly as lent': on a padded
 -- state that is the form of its meaning, which is the state itself.
-
-abbrev pub codedSetUp : Request → Verdict × State
-codedSetUp r = (setUp r .0, form (setUp r .1))
 
 abbrev pub codedAdmit : State → Arrival → Admitted × State
 codedAdmit s a =
@@ -104,9 +78,6 @@ answerOf a =
     }
 
 -- an answer beside the state, as the functions return them
-abbrev pub setUpResult : Verdict × State → SetUp
-setUpResult r = record { verdict = r .0; state = r .1 }
-
 abbrev pub admissionResult : Admitted × State → Admission
 admissionResult r = record { answer = r .0; state = r .1 }
 

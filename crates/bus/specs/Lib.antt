@@ -1,5 +1,5 @@
 -- The modules of the definitions. Assumes nothing.
-pub mod State
+pub mod Types
 pub mod Coded
 pub mod Stretch
 pub mod Parts

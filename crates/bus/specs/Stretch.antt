@@ -11,9 +11,8 @@ use Rattle.rules.specs.Admission as Rules
 use Rattle.rules.specs.Probe.{refusedAnswer}
 use Rattle.rules.specs.Engine as Engine
 use Rattle.rules.specs.Engine.{Call, Reply, replies}
-use Rattle.bus.specs.State.{State}
+use Rattle.bus.specs.Types.{State, Arrival}
 use Rattle.bus.specs.Coded.{Answer, arrivalOf, answerForm, answerOf, codedAdmit, codedStep, coded}
-pub use Rattle.bus.specs.declared.Arrival.{Arrival}
 pub use Rattle.bus.specs.declared.Arrivals.{Arrivals}
 pub use Rattle.bus.specs.declared.Report.{Report}
 pub use Rattle.bus.specs.declared.Stretch.{Stretch}

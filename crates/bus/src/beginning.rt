@@ -1,21 +1,22 @@
 // Beginning a contention: late packets are dropped, each station offers one packet, and parameters and the first window are fixed.
 use crate::Begun;
-use crate::Capability;
-use crate::Contender;
-use crate::Contention;
 use crate::Leaving;
-use crate::Listed;
-use crate::Queue;
-use crate::Queues;
-use crate::Round;
-use crate::Segment;
-use crate::Settings;
-use crate::Slot;
-use crate::State;
-use crate::disciplines;
-use crate::standing;
+use crate::offering;
 use crate::waiting;
-use crate::zeros;
+use state::Capability;
+use state::Contender;
+use state::Contention;
+use state::Listed;
+use state::Queue;
+use state::Queues;
+use state::Round;
+use state::Segment;
+use state::Settings;
+use state::Slot;
+use state::State;
+use state::disciplines;
+use state::standing;
+use state::zeros;
 ghost use Prim.Native.Nat.{ℕ, _<_, _≤_};
 ghost use mathlib.Core.Path.{_≡_};
 ghost use mathlib.Core.Bool.{true, false, _||_, cond};
@@ -24,9 +25,9 @@ ghost use lib.ListN.{getD};
 ghost use Rattle.rules.specs.Lists.{keep};
 ghost use Rattle.rules.specs.SetUp.{disciplineOf};
 ghost use Rattle.rules.specs.Begin.{sits-out, begin, dropsOf};
-ghost use Rattle.bus.specs.State.{meaning, form, row, nobody, noContender, queueAt, lastOf};
-ghost use Rattle.bus.specs.Coded.{standing};
-ghost use Rattle.bus.specs.Parts.{Late, queueOf, packetsOf, queueForm, stays, contenderFor, openingOf};
+ghost use Rattle.state.specs.State.{meaning, form, row, nobody, noContender, queueAt, lastOf, standing};
+ghost use Rattle.bus.specs.Parts.{Late, queueForm, stays, contenderFor, openingOf};
+ghost use Rattle.state.specs.Parts.{queueOf, packetsOf};
 
 // Whether a station has no packet, or sits out.
 fn offers_nothing(discipline: u32, round: Round, capability: Capability, length: usize) -> bool
@@ -35,7 +36,7 @@ fn offers_nothing(discipline: u32, round: Round, capability: Capability, length:
     if length == 0 {
         return true;
     }
-    disciplines::sits_out(discipline, round, capability)
+    offering::sits_out(discipline, round, capability)
 }
 
 // A station's place among the contenders, of the packets that it has in time, where it does not sit out.
@@ -57,7 +58,7 @@ fn contender_for(
         return zeros::NO_CONTENDER;
     }
     let packet = chosen.packet;
-    let parameter = disciplines::parameter(settings, clock, l.capability, packet);
+    let parameter = offering::parameter(settings, clock, l.capability, packet);
     Contender {
         contends: true,
         parameter,

@@ -1,21 +1,40 @@
-// Admission: refusals 11 to 16, and a packet that joins its station's queue.
+// Admission: the station with an address, refusals 11 to 16, and a packet that joins its station's queue.
 use crate::Admission;
-use crate::Settings;
-use crate::Slot;
-use crate::State;
-use crate::disciplines;
-use crate::standing;
 use crate::waiting;
 use rules::Admitted;
 use rules::Packet;
+use state::Address;
+use state::Listed;
+use state::Settings;
+use state::Slot;
+use state::State;
+use state::disciplines;
+use state::sorts;
+use state::standing;
 ghost use Prim.Native.Nat.{_+_, _<_, _≤_};
 ghost use mathlib.Core.Path.{_≡_};
 ghost use mathlib.Core.Bool.{true, cond};
 ghost use lib.Dec.{eqb};
 ghost use lib.ListN.{getD};
-ghost use Rattle.bus.specs.State.{Address};
-ghost use Rattle.bus.specs.Coded.{standing, arrivalOf};
-ghost use Rattle.bus.specs.Parts.{addressPlace, refusalAt, accepted};
+ghost use Rattle.bus.specs.Types.{Address};
+ghost use Rattle.state.specs.State.{nobody, standing};
+ghost use Rattle.bus.specs.Coded.{arrivalOf};
+ghost use Rattle.bus.specs.Parts.{firstPlace, addressPlace, refusalAt, accepted};
+
+// The place of the station with an address; n where there is none.
+pub fn station_of(listed: [Listed; 64], n: usize, address: Address) -> usize
+    requires { ⌜ n ≤ 64 ⌝ }
+    ensures { λ r. ⌜ r ≡ firstPlace (λ i. eqb (address .0) (getD listed i nobody .address .0)) 0 n ⌝ }
+{
+    for i in 0..n {
+        let s = listed[i];
+        if sorts::same_address(address, s.address) {
+            return i;
+        }
+    }
+    n
+}
+
 
 // The first of 11 to 16 that holds, or 0, for a station's place, or N where no station has the address.
 pub fn refusal(

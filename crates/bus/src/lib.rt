@@ -1,111 +1,32 @@
-// The engine: the state of a bus segment, and the calls on it. Every call takes any input; bad input gets its number from the
-// table of paper 01, and the state comes back as lent.
+// The engine: the calls on the state of a bus segment. Every call takes any input; bad input gets its number from the table of paper 01,
+// and the state comes back as lent.
 ghost use mathlib.Core.Path.{_≡_};
-ghost use Rattle.rules.specs.Bus.{nothing};
 ghost use Rattle.rules.specs.Probe.{refusedAnswer};
-ghost use Rattle.bus.specs.State.{form};
 ghost use Rattle.bus.specs.Stretch.{stretchOf, stretchForm};
-ghost use Rattle.bus.specs.Coded.{settingsRefusal, codedSetUp, codedAdmit, codedStep, setUpResult, admissionResult, stepResult, requestOf, arrivalOf, answerForm, totalsOf};
+ghost use Rattle.bus.specs.Coded.{codedAdmit, codedStep, admissionResult, stepResult, arrivalOf, answerForm, totalsOf};
 use rules::Admitted;
 use rules::Packet;
-use rules::Verdict;
-use window::Window;
+use state::Address;
+use state::Arrival;
+use state::Capability;
+use state::Contention;
+use state::Listed;
+use state::Round;
+use state::Segment;
+use state::Slot;
+use state::State;
+use state::sorts;
+use state::standing;
 
 mod beginning;
-mod disciplines;
 mod joining;
-mod numbers;
+mod offering;
 mod playing;
 mod probing;
-mod sorts;
-mod standing;
-mod stations;
 mod waiting;
-mod zeros;
 
 // 'step with the clock above 1,073,737,728'
 const LAST_SLOT: u32 = 1_073_737_728;
-
-// 'Slots, addresses and capabilities count three separate things': each is opened only where it is compared with its own sort.
-pub struct Slot(pub u32);
-
-pub struct Address(pub u32);
-
-pub struct Capability(pub u32);
-
-// The numbers of a set-up: discipline 0 PRI, 1 RTDG, 2 RTVC; parameter space d, address space a, laxity step q, n stations.
-pub struct Settings {
-    pub discipline: u32,
-    pub d: u32,
-    pub a: u32,
-    pub q: u32,
-    pub n: usize,
-}
-
-// A station as it is listed in the set-up.
-pub struct Listed {
-    pub address: Address,
-    pub capability: Capability,
-}
-
-// The row of stations that a set-up is given: the first `length` of the places; there are no more than 64.
-pub struct Row {
-    pub stations: [Listed; 64],
-    pub length: usize,
-}
-
-// A station's place among the contenders: whether it contends, and then its parameter and packet, else zeros.
-pub struct Contender {
-    pub contends: bool,
-    pub parameter: u64,
-    pub packet: Packet,
-}
-
-// The contention, if one is under way: its window, and in the tie phase the tie value. What has no meaning is zero.
-pub struct Contention {
-    pub begun: bool,
-    pub window: Window,
-    pub tied: bool,
-    pub tie: u64,
-}
-
-// The RTVC round: whether a circuit has won in it, and the last winner's capability, or 0.
-pub struct Round {
-    pub won: bool,
-    pub last: Capability,
-}
-
-// All of the state but the queues: what a probe reads and writes. Stations and contenders stand in listed order.
-pub struct Segment {
-    pub settings: Settings,
-    pub listed: [Listed; 64],
-    pub clock: Slot,
-    pub admitted: u64,
-    pub sent: u64,
-    pub lost: u64,
-    pub round: Round,
-    pub contention: Contention,
-    pub contenders: [Contender; 64],
-}
-
-// The queues: how many packets each station has, and '16 packets a station, so 1,024 places in all'. Station i owns the sixteen
-// places from 16 × i on.
-pub struct Queues {
-    pub lengths: [usize; 64],
-    pub packets: [Packet; 1024],
-}
-
-// The state, which goes in by value and comes back by value.
-pub struct State {
-    pub segment: Segment,
-    pub queues: Queues,
-}
-
-// One station's queue: its first `length` places are filled, the others zero.
-struct Queue {
-    pub packets: [Packet; 16],
-    pub length: usize,
-}
 
 // Which packets leave a queue: in a discipline, those whose latest start is below a slot; or the one with a number.
 enum Leaving {
@@ -113,22 +34,10 @@ enum Leaving {
     Sent(u64),
 }
 
-// Which of their numbers two stations are compared by.
-enum Compared {
-    Addresses,
-    Capabilities,
-}
-
 // The packet that a station offers, if it has one.
 struct Chosen {
     pub found: bool,
     pub packet: Packet,
-}
-
-// A set-up's answer, and the state.
-pub struct SetUp {
-    pub verdict: Verdict,
-    pub state: State,
 }
 
 // An admission's answer, and the state.
@@ -157,14 +66,6 @@ pub struct Answer {
 pub struct Stepped {
     pub answer: Answer,
     pub state: State,
-}
-
-// An arrival: an admission that is asked for once the clock has come to its time.
-pub struct Arrival {
-    pub time: Slot,
-    pub address: Address,
-    pub value: u32,
-    pub length: u32,
 }
 
 // The arrivals that come next in a run: the first `length` of the places; a length above 64 counts as 64. Where all are filled there
@@ -240,39 +141,6 @@ pub struct Totals {
     pub waiting: u64,
 }
 
-// 'an all-zero state', 'which refusal 1 catches'
-pub fn all_zero() -> State
-    ensures { λ r. ⌜ r ≡ form nothing ⌝ }
-{
-    let nobody = [zeros::NOBODY; 64];
-    stations::fresh(zeros::NO_SETTINGS, nobody)
-}
-
-// 2 to 6 of a set-up's numbers, before its stations are known; 0 for none.
-pub fn settings_refusal(settings: Settings) -> u32
-    ensures { λ r. ⌜ r ≡ settingsRefusal settings ⌝ }
-{
-    let verdict = stations::settings_verdict(settings, stations::MOST_STATIONS);
-    verdict.refusal
-}
-
-// 'Set-up tries 2 to 6, then the stations in turn, each 7 to 10. A refused set-up hands back its number and an all-zero state.'
-pub fn set_up(settings: Settings, row: Row) -> SetUp
-    ensures { λ r. ⌜ r ≡ setUpResult (codedSetUp (requestOf settings row)) ⌝ }
-{
-    let stations = row.stations;
-    let length = row.length;
-    let verdict = stations::verdict(settings, stations, length);
-    if verdict.refusal != 0 {
-        let state = all_zero();
-        return SetUp { verdict, state };
-    }
-    let n = settings.n;
-    let listed = stations::up_to(stations, n);
-    let state = stations::fresh(settings, listed);
-    SetUp { verdict, state }
-}
-
 // 'Admission tries 1, then 11 to 16.'
 pub fn admit(s: State, address: Address, value: u32, length: u32) -> Admission
     ensures { λ r. ⌜ r ≡ admissionResult (codedAdmit s (arrivalOf address value length)) ⌝ }
@@ -287,7 +155,7 @@ pub fn admit(s: State, address: Address, value: u32, length: u32) -> Admission
     let g = s.segment;
     let settings = g.settings;
     let listed = g.listed;
-    let place = stations::station_of(listed, settings.n, address);
+    let place = joining::station_of(listed, settings.n, address);
     let queues = s.queues;
     let lengths = queues.lengths;
     let refusal = joining::refusal(settings, g.clock, g.admitted, lengths, place, value, length);

@@ -1,34 +1,61 @@
 // A stretch of a run: arrivals and steps, one call after the other.
-use crate::Address;
 use crate::Answer;
 use crate::Arrivals;
 use crate::Leaving;
 use crate::Progress;
 use crate::Report;
-use crate::Slot;
-use crate::State;
 use crate::Stretch;
 use crate::beginning;
-use crate::disciplines;
 use crate::joining;
 use crate::probing;
-use crate::sorts;
-use crate::stations;
 use crate::waiting;
-use crate::zeros;
 use rules::Admitted;
 use rules::Packet;
+use state::Address;
+use state::Slot;
+use state::State;
+use state::disciplines;
+use state::sorts;
+use state::zeros;
 ghost use Prim.Native.Nat.{_+_, _≤_};
 ghost use mathlib.Core.Path.{_≡_};
 ghost use mathlib.Core.Bool.{true, false, _&&_};
 ghost use lib.Dec.{leb, ltb};
 ghost use Rattle.bus.specs.Stretch.{most-calls, row-places, noAdmitted, noAnswer, stretchOf, stretchForm};
-ghost use Rattle.bus.specs.Coded.{standing};
+ghost use Rattle.state.specs.State.{standing};
 
 // The calls that a stretch has at the most, and the arrivals of its row.
 const MOST_CALLS: usize = 512;
 
 const ROW: usize = 64;
+
+// The answer to no admission, to no step, and no report.
+const NO_ADMITTED: Admitted = Admitted {
+    refusal: 0,
+    number: 0,
+};
+
+const NO_ANSWER: Answer = Answer {
+    refusal: 0,
+    drops: 0,
+    slot: Slot(0),
+    phase: 0,
+    start: 0,
+    size: 0,
+    event: 0,
+    address: Address(0),
+    number: 0,
+    length: 0,
+    ended: false,
+};
+
+const NO_REPORT: Report = Report {
+    arrival: false,
+    clock: Slot(0),
+    address: Address(0),
+    admitted: NO_ADMITTED,
+    answer: NO_ANSWER,
+};
 
 // Whether a stretch goes on: there is room for a report, a place of the row that has not been passed, and a step left.
 fn goes_on(made: usize, taken: usize, left: u32) -> bool
@@ -62,7 +89,7 @@ fn of_arrival(clock: Slot, address: Address, admitted: Admitted) -> Report
         clock,
         address,
         admitted,
-        answer: zeros::NO_ANSWER,
+        answer: NO_ANSWER,
     }
 }
 
@@ -74,7 +101,7 @@ fn of_step(clock: Slot, answer: Answer) -> Report
         arrival: false,
         clock,
         address: Address(0),
-        admitted: zeros::NO_ADMITTED,
+        admitted: NO_ADMITTED,
         answer,
     }
 }
@@ -84,7 +111,7 @@ pub fn one_by_one(s: State, arrivals: Arrivals, steps: u32) -> Stretch
     ensures { λ r. ⌜ r ≡ stretchForm (stretchOf s arrivals steps) ⌝ }
 {
     let mut state = s;
-    let mut reports = [zeros::NO_REPORT; 512];
+    let mut reports = [NO_REPORT; 512];
     let mut made = 0;
     let mut taken = 0;
     let mut left = steps;
@@ -131,7 +158,7 @@ pub fn at_once(s: State, arrivals: Arrivals, steps: u32) -> Stretch
 {
     let mut g = s.segment;
     let mut queues = s.queues;
-    let mut reports = [zeros::NO_REPORT; 512];
+    let mut reports = [NO_REPORT; 512];
     let mut made = 0;
     let mut taken = 0;
     let mut left = steps;
@@ -143,7 +170,7 @@ pub fn at_once(s: State, arrivals: Arrivals, steps: u32) -> Stretch
         if is_due(taken, arrivals.length, a.time, clock) {
             let listed = g.listed;
             let lengths = queues.lengths;
-            let place = stations::station_of(listed, settings.n, a.address);
+            let place = joining::station_of(listed, settings.n, a.address);
             let refusal = joining::refusal(
                 settings,
                 clock,

@@ -1,27 +1,27 @@
 // Probing one slot: who transmits, what is heard, and what becomes of the window, the clock, the round and the winner's queue.
-use crate::Address;
 use crate::Answer;
-use crate::Capability;
-use crate::Contender;
-use crate::Contention;
 use crate::Heard;
 use crate::Leaving;
-use crate::Listed;
 use crate::Moved;
 use crate::Probed;
 use crate::Progress;
-use crate::Queues;
-use crate::Round;
-use crate::Segment;
-use crate::Settings;
-use crate::Slot;
-use crate::State;
 use crate::Stepped;
-use crate::disciplines;
-use crate::sorts;
 use crate::waiting;
-use crate::zeros;
 use rules::Packet;
+use state::Address;
+use state::Capability;
+use state::Contender;
+use state::Contention;
+use state::Listed;
+use state::Queues;
+use state::Round;
+use state::Segment;
+use state::Settings;
+use state::Slot;
+use state::State;
+use state::disciplines;
+use state::sorts;
+use state::zeros;
 use window::Side;
 use window::Window;
 ghost use Prim.Native.Nat.{ℕ, _+_, _<_, _≤_};
@@ -33,8 +33,8 @@ ghost use Rattle.window.specs.Splitting.{firstWindow};
 ghost use Rattle.rules.specs.Lists.{keep};
 ghost use Rattle.rules.specs.SetUp.{disciplineOf};
 ghost use Rattle.rules.specs.Probe.{probe};
-ghost use Rattle.bus.specs.State.{form, queueAt};
-ghost use Rattle.bus.specs.Coded.{standing, stepResult};
+ghost use Rattle.state.specs.State.{form, queueAt, standing};
+ghost use Rattle.bus.specs.Coded.{stepResult};
 ghost use Rattle.bus.specs.Parts.{Sent, transmitsOf, transmitsAt, contenderAt, heardIn, answerAt, wentOn, splitOf, collidedOn, unheardOn, wonRound, roundAfter, wonOn, movedBy, withMoved, probed, withQueue, queueForm, stays, openOf};
 
 // The events as numbers.
@@ -151,12 +151,20 @@ fn answer_to(
     }
 }
 
+// The slot that many slots later.
+fn later(t: Slot, slots: u32) -> Slot
+    requires { ⌜ t .0 + slots ≤ 4294967295 ⌝ }
+    ensures { λ r. ⌜ r .0 ≡ t .0 + slots ⌝ }
+{
+    Slot(t.0 + slots)
+}
+
 // The contention goes on, one slot later.
 fn went_on(progress: Progress, c: Contention) -> Progress
     requires { ⌜ progress .clock .0 + 1 ≤ 4294967295 ⌝ }
     ensures { λ r. ⌜ r ≡ wentOn progress c ⌝ }
 {
-    let clock = sorts::later(progress.clock, 1);
+    let clock = later(progress.clock, 1);
     let round = progress.round;
     Progress {
         clock,
@@ -240,7 +248,7 @@ fn unheard(progress: Progress, drops: u64) -> Moved
             }
         }
         Side::Right => {
-            let clock = sorts::later(progress.clock, 1);
+            let clock = later(progress.clock, 1);
             let answer = unsent(progress, drops, IDLE, true);
             let next = Progress {
                 clock,
@@ -282,7 +290,7 @@ fn won(discipline: u32, progress: Progress, drops: u64, l: Listed, packet: Packe
     requires { ⌜ progress .sent < 4294967295 ⌝ }
     ensures { λ r. ⌜ r ≡ wonOn (disciplineOf discipline) progress drops l packet ⌝ }
 {
-    let clock = sorts::later(progress.clock, packet.length);
+    let clock = later(progress.clock, packet.length);
     let round = round_after(discipline, l.capability);
     let answer = answer_to(
         progress,

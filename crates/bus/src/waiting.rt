@@ -1,11 +1,12 @@
 // One station's queue: taken out of the row and put back; packets leave it and join it, and one is chosen to be offered.
 use crate::Chosen;
 use crate::Leaving;
-use crate::Queue;
-use crate::Queues;
-use crate::disciplines;
-use crate::zeros;
+use crate::offering;
 use rules::Packet;
+use state::Queue;
+use state::Queues;
+use state::disciplines;
+use state::zeros;
 ghost use Prim.Native.Nat.{_<_, _≤_};
 ghost use mathlib.Core.Path.{_≡_};
 ghost use mathlib.Core.Bool.{cond};
@@ -14,8 +15,9 @@ ghost use lib.ListN.{getD};
 ghost use Rattle.rules.specs.Lists.{keep};
 ghost use Rattle.rules.specs.SetUp.{disciplineOf};
 ghost use Rattle.rules.specs.Begin.{goes-before, choice};
-ghost use Rattle.bus.specs.State.{queueAt};
-ghost use Rattle.bus.specs.Parts.{queueOf, withQueue, packetsOf, queueForm, stays, chosenForm};
+ghost use Rattle.state.specs.State.{queueAt};
+ghost use Rattle.state.specs.Parts.{queueOf, packetsOf};
+ghost use Rattle.bus.specs.Parts.{withQueue, queueForm, stays, chosenForm};
 
 // The queue of station i, taken out of the row.
 pub fn queue_at(qs: Queues, i: usize) -> Queue
@@ -119,7 +121,7 @@ pub fn joined(queue: Queue, p: Packet) -> Queue
 fn better(discipline: u32, p: Packet, later: Packet) -> Packet
     ensures { λ r. ⌜ r ≡ cond (goes-before (disciplineOf discipline) later p) later p ⌝ }
 {
-    if disciplines::goes_before(discipline, later, p) {
+    if offering::goes_before(discipline, later, p) {
         return later;
     }
     p

@@ -1,16 +1,16 @@
 // What a command does: a call of the engine and the line of its answer, or a change of the state.
+use bus::Answer;
 use crate::commands::Command;
 use crate::edits;
 use crate::lines;
 use crate::show;
 use crate::words;
-use bus::Address;
-use bus::Answer;
-use bus::Row;
-use bus::SetUp;
-use bus::Settings;
-use bus::State;
 use rules::Verdict;
+use state::Address;
+use state::Row;
+use state::SetUp;
+use state::Settings;
+use state::State;
 
 // The set-up that `U` asks for, with its row of 64 places. A length above 64 is lent as it is.
 fn set_up(c: Command) -> SetUp {
@@ -25,7 +25,7 @@ fn set_up(c: Command) -> SetUp {
     let stations = c.stations;
     let length = numbers[5] as usize;
     let row = Row { stations, length };
-    bus::set_up(settings, row)
+    state::set_up(settings, row)
 }
 
 // 'U refusal station'

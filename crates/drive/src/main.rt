@@ -8,7 +8,7 @@ mod words;
 
 // 'The state is all-zero before the first command'; 'At the script's end the state is written once more'.
 fn play(script: &[u8]) {
-    let mut s = bus::all_zero();
+    let mut s = state::all_zero();
     let mut at = words::letter_from(script, 0);
     while at < script.len() {
         let c = commands::read(script, script[at], at + 1);

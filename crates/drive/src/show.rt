@@ -1,13 +1,13 @@
 // How a state is written.
 use crate::lines;
-use bus::Contender;
-use bus::Contention;
-use bus::Listed;
-use bus::Round;
-use bus::Segment;
-use bus::Settings;
-use bus::State;
 use rules::Packet;
+use state::Contender;
+use state::Contention;
+use state::Listed;
+use state::Round;
+use state::Segment;
+use state::Settings;
+use state::State;
 use window::Side;
 
 // 'settings discipline D A q n'

@@ -9,7 +9,7 @@ use lib.Dec.{eqb}
 use lib.ListN.{length, drop, set, replicate, length-append}
 use lib.Seq.{set-at, append-snoc}
 use borrow.Author.Tests.{eqb-true, eqb-false, ne-eqb}
-use Rattle.bus.specs.declared.Arrival.{Arrival}
+use Rattle.state.specs.declared.Arrival.{Arrival}
 use Rattle.bus.specs.Stretch.{row-places, noArrival}
 use Rattle.scenario.specs.declared.Record.the-variants as Is
 use Rattle.scenario.specs.Format.{Said, readRecord, said}

@@ -14,13 +14,13 @@ use Rattle.rules.specs.SetUp.{Request, setUp}
 use Rattle.rules.proofs.Tests.{told}
 use Rattle.rules.proofs.Standing as Rules
 use Rattle.rules.proofs.Keeps.{keepsStanding}
-use Rattle.bus.specs.declared.State.{State}
+use Rattle.state.specs.declared.State.{State}
 use Rattle.bus.specs.declared.Totals.{Totals}
-use Rattle.bus.specs.declared.Arrival.{Arrival}
-use Rattle.bus.specs.State.{form}
+use Rattle.state.specs.declared.Arrival.{Arrival}
+use Rattle.state.specs.State.{form}
 use Rattle.bus.specs.Coded.{totalsOf}
 use Rattle.bus.specs.Stretch.{row-places, Course, most-calls, course}
-use Rattle.bus.proofs.Form.{standing-fits, meaning-form, padded-form}
+use Rattle.state.proofs.Form.{standing-fits, meaning-form, padded-form}
 use Rattle.scenario.specs.Reading.{arrival-bytes, Reading, refused, accepted, reading, stationOffset, scenarioForm}
 use Rattle.scenario.proofs.Arrivals.{ArrivalsAt}
 use Rattle.scenario.proofs.Sound.{Sound, sound}

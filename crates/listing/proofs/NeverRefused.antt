@@ -26,7 +26,7 @@ use Rattle.rules.proofs.Keeps.{keepsStanding, opened-stands, opened-contention,
 use Rattle.rules.proofs.Reach.{next-stands}
 use Rattle.window.specs.declared.Side.{Side}
 use Rattle.window.specs.declared.Side.the-variants as Is
-use Rattle.bus.specs.declared.Arrival.{Arrival}
+use Rattle.state.specs.declared.Arrival.{Arrival}
 use Rattle.bus.specs.Stretch.{asks, due}
 use Rattle.scenario.specs.Reading.{accepted, reading}
 use Rattle.scenario.specs.Writing.{Bytes}

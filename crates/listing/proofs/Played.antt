@@ -17,12 +17,12 @@ use Rattle.rules.specs.Step.{step}
 use Rattle.rules.specs.Engine.{admission, one-step}
 use Rattle.rules.proofs.Laws.{clash}
 use Rattle.rules.proofs.Reach.{next-stands}
-use Rattle.bus.specs.declared.State.{State}
-use Rattle.bus.specs.declared.Arrival.{Arrival}
-use Rattle.bus.specs.State.{form}
+use Rattle.state.specs.declared.State.{State}
+use Rattle.state.specs.declared.Arrival.{Arrival}
+use Rattle.state.specs.State.{form}
 use Rattle.bus.specs.Coded.{answerForm, codedAdmit, codedStep}
 use Rattle.bus.specs.Stretch.{row-places, Course, most-calls, asks, due, rests, after, stepThen, arrivalReport, stepReport, course}
-use Rattle.bus.proofs.Form.{standing-fits}
+use Rattle.state.proofs.Form.{standing-fits}
 use Rattle.bus.proofs.Coded.{coded-admit, coded-step}
 use Rattle.bus.proofs.Promises.{answer-read}
 use Rattle.listing.specs.Text.{refusalText, droppedText, probedText}

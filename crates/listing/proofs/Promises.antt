@@ -8,7 +8,7 @@ use mathlib.Core.List.{List, _++_}
 use lib.ListN.{length, drop}
 use Rattle.rules.specs.Lists.{All}
 use Rattle.rules.specs.SetUp.{Request, setUp}
-use Rattle.bus.specs.declared.Arrival.{Arrival}
+use Rattle.state.specs.declared.Arrival.{Arrival}
 use Rattle.scenario.specs.Reading.{accepted, reading}
 use Rattle.scenario.specs.Writing.{Bytes, written, Good}
 use Rattle.listing.specs.Run.{listing, answersOf}

@@ -12,15 +12,14 @@ use lib.Dec.{eqb, leb}
 use lib.ListN.{length, take, replicate, length-map}
 use lib.Seq.{take-append-seam}
 use borrow.Author.Tests.{eq-eqb, ne-eqb}
-use Rattle.bus.specs.declared.State.{State}
-use Rattle.bus.specs.declared.Arrival.{Arrival}
+use Rattle.state.specs.declared.State.{State}
+use Rattle.state.specs.declared.Arrival.{Arrival}
 use Rattle.bus.specs.declared.Arrivals.{Arrivals}
 use Rattle.bus.specs.declared.Report.{Report}
 use Rattle.bus.specs.declared.Stretch.{Stretch}
 use Rattle.bus.specs.Coded.{totalsOf}
-use Rattle.bus.specs.Stretch.{row-places, most-calls, course, noReport, stretchOf, stretchForm}
+use Rattle.bus.specs.Stretch.{row-places, most-calls, course, noReport, stretchOf, stretchForm, noArrival}
 use Rattle.bus.proofs.Stretch as stretch-row
-use Rattle.bus.specs.Stretch.{noArrival}
 use Rattle.scenario.specs.declared.Scenario.{Scenario}
 use Rattle.scenario.specs.Reading.{arrival-bytes}
 use Rattle.listing.specs.Text.{refusedText}

@@ -3,7 +3,7 @@ use Prim.Native.Nat.{ℕ, _+_, _-_, _/_, _^_, _≤_, _<_}
 use mathlib.Core.Path.{_≡_}
 use mathlib.Core.Logic.{_⊎_}
 use mathlib.Core.List.{List, [], _∷_, _++_}
-use Rattle.bus.specs.declared.Arrival.{Arrival}
+use Rattle.state.specs.declared.Arrival.{Arrival}
 use Rattle.bus.specs.declared.Arrivals.{Arrivals}
 use Rattle.bus.specs.Stretch.{row-places, noArrival}
 use Rattle.listing.specs.Turns.{Turn, Outcome, room-bytes}

@@ -7,7 +7,7 @@ use Rattle.rules.specs.SetUp.{setUp}
 use Rattle.rules.specs.Admission.{admit}
 use Rattle.rules.specs.Probe.{Answer}
 use Rattle.rules.specs.Step.{step}
-use Rattle.bus.specs.declared.Arrival.{Arrival}
+use Rattle.state.specs.declared.Arrival.{Arrival}
 use Rattle.bus.specs.Stretch.{asks, due}
 use Rattle.scenario.specs.Reading.{Reading, refused, accepted, reading}
 use Rattle.listing.specs.Text.{refusedText, refusalText, endText, droppedText, probedText}

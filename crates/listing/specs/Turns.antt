@@ -4,9 +4,9 @@ use mathlib.Core.Bool.{true, false, cond}
 use mathlib.Core.List.{List, [], _∷_, _++_}
 use lib.Dec.{leb, eqb}
 use lib.ListN.{length, drop}
-use Rattle.bus.specs.declared.State.{State}
+use Rattle.state.specs.declared.State.{State}
 use Rattle.bus.specs.declared.Totals.{Totals}
-use Rattle.bus.specs.declared.Arrival.{Arrival}
+use Rattle.state.specs.declared.Arrival.{Arrival}
 use Rattle.bus.specs.declared.Report.{Report}
 use Rattle.bus.specs.Coded.{answerOf, totalsOf}
 use Rattle.bus.specs.Stretch.{row-places, Course, most-calls, course}

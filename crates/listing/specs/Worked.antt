@@ -3,7 +3,7 @@
 use Prim.Native.Nat.{ℕ}
 use mathlib.Core.List.{List, [], _∷_}
 use Rattle.rules.specs.SetUp.{Request}
-use Rattle.bus.specs.declared.Arrival.{Arrival}
+use Rattle.state.specs.declared.Arrival.{Arrival}
 
 -- 'Input, hexadecimal', record by record
 abbrev pub worked-input : List ℕ

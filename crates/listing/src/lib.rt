@@ -7,15 +7,15 @@ ghost use lib.ListN.{take};
 ghost use Rattle.bus.specs.Coded.{totalsOf};
 ghost use Rattle.listing.specs.Turns.{nextArrivals, reportText, reportsText, opened, stretched, closedBy, turn, turnForm, room-bytes, roomWith};
 ghost use Rattle.listing.specs.Parts.{Told, roomy, TurnTold, arrivalsForm};
-use bus::Address;
-use bus::Arrival;
 use bus::Arrivals;
 use bus::Report;
-use bus::Slot;
-use bus::State;
 use bus::Stretch;
 use scenario::ARRIVAL_BYTES;
 use scenario::Record;
+use state::Address;
+use state::Arrival;
+use state::Slot;
+use state::State;
 
 mod telling;
 

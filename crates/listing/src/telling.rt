@@ -7,10 +7,10 @@ ghost use lib.ListN.{length};
 ghost use Rattle.bus.specs.Coded.{answerOf};
 ghost use Rattle.listing.specs.Text.{digit as digitOf, decimal, space, newline as newlineByte, phaseLetter, eventLetter, refusedText, arrivalText, endText, droppedText, probedText};
 ghost use Rattle.listing.specs.Parts.{Told, roomy, openingText, winnerText};
-use bus::Address;
 use bus::Answer;
-use bus::Slot;
 use bus::Totals;
+use state::Address;
+use state::Slot;
 
 // One byte.
 fn put(room: &mut [u8; 65536], at: usize, byte: u8) -> usize

@@ -9,7 +9,7 @@ use lib.ListN.{length, drop}
 use lib.Seq.{drop-drop}
 use borrow.Author.Tests.{eq-eqb, ne-eqb}
 use Rattle.rules.proofs.Laws.{clash}
-use Rattle.bus.specs.declared.Arrival.{Arrival}
+use Rattle.state.specs.declared.Arrival.{Arrival}
 use Rattle.scenario.specs.Format.{Said, readRecord, outOfPlace}
 use Rattle.scenario.specs.Reading.{arrival-bytes, run-bytes, arrivalFrom, stepsFrom}
 use Rattle.scenario.specs.Reading.{EndingRead, refusedEnding, withArrival, runFrom, arrivalsFrom}

@@ -6,7 +6,7 @@ use mathlib.Core.Path.{_≡_}
 use mathlib.Core.List.{List}
 use mathlib.Core.Option.{none}
 use Rattle.rules.specs.SetUp.{Request}
-use Rattle.bus.specs.declared.Arrival.{Arrival}
+use Rattle.state.specs.declared.Arrival.{Arrival}
 use Rattle.scenario.specs.declared.Record.{Record}
 use Rattle.scenario.specs.Format.{said}
 use Rattle.scenario.specs.Reading.{accepted, reading}

@@ -19,12 +19,12 @@ use Rattle.rules.proofs.Laws.{and-true, or-false}
 use Rattle.rules.specs.declared.Verdict.{Verdict}
 use Rattle.rules.specs.Bus.{most-stations}
 use Rattle.rules.specs.SetUp.{Asked, Request, fine, settingsTests, stationTests, rowTests, setUpVerdict}
-use Rattle.bus.specs.declared.Arrival.{Arrival}
-use Rattle.bus.specs.declared.Listed.{Listed}
-use Rattle.bus.specs.declared.Settings.{Settings}
-use Rattle.bus.specs.State.{nobody}
-use Rattle.bus.specs.Coded.{askedOf, settingsRefusal}
-use Rattle.bus.proofs.SettingUp.{settings-pass}
+use Rattle.state.specs.declared.Arrival.{Arrival}
+use Rattle.state.specs.declared.Listed.{Listed}
+use Rattle.state.specs.declared.Settings.{Settings}
+use Rattle.state.specs.State.{nobody}
+use Rattle.state.specs.SetUp.{askedOf, settingsRefusal}
+use Rattle.state.proofs.SettingUp.{settings-pass}
 use Rattle.scenario.specs.declared.Record.the-variants as Is
 use Rattle.scenario.specs.Format.{Record, said, outOfPlace}
 use Rattle.scenario.specs.Format.{Kind, arrivalKind, Said, kinds, rowOf, refusedRecord, lengthIn, kindIn, saidBy, bodyIn, readBody, readRecord}

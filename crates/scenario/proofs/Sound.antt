@@ -9,8 +9,8 @@ use lib.Dec.{ltb, eqb}
 use lib.ListN.{length, drop}
 use borrow.Author.Tests.{eqb-true, eqb-false}
 use Rattle.rules.specs.SetUp.{Request, setUpVerdict}
-use Rattle.bus.specs.declared.Settings.{Settings}
-use Rattle.bus.specs.Coded.{requestWith, settingsRefusal}
+use Rattle.state.specs.declared.Settings.{Settings}
+use Rattle.state.specs.SetUp.{requestWith, settingsRefusal}
 use Rattle.scenario.specs.Format.{setUpKind, Said, readRecord, outOfPlace}
 use Rattle.scenario.specs.Reading.{most-bytes, set-up-bytes, settingsFrom, StationsRead, stationsFrom, EndingRead}
 use Rattle.scenario.specs.Reading.{Reading, refused, accepted, stationOffset, readEnding, readArrivals, readStations}

@@ -17,10 +17,10 @@ use Rattle.rules.specs.Conditions.{StepOutside, CapabilityOutside, rowCondition
 use Rattle.rules.proofs.Laws.{all-cons, all-nil}
 use Rattle.rules.proofs.Tests.{Whether, holds, fails, stable, equal, inside, NoneHolds}
 use Rattle.rules.proofs.Standing.{set-up-accepted}
-use Rattle.bus.specs.declared.Arrival.{Arrival}
-use Rattle.bus.specs.declared.Settings.{Settings}
-use Rattle.bus.specs.Coded.{requestWith, settingsRefusal}
-use Rattle.bus.proofs.SettingUp.{SettingsPass, set-up-turn, set-up-pass}
+use Rattle.state.specs.declared.Arrival.{Arrival}
+use Rattle.state.specs.declared.Settings.{Settings}
+use Rattle.state.specs.SetUp.{requestWith, settingsRefusal}
+use Rattle.state.proofs.SettingUp.{SettingsPass, set-up-turn, set-up-pass}
 use Rattle.scenario.specs.Format.{setUpKind, stationKind, arrivalKind, runKind, Said, readRecord, outOfPlace}
 use Rattle.scenario.specs.Reading.{most-bytes, set-up-bytes, station-bytes, arrival-bytes, run-bytes}
 use Rattle.scenario.specs.Reading.{settingsFrom, askedFrom, arrivalFrom, stepsFrom, StationsRead, withStation, stationsFrom}

@@ -8,10 +8,10 @@ use lib.Dec.{ltb, eqb}
 use lib.ListN.{length, getD, drop}
 use Rattle.rules.specs.Bus.{nothing}
 use Rattle.rules.specs.SetUp.{Asked, Request, setUpVerdict}
-use Rattle.bus.specs.declared.Arrival.{Arrival}
-use Rattle.bus.specs.declared.Settings.{Settings}
-use Rattle.bus.specs.State.{form}
-use Rattle.bus.specs.Coded.{requestWith, settingsRefusal, codedSetUp}
+use Rattle.state.specs.declared.Arrival.{Arrival}
+use Rattle.state.specs.declared.Settings.{Settings}
+use Rattle.state.specs.State.{form}
+use Rattle.state.specs.SetUp.{requestWith, settingsRefusal, codedSetUp}
 pub use Rattle.scenario.specs.declared.Scenario.{Scenario}
 use Rattle.scenario.specs.Format.{setUpKind, stationKind, arrivalKind, runKind, Said, readRecord, outOfPlace}
 

@@ -6,7 +6,7 @@ use mathlib.Core.List.{List, [], _∷_, _++_}
 use lib.ListN.{length}
 use Rattle.rules.specs.Lists.{All}
 use Rattle.rules.specs.SetUp.{Asked, Request, setUpVerdict}
-use Rattle.bus.specs.declared.Arrival.{Arrival}
+use Rattle.state.specs.declared.Arrival.{Arrival}
 use Rattle.scenario.specs.Format.{Kind, setUpKind, stationKind, arrivalKind, runKind}
 use Rattle.scenario.specs.Reading.{most-bytes}
 

@@ -4,20 +4,20 @@ ghost use Prim.Native.Nat.{_≤_};
 ghost use mathlib.Core.Path.{_≡_};
 ghost use lib.Dec.{ltb};
 ghost use lib.ListN.{drop};
-ghost use Rattle.bus.specs.declared.Settings.{Settings};
-ghost use Rattle.bus.specs.Coded.{requestOf, requestWith, settingsRefusal};
+ghost use Rattle.state.specs.declared.Settings.{Settings};
+ghost use Rattle.state.specs.SetUp.{requestOf, requestWith, settingsRefusal};
 ghost use Rattle.scenario.specs.Format.{readRecord, said, outOfPlace};
 ghost use Rattle.scenario.specs.Reading.{reading, scenarioForm, readStations, set-up-bytes, stationOffset, stationsFrom};
 ghost use Rattle.scenario.specs.Reading.{refused as refusedReading};
 ghost use Rattle.scenario.specs.Parts.{endingForm, runAt, endingAt, afterPassed};
-use bus::Address;
-use bus::Arrival;
-use bus::Capability;
-use bus::Listed;
-use bus::Row;
-use bus::Settings;
-use bus::Slot;
-use bus::State;
+use state::Address;
+use state::Arrival;
+use state::Capability;
+use state::Listed;
+use state::Row;
+use state::Settings;
+use state::Slot;
+use state::State;
 
 mod fields;
 mod records;
@@ -225,7 +225,7 @@ fn read_ending(input: &[u8], from: usize) -> Ending
 fn refused(refusal: u32, offset: usize) -> Scenario
     ensures { λ r. ⌜ r ≡ scenarioForm (refusedReading refusal offset) ⌝ }
 {
-    let state = bus::all_zero();
+    let state = state::all_zero();
     Scenario {
         refusal,
         offset,
@@ -246,7 +246,7 @@ fn read_listed(input: &[u8], settings: Settings) -> Scenario
         return refused(stations.refusal, stations.offset);
     }
     let row = stations.row;
-    let set = bus::set_up(settings, row);
+    let set = state::set_up(settings, row);
     let verdict = set.verdict;
     if verdict.refusal != 0 {
         let offset = station_offset(verdict.station);
@@ -278,7 +278,7 @@ pub fn read(input: &[u8]) -> Scenario
     let Record::SetUp(settings) = found else {
         return refused(out_of_place(found), 0);
     };
-    let refusal = bus::settings_refusal(settings);
+    let refusal = state::settings_refusal(settings);
     if refusal != 0 {
         return refused(refusal, 0);
     }

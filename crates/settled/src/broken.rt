@@ -1,18 +1,18 @@
 // States that break one standing condition each, lent to each call. Beside some stands a neighbour that breaks none.
-use crate::edits;
 use crate::edits::between;
 use crate::edits::in_tie;
 use crate::edits::in_window;
 use crate::edits::packet;
+use crate::edits;
 use crate::lines;
-use crate::segments;
 use crate::segments::listed;
 use crate::segments::settings;
-use bus::Contention;
-use bus::Listed;
-use bus::Settings;
-use bus::State;
+use crate::segments;
 use rules::Packet;
+use state::Contention;
+use state::Listed;
+use state::Settings;
+use state::State;
 use window::Side;
 
 // The state is lent with other set-up fields, another station at a place, and so on.

@@ -1,11 +1,11 @@
 // Lines of what the calls answer: a label, a colon, and numbers.
-use bus::Address;
-use bus::Arrival;
 use bus::Arrivals;
-use bus::Row;
-use bus::Settings;
-use bus::Slot;
-use bus::State;
+use state::Address;
+use state::Arrival;
+use state::Row;
+use state::Settings;
+use state::Slot;
+use state::State;
 
 fn word(n: u64) {
     io::write_all(1, b" ");
@@ -31,7 +31,7 @@ fn newline() {
 
 // A set-up: the refusal, the faulty station's place, and what a step of the state that came back answers.
 pub fn set_up(text: &[u8], settings: Settings, row: Row) {
-    let r = bus::set_up(settings, row);
+    let r = state::set_up(settings, row);
     let v = r.verdict;
     let state = r.state;
     let next = bus::step(state);

@@ -2,8 +2,8 @@
 use crate::edits;
 use crate::lines;
 use crate::segments;
-use bus::Listed;
-use bus::Row;
+use state::Listed;
+use state::Row;
 
 // A row cut to a length.
 fn cut(row: Row, length: usize) -> Row {
@@ -86,8 +86,8 @@ fn calls() {
     lines::stepped(b"17, clock 1073741824", edits::with_clock(s, 1_073_741_824));
 }
 
-fn refused_set_up() -> bus::State {
-    let r = bus::set_up(segments::settings(0, 0, 0, 0, 0), segments::row_1_5_6());
+fn refused_set_up() -> state::State {
+    let r = state::set_up(segments::settings(0, 0, 0, 0, 0), segments::row_1_5_6());
     r.state
 }
 

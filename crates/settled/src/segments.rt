@@ -1,10 +1,10 @@
 // The segments that the examples start from.
-use bus::Address;
-use bus::Capability;
-use bus::Listed;
-use bus::Row;
-use bus::Settings;
-use bus::State;
+use state::Address;
+use state::Capability;
+use state::Listed;
+use state::Row;
+use state::Settings;
+use state::State;
 
 pub fn settings(discipline: u32, d: u32, a: u32, q: u32, n: usize) -> Settings {
     Settings {
@@ -38,7 +38,7 @@ pub fn row(x: Listed, y: Listed, z: Listed) -> Row {
 
 // The state that an accepted set-up gives.
 fn segment(settings: Settings, row: Row) -> State {
-    let r = bus::set_up(settings, row);
+    let r = state::set_up(settings, row);
     r.state
 }
 

@@ -2,9 +2,9 @@
 use mathlib.Core.Path.{_≡_, sym, _∙_}
 use borrow.Author.Needs.{needs}
 use Rattle.rules.specs.Admission.{admissionRefusal}
-use Rattle.bus.specs.State.{meaning}
+use Rattle.state.specs.State.{meaning}
 use Rattle.bus.specs.Coded.{arrivalOf}
-use Rattle.bus.proofs.Tested.{denied, granted}
+use Rattle.state.proofs.Tested.{denied, granted}
 use Rattle.bus.proofs.Changed.{state-held, Lent, lent}
 use Rattle.bus.proofs.Admitting.{at-station, refusal-is, gives-1, gives-refusal, takes-in, room-at, count-left}
 use Rattle.bus.proofs.admit.Statement.{statement}

@@ -1,13 +1,14 @@
 -- `closing` meets its contract: of a state that stands the clock and the counts, and what waits by the lengths of the queues.
 -- Assumes nothing.
-use Prim.Native.Nat.{ℕ}
+use Prim.Native.Nat.{ℕ, _≤_, _<_}
 use mathlib.Core.Path.{ap, _∙_}
 use native.Mathlib.Omega.{arith}
 use borrow.Author.Needs.{needs}
-use Rattle.bus.specs.State.{State}
+use lib.ListN.{getD}
+use Rattle.bus.specs.Types.{State}
 use Rattle.bus.specs.Coded.{Totals}
-use Rattle.bus.proofs.Tested.{denied, granted}
-use Rattle.bus.proofs.StandingParts.{waiting-same}
+use Rattle.state.proofs.Tested.{denied, granted}
+use Rattle.state.proofs.StandingParts.{held-whole, waiting-same}
 use Rattle.bus.proofs.Changed.{lent, few-packets}
 use Rattle.bus.proofs.closing.Statement.{statement}
 use Rattle.bus.proofs.closing.Tie as tie
@@ -19,12 +20,7 @@ returns : tie.Need-returns
 returns c = rw (denied (c .before .stands .ensures) (c .if1 .taken))
 
 waiting-in-requires : tie.Need-waiting-in-requires
-waiting-in-requires c κs =
-    let tested = c .before .before .before .before in
-    let start = tested .before .before in
-    let s = start .args .s in
-    let r = lent s _ (start .good .0) (granted (tested .before .stands .ensures) (tested .if1 .left)) in
-    (r .few, λ i l. few-packets s r i (omega arith))
+waiting-in-requires c κs = search needs
 
 -- the totals of a state with this many packets waiting
 abbrev totals : State → ℕ → Totals
@@ -45,7 +41,10 @@ returns-2 c =
     let s = start .args .s in
     let stood! = granted (tested .before .stands .ensures) (tested .if1 .left) in
     let r = lent s _ (start .good .0) stood! in
-    let waiting! = c .before .waiting-in .ensures ∙ waiting-same s (r .held) (r .few) (λ i l. few-packets s r i (omega arith)) in
+    let room! : (i : ℕ) → i < s .segment .settings .n → getD (s .queues .lengths) i 0 ≤ 16 = λ i l. few-packets s r i (omega arith) in
+    let waiting! =
+        c .before .waiting-in .ensures ∙ held-whole (s .queues .lengths) (s .segment .settings .n) room!
+        ∙ waiting-same s (r .held) (r .few) room! in
     rw stood! (ap (totals s) waiting!)
 
 pub closing-spec : {M : Type 1} → statement M

@@ -6,10 +6,11 @@ use borrow.Author.Tests.{ltb-false}
 use Rattle.rules.specs.Bus.{last-slot}
 use Rattle.rules.specs.Begin.{begin, dropsOf}
 use Rattle.rules.specs.Probe.{probe}
-use Rattle.bus.specs.State.{State, meaning, form}
-use Rattle.bus.specs.Coded.{Stepped, Answer, standing, stepResult}
+use Rattle.bus.specs.Types.{State}
+use Rattle.state.specs.State.{meaning, form, standing}
+use Rattle.bus.specs.Coded.{Stepped, Answer, stepResult}
 use Rattle.bus.specs.Parts.{Begun, openOf}
-use Rattle.bus.proofs.Tested.{denied, granted}
+use Rattle.state.proofs.Tested.{denied, granted}
 use Rattle.bus.proofs.Changed.{state-held, lent}
 use Rattle.bus.proofs.Steps.{gives-1, gives-17, probes, goes-on, begins, begun-stands}
 use Rattle.bus.proofs.step.Statement.{statement}

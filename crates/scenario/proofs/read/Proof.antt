@@ -5,7 +5,7 @@ use mathlib.Core.List.{[], _∷_}
 use lib.ListN.{length, drop}
 use borrow.Author.Needs.{needs}
 use borrow.Author.Tests.{lt-ltb, le-ltb, ne-eqb}
-use Rattle.bus.specs.Coded.{settingsRefusal}
+use Rattle.state.specs.SetUp.{settingsRefusal}
 use Rattle.scenario.specs.Format.{said, outOfPlace, readRecord}
 use Rattle.scenario.specs.Reading.{most-bytes, set-up-bytes, settingsFrom, stationsFrom}
 use Rattle.scenario.specs.Reading.{refused, readStations, readSettings, readSetUp, reading, scenarioForm}

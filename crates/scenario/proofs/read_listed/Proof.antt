@@ -6,9 +6,9 @@ use lib.ListN.{drop}
 use borrow.Author.Needs.{needs}
 use Rattle.rules.specs.declared.Verdict.{Verdict}
 use Rattle.rules.specs.SetUp.{Request, setUpVerdict}
-use Rattle.bus.specs.declared.State.{State}
-use Rattle.bus.specs.declared.SetUp.{SetUp}
-use Rattle.bus.specs.Coded.{requestOf, requestWith, codedSetUp}
+use Rattle.state.specs.declared.State.{State}
+use Rattle.state.specs.declared.SetUp.{SetUp}
+use Rattle.state.specs.SetUp.{requestOf, requestWith, codedSetUp}
 use Rattle.scenario.specs.declared.Ending.{Ending}
 use Rattle.scenario.specs.Reading.{Scenario, StationsRead, set-up-bytes, stationsFrom, stationOffset}
 use Rattle.scenario.specs.Reading.{Reading, accepted, readEnding, readArrivals, readStations, scenarioForm}

@@ -7,7 +7,7 @@ use native.Mathlib.Nat.{sub-zero}
 use native.Mathlib.Omega.{arith}
 use lib.ListN.{length, drop, length-set}
 use borrow.Author.Needs.{needs}
-use Rattle.bus.specs.Coded.{requestWith}
+use Rattle.state.specs.SetUp.{requestWith}
 use Rattle.scenario.specs.Format.{said, outOfPlace, readRecord}
 use Rattle.scenario.specs.Reading.{StationsRead, set-up-bytes, stationOffset, stationsFrom}
 use Rattle.scenario.proofs.ReadingLaws.{other-kind, stationsAfter, station-turn, station-other, stations-end}

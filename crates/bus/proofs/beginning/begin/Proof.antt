@@ -1,14 +1,16 @@
 -- `beginning::begin` meets its contract: the state has the arrays' lengths, its padding is zero, and its meaning is the bus of the rules as
 -- the contention has begun. Assumes nothing.
 use Prim.Native.Nat.{ℕ, _+_, _-_, _≤_, _<_}
-use mathlib.Core.Path.{_≡_}
+use mathlib.Core.Path.{_≡_, _∙_}
 use native.Mathlib.Omega.{arith}
 use lib.ListN.{getD}
 use borrow.Author.Needs.{needs}
 use Rattle.rules.specs.Begin.{dropsOf}
 use Rattle.rules.proofs.Standing.{set-up-stands}
-use Rattle.bus.specs.State.{State, meaning}
-use Rattle.bus.proofs.QueueLaws.{queues-arrays}
+use Rattle.bus.specs.Types.{State}
+use Rattle.state.specs.State.{meaning}
+use Rattle.state.proofs.Places.{queues-arrays}
+use Rattle.state.proofs.StandingParts.{held-whole}
 use Rattle.bus.proofs.Changed.{Lent, lent, few-packets}
 use Rattle.bus.proofs.BeginningLaws.{all-formed, room-left, waiting-dropped, lost-counted, begun-is}
 use Rattle.bus.proofs.beginning.begin.Statement.{statement}
@@ -28,17 +30,14 @@ drop-late-requires c κs =
     (r .few, (all-formed (start .args .s) r, few-packets (start .args .s) r))
 
 waiting-in-requires : tie.Need-waiting-in-requires
-waiting-in-requires c κs =
-    let start = c .before .before .before .before .before .before in
-    let r = here start in
-    (r .few, λ i l. few-packets (start .args .s) r i (omega arith))
+waiting-in-requires c κs = search needs
 
 -- the packets that are left have room
 room : (c : tie.After-drop-late) → (j : ℕ) → j < state c .segment .settings .n → getD (c .drop-late .result .lengths) j 0 ≤ 16
 room c = room-left (state c) (here (c .before .before .before .before)) (c .drop-late .result) (c .drop-late .ensures)
 
 waiting-in-requires-2 : tie.Need-waiting-in-requires-2
-waiting-in-requires-2 c κs = (here (c .before .before .before .before .before .before .before) .few, room (c .before .before .before))
+waiting-in-requires-2 c κs = search needs
 
 -- those waiting before are those waiting after and those dropped
 dropped :
@@ -48,7 +47,12 @@ dropped c =
     let start = c .before .before .before .before .before .before .before .before in
     let rest = c .before .before .before .before .drop-late in
     let n = queues-arrays (rest .result) _ (rest .ok) in
-    rw (c .waiting-in2 .ensures, c .before .waiting-in .ensures)
+    let s = start .args .s in
+    let r = here start in
+    let n! = s .segment .settings .n in
+    let after! = c .waiting-in2 .ensures ∙ held-whole (rest .result .lengths) n! (room (c .before .before .before .before)) in
+    let before! = c .before .waiting-in .ensures ∙ held-whole (s .queues .lengths) n! (λ i l. few-packets s r i (omega (arith, r .few))) in
+    rw (after!, before!)
     (waiting-dropped (start .args .s) (here start) (rest .result) (rest .ensures) (n .0))
 
 sub-drops : tie.Need-sub-drops

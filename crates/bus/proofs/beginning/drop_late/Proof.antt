@@ -8,9 +8,10 @@ use native.Mathlib.Omega.{arith}
 use borrow.Author.Needs.{needs}
 use lib.ListN.{length, getD, take}
 use Rattle.rules.specs.Lists.{keep}
-use Rattle.bus.specs.State.{placesAt}
+use Rattle.state.specs.State.{placesAt}
 use Rattle.bus.specs.Parts.{Late, stays}
-use Rattle.bus.proofs.QueueLaws.{queues-arrays, kept-count}
+use Rattle.state.proofs.Places.{queues-arrays}
+use Rattle.bus.proofs.QueueLaws.{kept-count}
 use Rattle.bus.proofs.BeginningLaws.{LeftTo, none-late, in-time, left-none, left-formed, left-places, left-room, left-more, left-same}
 use Rattle.bus.proofs.beginning.drop_late.Statement.{statement}
 use Rattle.bus.proofs.beginning.drop_late.Tie as tie

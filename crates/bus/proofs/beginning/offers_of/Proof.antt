@@ -8,8 +8,8 @@ use lib.Dec.{eqb}
 use lib.ListN.{getD}
 use lib.Seq.{paste}
 use Rattle.rules.proofs.Laws.{or-false}
-use Rattle.bus.specs.State.{placesAt}
-use Rattle.bus.proofs.QueueLaws.{queues-arrays, taken-one, taken-all}
+use Rattle.state.specs.State.{placesAt}
+use Rattle.state.proofs.Places.{queues-arrays, taken-one, taken-all}
 use Rattle.bus.proofs.BeginningLaws.{nothing-offered, placeFor, placesTo, places-none, places-more, places-same}
 use Rattle.bus.proofs.beginning.offers_of.Statement.{statement}
 use Rattle.bus.proofs.beginning.offers_of.Tie as tie

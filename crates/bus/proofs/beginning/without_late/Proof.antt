@@ -1,6 +1,6 @@
 -- `beginning::without_late` meets its contract: the packets in time are put back, and the other queues are as they were. Assumes nothing.
 use Rattle.bus.specs.Parts.{Late, stays}
-use Rattle.bus.proofs.QueueLaws.{queues-arrays}
+use Rattle.state.proofs.Places.{queues-arrays}
 use Rattle.bus.proofs.BeginningLaws.{some-leave}
 use Rattle.bus.proofs.beginning.without_late.Statement.{statement}
 use Rattle.bus.proofs.beginning.without_late.Tie as tie

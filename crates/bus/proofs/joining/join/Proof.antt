@@ -6,9 +6,10 @@ use mathlib.Core.List.{[], _∷_, _++_}
 use native.Mathlib.Numerals.{add-one}
 use native.Mathlib.Omega.{arith}
 use borrow.Author.Needs.{needs}
-use Rattle.bus.specs.State.{Packet, Address, State}
+use Rattle.bus.specs.Types.{Packet, Address, State, Queue}
 use Rattle.bus.specs.Coded.{arrivalOf}
-use Rattle.bus.specs.Parts.{Queue, queueForm, packetsOf, withQueue, addressPlace, accepted}
+use Rattle.bus.specs.Parts.{queueForm, withQueue, addressPlace, accepted}
+use Rattle.state.specs.Parts.{packetsOf}
 use Rattle.bus.proofs.Changed.{Lent, lent, queue-formed}
 use Rattle.bus.proofs.Admitting.{counted, state-joined, taken}
 use Rattle.bus.proofs.joining.join.Statement.{statement}

@@ -9,27 +9,24 @@ use lib.Dec.{ltb}
 use borrow.Author.Needs.{needs}
 use lib.ListN.{length, getD, set, replicate}
 use lib.Seq.{paste, paste-zero}
-use Rattle.bus.specs.Coded.{Answer}
-use Rattle.bus.specs.Stretch.{inRow, mayBeMore}
+use Rattle.bus.specs.Coded.{Answer, Admission, Stepped, admissionResult, stepResult, codedAdmit, codedStep}
+use Rattle.bus.specs.Stretch.{inRow, mayBeMore, Arrivals, Report, noArrival, asks, due, arrivalReport, stepReport}
 use Rattle.rules.proofs.Standing.{set-up-stands}
-use Rattle.bus.specs.State.{Queues, noContender, meaning, queueAt}
+use Rattle.bus.specs.Types.{Queues, Queue, State, Contender, Arrival}
+use Rattle.state.specs.State.{noContender, meaning, queueAt}
 use Rattle.rules.specs.Lists.{keep}
-use Rattle.bus.specs.Parts.{Queue, Heard, segmentWith, stays, Sent}
-use Rattle.bus.proofs.Changed.{lent, few-packets}
+use Rattle.bus.specs.Parts.{Heard, segmentWith, stays, Sent, addressPlace, refusalAt, withQueue, queueForm}
+use Rattle.bus.proofs.Changed.{lent, few-packets, Lent}
 use Rattle.bus.proofs.Stretched.{on, at-last, arrivals-array, row-few, row-full}
 use Rattle.bus.proofs.InPlace.{whole, Going, at-outset, with-arrival, with-step, turned-away, place-in, place-has-room, taken-in, passed, Opened, was-open, now-open, opened-as, idle-open, offered-open, still-on, ends-unheard, winner-in, put-back, ends-won}
-use Rattle.bus.proofs.Tested.{denied, granted}
-use Rattle.bus.proofs.QueueLaws.{copied-one, copied-all, kept-room, form-places}
+use Rattle.state.proofs.Tested.{denied, granted}
+use Rattle.state.proofs.Places.{copied-one, copied-all}
+use Rattle.bus.proofs.QueueLaws.{kept-room, form-places}
 use Rattle.bus.proofs.HeardLaws.{heard-short, heard-counted}
 use Rattle.bus.proofs.Admitting.{joinedAt}
 use Rattle.bus.proofs.Steps.{gives-17}
 use Rattle.rules.specs.Bus.{last-slot}
 use Rattle.rules.specs.Probe.{success}
-use Rattle.bus.specs.State.{State, Contender}
-use Rattle.bus.specs.Coded.{Admission, Stepped, admissionResult, stepResult, codedAdmit, codedStep}
-use Rattle.bus.specs.Stretch.{Arrival, Arrivals, Report, noArrival, asks, due, arrivalReport, stepReport}
-use Rattle.bus.specs.Parts.{addressPlace, refusalAt, withQueue, queueForm}
-use Rattle.bus.proofs.Changed.{Lent}
 use Rattle.bus.proofs.playing.at_once.Statement.{statement}
 use Rattle.bus.proofs.playing.at_once.Tie as tie
 

@@ -10,9 +10,10 @@ use lib.Dec.{eqb}
 use lib.ListN.{getD}
 use borrow.Author.Needs.{needs}
 use borrow.Author.Tests.{eqb-true, eq-eqb, ne-eqb}
-use Rattle.bus.specs.State.{Packet, Listed, Segment, nobody, noPacket}
+use Rattle.bus.specs.Types.{Packet, Listed, Segment}
+use Rattle.state.specs.State.{nobody, noPacket}
 use Rattle.bus.specs.Parts.{Heard, contenderAt, transmitsAt, nextTransmitter, heardIn}
-use Rattle.bus.proofs.Rows.{first-place-turn, first-place-end}
+use Rattle.bus.proofs.FirstPlace.{first-place-turn, first-place-end}
 use Rattle.bus.proofs.probing.heard.Statement.{statement}
 use Rattle.bus.proofs.probing.heard.Tie as tie
 

@@ -7,7 +7,7 @@ use lib.Dec.{eqb}
 use borrow.Author.Needs.{needs}
 use borrow.Author.Tests.{eq-eqb, ne-eqb}
 use Rattle.rules.specs.SetUp.{disciplineOf}
-use Rattle.bus.specs.State.{Settings}
+use Rattle.bus.specs.Types.{Settings}
 use Rattle.bus.specs.Parts.{Heard, Progress, unheardOn, wonOn, collidedOn, movedBy}
 use Rattle.bus.proofs.probing.moved.Statement.{statement}
 use Rattle.bus.proofs.probing.moved.Tie as tie

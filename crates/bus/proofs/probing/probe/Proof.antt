@@ -6,7 +6,7 @@ use lib.Dec.{eqb}
 use borrow.Author.Needs.{needs}
 use borrow.Author.Tests.{eq-eqb, ne-eqb}
 use Rattle.rules.specs.Probe.{success}
-use Rattle.bus.specs.State.{Segment}
+use Rattle.bus.specs.Types.{Segment}
 use Rattle.bus.specs.Parts.{Heard, Moved, Probed, heardIn, progressOf, movedBy, withMoved, probedWith, probed}
 use Rattle.bus.proofs.HeardLaws.{short-packet, one-more}
 use Rattle.bus.proofs.probing.probe.Statement.{statement}

@@ -6,7 +6,7 @@ use native.Mathlib.Omega.{arith}
 use lib.Dec.{eqb}
 use borrow.Author.Tests.{eq-eqb, ne-eqb}
 use Rattle.rules.specs.Probe.{success, probe}
-use Rattle.bus.specs.State.{State}
+use Rattle.bus.specs.Types.{State}
 use Rattle.bus.specs.Parts.{Probed, openOf}
 use Rattle.bus.proofs.Changed.{Lent, lent, few-packets}
 use Rattle.bus.proofs.ProbedSlot.{queuesAfter, slotWith, stepped, sent-short, sent-counted, winner-there, probed-is}

@@ -4,7 +4,8 @@ use mathlib.Core.Path.{_≡_, refl, _∙_}
 use native.Mathlib.Omega.{arith}
 use borrow.Author.Needs.{needs}
 use Rattle.rules.specs.SetUp.{disciplineOf}
-use Rattle.bus.specs.State.{Capability, noRound}
+use Rattle.bus.specs.Types.{Capability}
+use Rattle.state.specs.State.{noRound}
 use Rattle.bus.specs.Parts.{wonRound, roundAfter}
 use Rattle.bus.proofs.probing.round_after.Statement.{statement}
 use Rattle.bus.proofs.probing.round_after.Tie as tie

@@ -6,7 +6,7 @@ use lib.Dec.{leb}
 use borrow.Author.Needs.{needs}
 use borrow.Author.Tests.{le-leb, lt-leb}
 use Rattle.window.specs.declared.Window.{Window}
-use Rattle.bus.specs.State.{Contention}
+use Rattle.bus.specs.Types.{Contention}
 use Rattle.bus.specs.Parts.{splitOf}
 use Rattle.bus.proofs.probing.split.Statement.{statement}
 use Rattle.bus.proofs.probing.split.Tie as tie

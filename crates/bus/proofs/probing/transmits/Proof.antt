@@ -10,7 +10,7 @@ use Rattle.window.specs.Splitting.{inWindow}
 use Rattle.rules.specs.Bus.{late}
 use Rattle.rules.specs.SetUp.{disciplineOf}
 use Rattle.rules.specs.Probe.{lies-in}
-use Rattle.bus.specs.State.{Slot, Listed, Contender, Contention}
+use Rattle.bus.specs.Types.{Slot, Listed, Contender, Contention}
 use Rattle.bus.specs.Parts.{contenderOf, transmitsOf}
 use Rattle.bus.proofs.probing.transmits.Statement.{statement}
 use Rattle.bus.proofs.probing.transmits.Tie as tie

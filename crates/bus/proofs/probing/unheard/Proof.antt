@@ -4,7 +4,7 @@ use mathlib.Core.Path.{_≡_, sym, ap, _∙_}
 use mathlib.Core.Bool.{true}
 use borrow.Author.Needs.{needs}
 use Rattle.window.specs.declared.Side.{Side}
-use Rattle.bus.specs.State.{noContention, noRound}
+use Rattle.state.specs.State.{noContention, noRound}
 use Rattle.bus.specs.Parts.{Progress, Moved, wentOn, unheardOn}
 use Rattle.bus.proofs.probing.unheard.Statement.{statement}
 use Rattle.bus.proofs.probing.unheard.Tie as tie

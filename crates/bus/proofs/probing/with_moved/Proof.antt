@@ -3,9 +3,10 @@ use mathlib.Core.Path.{_≡_, sym, ap₂}
 use mathlib.Core.Bool.{Bool, cond}
 use mathlib.Core.List.{List}
 use lib.ListN.{replicate}
-use Rattle.bus.specs.State.{Contender, Segment, noContender}
+use Rattle.bus.specs.Types.{Contender, Segment}
+use Rattle.state.specs.State.{noContender}
 use Rattle.bus.specs.Parts.{Moved, segmentWith, withMoved}
-use Rattle.bus.proofs.Rows.{row-replicate}
+use Rattle.state.proofs.Rows.{row-replicate}
 use Rattle.bus.proofs.probing.with_moved.Statement.{statement}
 use Rattle.bus.proofs.probing.with_moved.Tie as tie
 

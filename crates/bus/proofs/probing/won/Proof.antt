@@ -1,7 +1,7 @@
 -- `won` meets its contract: the clock moves on by the packet's length, one packet more is sent, and the contention ends. Assumes nothing.
 use Prim.Native.Nat.{_+_}
 use borrow.Author.Needs.{needs}
-use Rattle.bus.specs.State.{noContention}
+use Rattle.state.specs.State.{noContention}
 use Rattle.bus.proofs.probing.won.Statement.{statement}
 use Rattle.bus.proofs.probing.won.Tie as tie
 

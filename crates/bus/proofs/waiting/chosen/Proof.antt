@@ -12,9 +12,10 @@ use Rattle.rules.specs.Bus.{Discipline}
 use Rattle.rules.specs.SetUp.{disciplineOf}
 use Rattle.rules.specs.Begin as Begin
 use Rattle.rules.specs.Begin.{goes-before, choice}
-use Rattle.bus.specs.State.{Packet, noPacket}
+use Rattle.bus.specs.Types.{Packet}
+use Rattle.state.specs.State.{noPacket}
 use Rattle.bus.specs.Parts.{chosenForm}
-use Rattle.bus.proofs.QueueLaws.{queue-array}
+use Rattle.state.proofs.Places.{queue-array}
 use Rattle.bus.proofs.waiting.chosen.Statement.{statement}
 use Rattle.bus.proofs.waiting.chosen.Tie as tie
 

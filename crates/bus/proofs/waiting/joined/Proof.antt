@@ -2,7 +2,8 @@
 use mathlib.Core.Path.{ap}
 use native.Mathlib.Omega.{arith}
 use borrow.Author.Needs.{needs}
-use Rattle.bus.specs.Parts.{Queue, packetsOf}
+use Rattle.bus.specs.Types.{Queue}
+use Rattle.state.specs.Parts.{packetsOf}
 use Rattle.bus.proofs.QueueLaws.{form-joined}
 use Rattle.bus.proofs.waiting.joined.Statement.{statement}
 use Rattle.bus.proofs.waiting.joined.Tie as tie

@@ -8,9 +8,11 @@ use native.Mathlib.Omega.{arith}
 use borrow.Author.Needs.{needs}
 use lib.ListN.{length, getD, take, set}
 use Rattle.rules.specs.Lists.{kept, keep}
-use Rattle.bus.specs.State.{Packet, noPacket}
-use Rattle.bus.specs.Parts.{Queue, queueForm, stays}
-use Rattle.bus.proofs.QueueLaws.{queue-array, made, form-joined, kept-one}
+use Rattle.bus.specs.Types.{Packet, Queue}
+use Rattle.state.specs.State.{noPacket}
+use Rattle.bus.specs.Parts.{queueForm, stays}
+use Rattle.state.proofs.Places.{queue-array}
+use Rattle.bus.proofs.QueueLaws.{made, form-joined, kept-one}
 use Rattle.bus.proofs.waiting.kept.Statement.{statement}
 use Rattle.bus.proofs.waiting.kept.Tie as tie
 

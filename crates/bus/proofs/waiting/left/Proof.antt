@@ -3,7 +3,9 @@ use mathlib.Core.Path.{ap, _∙_}
 use native.Mathlib.Omega.{arith}
 use borrow.Author.Needs.{needs}
 use Rattle.rules.specs.Lists.{keep}
-use Rattle.bus.specs.Parts.{Queue, packetsOf, queueForm, stays}
+use Rattle.bus.specs.Types.{Queue}
+use Rattle.state.specs.Parts.{packetsOf}
+use Rattle.bus.specs.Parts.{queueForm, stays}
 use Rattle.bus.proofs.waiting.left.Statement.{statement}
 use Rattle.bus.proofs.waiting.left.Tie as tie
 

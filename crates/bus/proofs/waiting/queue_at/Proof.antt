@@ -4,8 +4,8 @@ use mathlib.Core.Path.{_≡_}
 use native.Mathlib.Omega.{arith}
 use borrow.Author.Needs.{needs}
 use lib.Seq.{paste}
-use Rattle.bus.specs.State.{placesAt}
-use Rattle.bus.proofs.QueueLaws.{queues-arrays, taken-one, taken-all}
+use Rattle.state.specs.State.{placesAt}
+use Rattle.state.proofs.Places.{queues-arrays, taken-one, taken-all}
 use Rattle.bus.proofs.waiting.queue_at.Statement.{statement}
 use Rattle.bus.proofs.waiting.queue_at.Tie as tie
 

@@ -4,7 +4,7 @@ use mathlib.Core.Path.{_≡_, refl}
 use native.Mathlib.Omega.{arith}
 use borrow.Author.Needs.{needs}
 use lib.Seq.{paste, paste-zero}
-use Rattle.bus.proofs.QueueLaws.{queues-arrays, queue-array, copied-one, copied-all}
+use Rattle.state.proofs.Places.{queues-arrays, queue-array, copied-one, copied-all}
 use Rattle.bus.proofs.waiting.with_queue.Statement.{statement}
 use Rattle.bus.proofs.waiting.with_queue.Tie as tie
 

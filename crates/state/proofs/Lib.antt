@@ -1,0 +1,12 @@
+-- The modules of the shared laws and theorems. Assumes nothing.
+pub mod Rows
+pub mod Places
+pub mod Form
+pub mod Stands
+pub mod DisciplineCases
+pub mod Tested
+pub mod SettingUp
+pub mod StandingParts
+pub mod Chained
+pub mod Promises
+pub mod Unique

@@ -1,0 +1,45 @@
+-- What is proved of a state, in one place: what it means, when it stands, and what a set-up gives. The contracts of src/ cite `standing`
+-- (specs/State.antt) and `codedSetUp` (specs/SetUp.antt), and here stands what those are worth. docs/PROMISES.md says which sentence each
+-- theorem answers. `Held s` says that the rows of s have the lengths of the code's arrays, as those of every state in the code have.
+-- Assumes nothing.
+use mathlib.Core.Path.{_≡_}
+use mathlib.Core.Logic.{_↔_}
+use mathlib.Core.Bool.{true, false}
+use Rattle.rules.specs.Bus.{Bus, nothing}
+use Rattle.rules.specs.Standing.{Standing}
+use Rattle.rules.specs.SetUp.{Request}
+use Rattle.rules.proofs.Tests.{tells, told}
+use Rattle.state.specs.State.{State, Held, meaning, form, padded, standing}
+use Rattle.state.specs.SetUp.{codedSetUp}
+use Rattle.state.proofs.Form as Form
+use Rattle.state.proofs.Stands as Stands
+
+-- ---- what a state means
+
+-- a state whose padding is zero is the form of its meaning, and nothing else is in it
+pub form-meaning : (s : State) → Held s → padded s ≡ true → form (meaning s) ≡ s
+form-meaning = Form.form-meaning
+
+-- a bus that stands is the meaning of its form, which stands
+pub meaning-form : (b : Bus) → Standing b → meaning (form b) ≡ b
+meaning-form b h = Form.meaning-form b (Form.standing-fits b h)
+
+pub form-stands : (b : Bus) → Standing b → standing (form b) ≡ true
+form-stands = Stands.form-stands
+
+-- a state stands exactly when it is the form of a bus that keeps the standing conditions of paper 01
+pub stands-exactly : (s : State) → Held s → (standing s ≡ true) ↔ (Standing (meaning s) × (form (meaning s) ≡ s))
+stands-exactly s held = (tells (Stands.stands-exactly s held), told (Stands.stands-exactly s held))
+
+-- ---- set-up
+
+-- 'Every call that accepts keeps these conditions.'
+pub keeps-standing-set-up : (r : Request) → codedSetUp r .0 .refusal ≡ 0 → standing (codedSetUp r .1) ≡ true
+keeps-standing-set-up = Stands.keeps-set-up
+
+-- a refused set-up hands back the all-zero state, which refusal 1 catches
+pub hands-back-set-up : (r : Request) → ¬ (codedSetUp r .0 .refusal ≡ 0) → codedSetUp r .1 ≡ form nothing
+hands-back-set-up = Stands.hands-back-set-up
+
+pub caught : standing (form nothing) ≡ false
+caught = Stands.caught

@@ -1,0 +1,80 @@
+// The three sorts of numbers, opened: slots with slots, addresses with addresses, capabilities with capabilities.
+use crate::Address;
+use crate::Capability;
+use crate::Slot;
+ghost use Prim.Native.Nat.{_-_};
+ghost use mathlib.Core.Path.{_≡_};
+ghost use lib.Dec.{leb, ltb, eqb};
+
+// Whether slot t comes before slot u.
+pub fn before(t: Slot, u: Slot) -> bool
+    ensures { λ r. ⌜ r ≡ ltb (t .0) (u .0) ⌝ }
+{
+    t.0 < u.0
+}
+
+// How many slots lie from t to u; 0 where u comes first.
+pub fn slots_until(t: Slot, u: Slot) -> u32
+    ensures { λ r. ⌜ r ≡ u .0 - t .0 ⌝ }
+{
+    if u.0 < t.0 {
+        return 0;
+    }
+    u.0 - t.0
+}
+
+// Whether two addresses are one, compared in full.
+pub fn same_address(address: Address, other: Address) -> bool
+    ensures { λ r. ⌜ r ≡ eqb (address .0) (other .0) ⌝ }
+{
+    address.0 == other.0
+}
+
+// Whether an address lies past the last of an address space.
+pub fn address_past(space: u32, x: Address) -> bool
+    ensures { λ r. ⌜ r ≡ leb space (x .0) ⌝ }
+{
+    space <= x.0
+}
+
+// The address as a number that windows of addresses hold.
+pub fn address_number(x: Address) -> u64
+    ensures { λ r. ⌜ r ≡ x .0 ⌝ }
+{
+    wide(x.0)
+}
+
+// Whether two capabilities are one.
+pub fn same_capability(x: Capability, y: Capability) -> bool
+    ensures { λ r. ⌜ r ≡ eqb (x .0) (y .0) ⌝ }
+{
+    x.0 == y.0
+}
+
+// Whether a capability is not above another.
+pub fn not_above(x: Capability, y: Capability) -> bool
+    ensures { λ r. ⌜ r ≡ leb (x .0) (y .0) ⌝ }
+{
+    x.0 <= y.0
+}
+
+// Whether a capability lies past the last of a parameter space.
+pub fn capability_past(space: u32, x: Capability) -> bool
+    ensures { λ r. ⌜ r ≡ leb space (x .0) ⌝ }
+{
+    space <= x.0
+}
+
+// The capability as a number that windows of parameters hold.
+pub fn capability_number(x: Capability) -> u64
+    ensures { λ r. ⌜ r ≡ x .0 ⌝ }
+{
+    wide(x.0)
+}
+
+// A number in more bits.
+pub fn wide(x: u32) -> u64
+    ensures { λ r. ⌜ r ≡ x ⌝ }
+{
+    x as u64
+}

@@ -1,0 +1,410 @@
+// The standing conditions: what refusal 1 goes by.
+use crate::Capability;
+use crate::Contender;
+use crate::Contention;
+use crate::Listed;
+use crate::Queue;
+use crate::Queues;
+use crate::Segment;
+use crate::Settings;
+use crate::Slot;
+use crate::State;
+use crate::disciplines;
+use crate::numbers;
+use crate::sorts;
+use crate::stations;
+use crate::zeros;
+use rules::Packet;
+use window::Side;
+use window::Window;
+ghost use Prim.Native.Nat.{_+_, _≤_, min};
+ghost use mathlib.Core.Path.{_≡_};
+ghost use mathlib.Core.Bool.{_&&_, cond};
+ghost use lib.Dec.{eqb, ltb};
+ghost use lib.ListN.{drop, take};
+ghost use Rattle.rules.specs.Lists.{each-of, some-of};
+ghost use Rattle.rules.specs.SetUp.{disciplineOf};
+ghost use Rattle.rules.specs.Standing.{value-fits, length-fits, rising, same-packet};
+ghost use Rattle.state.specs.State.{no-packet, no-window, each-place, standing};
+ghost use Rattle.state.specs.Parts.{packetsOf, no-contender, contenderSound, stationTest, nobodyTest, placeSound, queuesSound, waitingIn, roundSound, contentionSound};
+
+// 'packets admitted: at most 4,294,967,295'
+pub const MOST_ADMITTED: u64 = 4_294_967_295;
+
+// Whether a place is one that no packet fills.
+fn no_packet(p: Packet) -> bool
+    ensures { λ r. ⌜ r ≡ no-packet p ⌝ }
+{
+    if p.number != 0 {
+        return false;
+    }
+    if p.value != 0 {
+        return false;
+    }
+    p.length == 0
+}
+
+// Whether a place is that of a station that does not contend.
+fn no_contender(c: Contender) -> bool
+    ensures { λ r. ⌜ r ≡ no-contender c ⌝ }
+{
+    if c.contends {
+        return false;
+    }
+    if c.parameter != 0 {
+        return false;
+    }
+    no_packet(c.packet)
+}
+
+// Whether two packets are one.
+fn same_packet(p: Packet, o: Packet) -> bool
+    ensures { λ r. ⌜ r ≡ same-packet p o ⌝ }
+{
+    if p.number != o.number {
+        return false;
+    }
+    if p.value != o.value {
+        return false;
+    }
+    p.length == o.length
+}
+
+// 'What has no meaning is zero: places past a queue's end'
+fn zero_past_end(queue: Queue) -> bool
+    requires { ⌜ queue .length ≤ 16 ⌝ }
+    ensures { λ r. ⌜ r ≡ each-of no-packet (drop (queue .length) (queue .packets)) ⌝ }
+{
+    let length = queue.length;
+    for j in length..16 {
+        let p = queue.packets[j];
+        if !no_packet(p) {
+            return false;
+        }
+    }
+    true
+}
+
+// 'numbers from 1 to the admitted count and rising'
+fn rises(queue: Queue, admitted: u64) -> bool
+    requires { ⌜ queue .length ≤ 16 ⌝ }
+    ensures { λ r. ⌜ r ≡ rising 0 admitted (packetsOf queue) ⌝ }
+{
+    let length = queue.length;
+    let mut before = 0u64;
+    for j in 0..length {
+        let p = queue.packets[j];
+        if p.number <= before {
+            return false;
+        }
+        before = p.number;
+    }
+    before <= admitted
+}
+
+// Whether a packet's value and length are in range.
+fn packet_fits(discipline: u32, d: u32, p: Packet) -> bool
+    ensures { λ r. ⌜ r ≡ (value-fits (disciplineOf discipline) d (p .value) && length-fits (p .length)) ⌝ }
+{
+    if !disciplines::value_fits(discipline, d, p.value) {
+        return false;
+    }
+    disciplines::length_fits(p.length)
+}
+
+// 'values and lengths in range'
+fn packets_fit(queue: Queue, discipline: u32, d: u32) -> bool
+    requires { ⌜ queue .length ≤ 16 ⌝ }
+    ensures { λ r. ⌜ r ≡ each-of (λ p. value-fits (disciplineOf discipline) d (p .value) && length-fits (p .length)) (packetsOf queue) ⌝ }
+{
+    let length = queue.length;
+    for j in 0..length {
+        let p = queue.packets[j];
+        if !packet_fits(discipline, d, p) {
+            return false;
+        }
+    }
+    true
+}
+
+// Whether a packet is one of a queue's.
+fn holds(queue: Queue, packet: Packet) -> bool
+    requires { ⌜ queue .length ≤ 16 ⌝ }
+    ensures { λ r. ⌜ r ≡ some-of (same-packet packet) (packetsOf queue) ⌝ }
+{
+    let length = queue.length;
+    for j in 0..length {
+        let p = queue.packets[j];
+        if same_packet(packet, p) {
+            return true;
+        }
+    }
+    false
+}
+
+// 'each contender's packet in its own station's queue, its parameter below D and in PRI and RTVC equal to priority or capability'; the
+// place of a station that does not contend is zero, and none contends between contentions.
+fn contender_stands(settings: Settings, begun: bool, l: Listed, c: Contender, queue: Queue) -> bool
+    requires { ⌜ queue .length ≤ 16 ⌝ }
+    ensures { λ r. ⌜ r ≡ contenderSound settings begun l c (packetsOf queue) ⌝ }
+{
+    if !c.contends {
+        return no_contender(c);
+    }
+    if !begun {
+        return false;
+    }
+    if !holds(queue, c.packet) {
+        return false;
+    }
+    if sorts::wide(settings.d) <= c.parameter {
+        return false;
+    }
+    disciplines::parameter_fits(settings.discipline, l.capability, c)
+}
+
+// 'in each queue at most 16 packets, numbers .., values and lengths in range', and the station's place among the contenders
+fn station_stands(
+    settings: Settings,
+    begun: bool,
+    admitted: u64,
+    l: Listed,
+    c: Contender,
+    queue: Queue,
+) -> bool
+    ensures { λ r. ⌜ r ≡ stationTest settings begun admitted l c queue ⌝ }
+{
+    if 16 < queue.length {
+        return false;
+    }
+    if !zero_past_end(queue) {
+        return false;
+    }
+    if !rises(queue, admitted) {
+        return false;
+    }
+    if !packets_fit(queue, settings.discipline, settings.d) {
+        return false;
+    }
+    contender_stands(settings, begun, l, c, queue)
+}
+
+// 'What has no meaning is zero: stations past N'
+fn nobody_at(l: Listed, c: Contender, queue: Queue) -> bool
+    ensures { λ r. ⌜ r ≡ nobodyTest l c queue ⌝ }
+{
+    if !sorts::same_address(l.address, zeros::NOBODY.address) {
+        return false;
+    }
+    if !sorts::same_capability(l.capability, zeros::NOBODY.capability) {
+        return false;
+    }
+    if queue.length != 0 {
+        return false;
+    }
+    if !no_contender(c) {
+        return false;
+    }
+    zero_past_end(queue)
+}
+
+// The place of station i: a station's up to N, nobody's past it.
+fn place_stands(
+    settings: Settings,
+    begun: bool,
+    admitted: u64,
+    i: usize,
+    l: Listed,
+    c: Contender,
+    queue: Queue,
+) -> bool
+    ensures { λ r. ⌜ r ≡ cond (ltb i (settings .n)) (stationTest settings begun admitted l c queue) (nobodyTest l c queue) ⌝ }
+{
+    if i < settings.n {
+        return station_stands(settings, begun, admitted, l, c, queue);
+    }
+    nobody_at(l, c, queue)
+}
+
+// Each of the 64 places. The queues are taken out in the loop itself: a call of `queue_at` copies the whole row.
+fn places_stand(g: Segment, queues: Queues) -> bool
+    ensures { λ r. ⌜ r ≡ each-place (placeSound g queues) 0 64 ⌝ }
+{
+    let settings = g.settings;
+    let contention = g.contention;
+    for i in 0..64 {
+        let l = g.listed[i];
+        let c = g.contenders[i];
+        let mut places = [zeros::NO_PACKET; 16];
+        let first = 16 * i;
+        for j in 0..16 {
+            let at = first + j;
+            places[j] = queues.packets[at];
+        }
+        let length = queues.lengths[i];
+        let queue = Queue {
+            packets: places,
+            length,
+        };
+        if !place_stands(settings, contention.begun, g.admitted, i, l, c, queue) {
+            return false;
+        }
+    }
+    true
+}
+
+// A number, or the most where it is above that.
+fn at_most(n: usize, most: usize) -> usize
+    ensures { λ r. ⌜ r ≡ min n most ⌝ }
+{
+    if most < n {
+        return most;
+    }
+    n
+}
+
+// 'waiting is the number of packets in the queues': of the first n of the 64, none of which holds more than 16.
+pub fn waiting_in(lengths: [usize; 64], n: usize) -> usize
+    ensures { λ r. ⌜ r ≡ waitingIn lengths n ⌝ }
+{
+    let count = at_most(n, 64);
+    let mut sum = 0usize;
+    for i in 0..count {
+        sum += at_most(lengths[i], 16);
+    }
+    sum
+}
+
+// 'admitted = sent + lost + waiting'
+fn counts_stand(admitted: u64, sent: u64, lost: u64, waiting: usize) -> bool
+    ensures { λ r. ⌜ r ≡ eqb admitted (sent + lost + waiting) ⌝ }
+{
+    if admitted < sent {
+        return false;
+    }
+    let rest = admitted - sent;
+    if rest < lost {
+        return false;
+    }
+    rest - lost == waiting as u64
+}
+
+// Whether some station has a capability.
+fn has_capability(listed: [Listed; 64], n: usize, capability: Capability) -> bool
+    requires { ⌜ n ≤ 64 ⌝ }
+    ensures { λ r. ⌜ r ≡ some-of (λ l. eqb (capability .0) (l .capability .0)) (take n listed) ⌝ }
+{
+    for i in 0..n {
+        let l = listed[i];
+        if sorts::same_capability(capability, l.capability) {
+            return true;
+        }
+    }
+    false
+}
+
+// 'a last winner only in RTVC and some station's capability'; without one the field is zero
+fn round_stands(g: Segment) -> bool
+    requires { ⌜ g .settings .n ≤ 64 ⌝ }
+    ensures { λ r. ⌜ r ≡ roundSound g ⌝ }
+{
+    let round = g.round;
+    let settings = g.settings;
+    if !round.won {
+        return sorts::same_capability(round.last, Capability(0));
+    }
+    if settings.discipline < disciplines::RTVC {
+        return false;
+    }
+    let listed = g.listed;
+    has_capability(listed, settings.n, round.last)
+}
+
+// Whether this is no window: 'the window .. between contentions' is zero.
+fn no_window(w: Window) -> bool
+    ensures { λ r. ⌜ r ≡ no-window w ⌝ }
+{
+    if w.start != 0 {
+        return false;
+    }
+    if w.size != 0 {
+        return false;
+    }
+    let side = w.side;
+    match side {
+        Side::Left => true,
+        Side::Right => false,
+    }
+}
+
+// 'during a contention a window ..., tie value below D'; 'the tie value outside the tie phase, the window .. between contentions' are zero
+fn contention_stands(settings: Settings, c: Contention) -> bool
+    ensures { λ r. ⌜ r ≡ contentionSound settings c ⌝ }
+{
+    if !c.begun {
+        if c.tied {
+            return false;
+        }
+        if c.tie != 0 {
+            return false;
+        }
+        return no_window(c.window);
+    }
+    let w = c.window;
+    if c.tied {
+        if sorts::wide(settings.d) <= c.tie {
+            return false;
+        }
+        return window::is_placed(w, settings.a);
+    }
+    if c.tie != 0 {
+        return false;
+    }
+    window::is_placed(w, settings.d)
+}
+
+// The places of stations, 'admitted = sent + lost + waiting', and 'none twice over all queues'.
+fn queues_stand(g: Segment, queues: Queues) -> bool
+    requires { ⌜ g .settings .n ≤ 64 ⌝ }
+    ensures { λ r. ⌜ r ≡ queuesSound g queues ⌝ }
+{
+    if !places_stand(g, queues) {
+        return false;
+    }
+    let settings = g.settings;
+    let n = settings.n;
+    let lengths = queues.lengths;
+    let waiting = waiting_in(lengths, n);
+    if !counts_stand(g.admitted, g.sent, g.lost, waiting) {
+        return false;
+    }
+    numbers::none_twice(queues, n)
+}
+
+// The test that refusal 1 goes by: the set-up, 'clock and admitted count within range', the round, the contention, the queues.
+pub fn stands(s: State) -> bool
+    ensures { λ r. ⌜ r ≡ standing s ⌝ }
+{
+    let g = s.segment;
+    let settings = g.settings;
+    let listed = g.listed;
+    let v = stations::verdict(settings, listed, 64);
+    if v.refusal != 0 {
+        return false;
+    }
+    if sorts::before(Slot(disciplines::CLOCK_END), g.clock) {
+        return false;
+    }
+    if MOST_ADMITTED < g.admitted {
+        return false;
+    }
+    if !round_stands(g) {
+        return false;
+    }
+    let contention = g.contention;
+    if !contention_stands(settings, contention) {
+        return false;
+    }
+    let queues = s.queues;
+    queues_stand(g, queues)
+}

@@ -1,0 +1,58 @@
+// 'What has no meaning is zero': no set-up, places that nothing fills, no contention, no last winner.
+use crate::Address;
+use crate::Capability;
+use crate::Contender;
+use crate::Contention;
+use crate::Listed;
+use crate::Round;
+use crate::Settings;
+use rules::Packet;
+use window::Side;
+use window::Window;
+
+// No set-up.
+pub const NO_SETTINGS: Settings = Settings {
+    discipline: 0,
+    d: 0,
+    a: 0,
+    q: 0,
+    n: 0,
+};
+
+// A place that no station fills.
+pub const NOBODY: Listed = Listed {
+    address: Address(0),
+    capability: Capability(0),
+};
+
+// A place that no packet fills.
+pub const NO_PACKET: Packet = Packet {
+    number: 0,
+    value: 0,
+    length: 0,
+};
+
+// The place of a station that does not contend.
+pub const NO_CONTENDER: Contender = Contender {
+    contends: false,
+    parameter: 0,
+    packet: NO_PACKET,
+};
+
+// No contention is under way: no window, no tie value.
+pub const NO_CONTENTION: Contention = Contention {
+    begun: false,
+    window: Window {
+        start: 0,
+        size: 0,
+        side: Side::Left,
+    },
+    tied: false,
+    tie: 0,
+};
+
+// 'no last winner'
+pub const NO_ROUND: Round = Round {
+    won: false,
+    last: Capability(0),
+};
