@@ -1,8 +1,8 @@
 -- The types of a state (crate state) and of a packet (crate rules), under one name for this crate's files. Assumes nothing.
 pub use Rattle.rules.specs.declared.Packet.{Packet}
-pub use Rattle.state.specs.declared.Slot.{Slot}
-pub use Rattle.state.specs.declared.Address.{Address}
-pub use Rattle.state.specs.declared.Capability.{Capability}
+pub use Rattle.sorts.specs.declared.Slot.{Slot}
+pub use Rattle.sorts.specs.declared.Address.{Address}
+pub use Rattle.sorts.specs.declared.Capability.{Capability}
 pub use Rattle.state.specs.declared.Settings.{Settings}
 pub use Rattle.state.specs.declared.Listed.{Listed}
 pub use Rattle.state.specs.declared.Contender.{Contender}

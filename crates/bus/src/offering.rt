@@ -1,11 +1,10 @@
 // What the three disciplines do differently as a contention begins: the order of offers, parameters, and who sits out.
 use rules::Packet;
-use state::Capability;
+use sorts::Capability;
+use sorts::Slot;
+use sorts::disciplines;
 use state::Round;
 use state::Settings;
-use state::Slot;
-use state::disciplines;
-use state::sorts;
 ghost use Prim.Native.Nat.{_-_, _/_, _≤_, min};
 ghost use mathlib.Core.Path.{_≡_};
 ghost use Rattle.rules.specs.SetUp.{disciplineOf};

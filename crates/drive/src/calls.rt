@@ -6,7 +6,7 @@ use crate::lines;
 use crate::show;
 use crate::words;
 use rules::Verdict;
-use state::Address;
+use sorts::Address;
 use state::Row;
 use state::SetUp;
 use state::Settings;

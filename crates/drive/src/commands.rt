@@ -1,8 +1,8 @@
 // A command of a script: its letter and its numbers.
 ghost use Prim.Native.Nat.{_≤_};
 use crate::words;
-use state::Address;
-use state::Capability;
+use sorts::Address;
+use sorts::Capability;
 use state::Listed;
 
 // A letter, its numbers in their order, the stations of `U`, and the place after all of them. What a command does not have is zero.

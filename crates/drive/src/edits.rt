@@ -1,8 +1,9 @@
 // `E`: a state with one field changed.
 use crate::words;
 use rules::Packet;
-use state::Address;
-use state::Capability;
+use sorts::Address;
+use sorts::Capability;
+use sorts::Slot;
 use state::Contender;
 use state::Contention;
 use state::Listed;
@@ -10,7 +11,6 @@ use state::Queues;
 use state::Round;
 use state::Segment;
 use state::Settings;
-use state::Slot;
 use state::State;
 use window::Side;
 use window::Window;

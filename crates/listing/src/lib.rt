@@ -12,9 +12,9 @@ use bus::Report;
 use bus::Stretch;
 use scenario::ARRIVAL_BYTES;
 use scenario::Record;
-use state::Address;
+use sorts::Address;
+use sorts::Slot;
 use state::Arrival;
-use state::Slot;
 use state::State;
 
 mod telling;

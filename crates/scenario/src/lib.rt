@@ -10,13 +10,13 @@ ghost use Rattle.scenario.specs.Format.{readRecord, said, outOfPlace};
 ghost use Rattle.scenario.specs.Reading.{reading, scenarioForm, readStations, set-up-bytes, stationOffset, stationsFrom};
 ghost use Rattle.scenario.specs.Reading.{refused as refusedReading};
 ghost use Rattle.scenario.specs.Parts.{endingForm, runAt, endingAt, afterPassed};
-use state::Address;
+use sorts::Address;
+use sorts::Capability;
+use sorts::Slot;
 use state::Arrival;
-use state::Capability;
 use state::Listed;
 use state::Row;
 use state::Settings;
-use state::Slot;
 use state::State;
 
 mod fields;

@@ -4,12 +4,12 @@ ghost use Rattle.scenario.specs.Format.{readRecord, said, saidBy, setUpK
 ghost use Rattle.scenario.specs.Parts.{isKind, saidByKind};
 use crate::Record;
 use crate::fields;
-use state::Address;
+use sorts::Address;
+use sorts::Capability;
+use sorts::Slot;
 use state::Arrival;
-use state::Capability;
 use state::Listed;
 use state::Settings;
-use state::Slot;
 
 // The bytes before the body: length and kind.
 const HEADER: usize = 4;

@@ -1,6 +1,7 @@
 // A lent state with one thing changed.
 use rules::Packet;
-use state::Capability;
+use sorts::Capability;
+use sorts::Slot;
 use state::Contender;
 use state::Contention;
 use state::Listed;
@@ -8,7 +9,6 @@ use state::Queues;
 use state::Round;
 use state::Segment;
 use state::Settings;
-use state::Slot;
 use state::State;
 use window::Side;
 use window::Window;

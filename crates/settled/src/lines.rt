@@ -1,10 +1,10 @@
 // Lines of what the calls answer: a label, a colon, and numbers.
 use bus::Arrivals;
-use state::Address;
+use sorts::Address;
+use sorts::Slot;
 use state::Arrival;
 use state::Row;
 use state::Settings;
-use state::Slot;
 use state::State;
 
 fn word(n: u64) {

@@ -1,6 +1,6 @@
 // The segments that the examples start from.
-use state::Address;
-use state::Capability;
+use sorts::Address;
+use sorts::Capability;
 use state::Listed;
 use state::Row;
 use state::Settings;

@@ -3,7 +3,6 @@ pub mod Rows
 pub mod Places
 pub mod Form
 pub mod Stands
-pub mod DisciplineCases
 pub mod Tested
 pub mod SettingUp
 pub mod StandingParts

@@ -17,9 +17,9 @@ use Rattle.rules.specs.Bus as Machine
 use Rattle.rules.specs.Bus.{places, most-stations, code}
 use Rattle.rules.specs.SetUp.{disciplineOf}
 use Rattle.rules.specs.Standing.{stands}
-pub use Rattle.state.specs.declared.Slot.{Slot}
-pub use Rattle.state.specs.declared.Address.{Address}
-pub use Rattle.state.specs.declared.Capability.{Capability}
+pub use Rattle.sorts.specs.declared.Slot.{Slot}
+pub use Rattle.sorts.specs.declared.Address.{Address}
+pub use Rattle.sorts.specs.declared.Capability.{Capability}
 pub use Rattle.state.specs.declared.Settings.{Settings}
 pub use Rattle.state.specs.declared.Listed.{Listed}
 pub use Rattle.state.specs.declared.Contender.{Contender}

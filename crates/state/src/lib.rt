@@ -6,21 +6,15 @@ ghost use Rattle.state.specs.State.{form};
 ghost use Rattle.state.specs.SetUp.{settingsRefusal, codedSetUp, setUpResult, requestOf};
 use rules::Packet;
 use rules::Verdict;
+use sorts::Address;
+use sorts::Capability;
+use sorts::Slot;
 use window::Window;
 
-pub mod disciplines;
 mod numbers;
-pub mod sorts;
 pub mod standing;
 mod stations;
 pub mod zeros;
-
-// 'Slots, addresses and capabilities count three separate things': each is opened only where it is compared with its own sort.
-pub struct Slot(pub u32);
-
-pub struct Address(pub u32);
-
-pub struct Capability(pub u32);
 
 // The numbers of a set-up: discipline 0 PRI, 1 RTDG, 2 RTVC; parameter space d, address space a, laxity step q, n stations.
 pub struct Settings {

@@ -1,5 +1,4 @@
 // The standing conditions: what refusal 1 goes by.
-use crate::Capability;
 use crate::Contender;
 use crate::Contention;
 use crate::Listed;
@@ -7,14 +6,14 @@ use crate::Queue;
 use crate::Queues;
 use crate::Segment;
 use crate::Settings;
-use crate::Slot;
 use crate::State;
-use crate::disciplines;
 use crate::numbers;
-use crate::sorts;
 use crate::stations;
 use crate::zeros;
 use rules::Packet;
+use sorts::Capability;
+use sorts::Slot;
+use sorts::disciplines;
 use window::Side;
 use window::Window;
 ghost use Prim.Native.Nat.{_+_, _≤_, min};
@@ -26,7 +25,7 @@ ghost use Rattle.rules.specs.Lists.{each-of, some-of};
 ghost use Rattle.rules.specs.SetUp.{disciplineOf};
 ghost use Rattle.rules.specs.Standing.{value-fits, length-fits, rising, same-packet};
 ghost use Rattle.state.specs.State.{no-packet, no-window, each-place, standing};
-ghost use Rattle.state.specs.Parts.{packetsOf, no-contender, contenderSound, stationTest, nobodyTest, placeSound, queuesSound, waitingIn, roundSound, contentionSound};
+ghost use Rattle.state.specs.Parts.{packetsOf, no-contender, contenderSound, stationTest, nobodyTest, parameterFits, placeSound, queuesSound, waitingIn, roundSound, contentionSound};
 
 // 'packets admitted: at most 4,294,967,295'
 pub const MOST_ADMITTED: u64 = 4_294_967_295;
@@ -142,6 +141,19 @@ fn holds(queue: Queue, packet: Packet) -> bool
     false
 }
 
+// 'in PRI and RTVC equal to priority or capability'
+fn parameter_fits(discipline: u32, capability: Capability, c: Contender) -> bool
+    ensures { λ r. ⌜ r ≡ parameterFits (disciplineOf discipline) capability c ⌝ }
+{
+    if discipline == disciplines::PRI {
+        return c.parameter == sorts::wide(c.packet.value);
+    }
+    if discipline == disciplines::RTDG {
+        return true;
+    }
+    c.parameter == sorts::capability_number(capability)
+}
+
 // 'each contender's packet in its own station's queue, its parameter below D and in PRI and RTVC equal to priority or capability'; the
 // place of a station that does not contend is zero, and none contends between contentions.
 fn contender_stands(settings: Settings, begun: bool, l: Listed, c: Contender, queue: Queue) -> bool
@@ -160,7 +172,7 @@ fn contender_stands(settings: Settings, begun: bool, l: Listed, c: Contender, qu
     if sorts::wide(settings.d) <= c.parameter {
         return false;
     }
-    disciplines::parameter_fits(settings.discipline, l.capability, c)
+    parameter_fits(settings.discipline, l.capability, c)
 }
 
 // 'in each queue at most 16 packets, numbers .., values and lengths in range', and the station's place among the contenders

@@ -1,16 +1,15 @@
 // The stations of a set-up: refusals 2 to 6 of its numbers, then 7 to 10 of each station in turn; and the state that it gives.
-use crate::Capability;
 use crate::Compared;
 use crate::Listed;
 use crate::Queues;
 use crate::Segment;
 use crate::Settings;
-use crate::Slot;
 use crate::State;
-use crate::disciplines;
-use crate::sorts;
 use crate::zeros;
 use rules::Verdict;
+use sorts::Capability;
+use sorts::Slot;
+use sorts::disciplines;
 ghost use Prim.Native.Nat.{_≤_, min};
 ghost use mathlib.Core.Path.{_≡_};
 ghost use mathlib.Core.Bool.{_||_, cond};

@@ -1,12 +1,12 @@
 // 'What has no meaning is zero': no set-up, places that nothing fills, no contention, no last winner.
-use crate::Address;
-use crate::Capability;
 use crate::Contender;
 use crate::Contention;
 use crate::Listed;
 use crate::Round;
 use crate::Settings;
 use rules::Packet;
+use sorts::Address;
+use sorts::Capability;
 use window::Side;
 use window::Window;
 

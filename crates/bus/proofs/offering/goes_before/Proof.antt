@@ -3,7 +3,7 @@ use mathlib.Core.Path.{_≡_}
 use native.Mathlib.Omega.{arith}
 use borrow.Author.Needs.{needs}
 use Rattle.rules.specs.Begin.{goes-before}
-use Rattle.state.proofs.DisciplineCases.{is-rtvc, by-discipline}
+use Rattle.sorts.proofs.DisciplineCases.{is-rtvc, by-discipline}
 use Rattle.bus.proofs.offering.goes_before.Statement.{statement}
 use Rattle.bus.proofs.offering.goes_before.Tie as tie
 

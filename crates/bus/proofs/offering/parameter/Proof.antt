@@ -2,7 +2,7 @@
 use mathlib.Core.Path.{_∙_}
 use native.Mathlib.Omega.{arith}
 use borrow.Author.Needs.{needs}
-use Rattle.state.proofs.DisciplineCases.{is-rtdg, is-rtvc}
+use Rattle.sorts.proofs.DisciplineCases.{is-rtdg, is-rtvc}
 use Rattle.bus.proofs.offering.parameter.Statement.{statement}
 use Rattle.bus.proofs.offering.parameter.Tie as tie
 

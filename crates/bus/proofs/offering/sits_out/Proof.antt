@@ -6,7 +6,7 @@ use borrow.Author.Tests.{not-true, not-false}
 use borrow.Author.Needs.{needs}
 use Rattle.rules.specs.Begin.{sits-out}
 use Rattle.state.specs.State.{lastOf}
-use Rattle.state.proofs.DisciplineCases.{is-rtvc, by-discipline}
+use Rattle.sorts.proofs.DisciplineCases.{is-rtvc, by-discipline}
 use Rattle.bus.proofs.offering.sits_out.Statement.{statement}
 use Rattle.bus.proofs.offering.sits_out.Tie as tie
 

@@ -1,8 +1,8 @@
 -- `disciplines::value_fits` meets its contract: one test for each discipline. Assumes nothing.
 use native.Mathlib.Omega.{arith}
-use Rattle.state.proofs.DisciplineCases.{is-pri, is-rtdg, is-rtvc}
-use Rattle.state.proofs.disciplines.value_fits.Statement.{statement}
-use Rattle.state.proofs.disciplines.value_fits.Tie as tie
+use Rattle.sorts.proofs.DisciplineCases.{is-pri, is-rtdg, is-rtvc}
+use Rattle.sorts.proofs.disciplines.value_fits.Statement.{statement}
+use Rattle.sorts.proofs.disciplines.value_fits.Tie as tie
 
 returns : tie.Need-returns
 returns c = rw (is-pri (c .if1 .taken))

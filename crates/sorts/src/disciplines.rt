@@ -1,14 +1,9 @@
-// What the three disciplines hold a packet and a contender to: values, late packets, lengths and parameters.
-use crate::Capability;
-use crate::Contender;
+// What the three disciplines hold a packet to: its value, its latest start and its length.
 use crate::Slot;
-use crate::sorts;
-use rules::Packet;
 ghost use mathlib.Core.Path.{_≡_};
 ghost use Rattle.rules.specs.Bus.{late};
 ghost use Rattle.rules.specs.SetUp.{disciplineOf};
 ghost use Rattle.rules.specs.Standing.{value-fits, length-fits};
-ghost use Rattle.state.specs.Parts.{parameterFits};
 
 pub const PRI: u32 = 0;
 
@@ -27,7 +22,7 @@ pub fn late(discipline: u32, slot: Slot, value: u32) -> bool
     ensures { λ r. ⌜ r ≡ late (disciplineOf discipline) (slot .0) value ⌝ }
 {
     if discipline == RTDG {
-        return sorts::before(Slot(value), slot);
+        return crate::before(Slot(value), slot);
     }
     false
 }
@@ -53,17 +48,4 @@ pub fn length_fits(length: u32) -> bool
         return false;
     }
     length <= LONGEST_PACKET
-}
-
-// 'in PRI and RTVC equal to priority or capability'
-pub fn parameter_fits(discipline: u32, capability: Capability, c: Contender) -> bool
-    ensures { λ r. ⌜ r ≡ parameterFits (disciplineOf discipline) capability c ⌝ }
-{
-    if discipline == PRI {
-        return c.parameter == sorts::wide(c.packet.value);
-    }
-    if discipline == RTDG {
-        return true;
-    }
-    c.parameter == sorts::capability_number(capability)
 }

@@ -3,9 +3,9 @@ use mathlib.Core.Path.{_≡_, refl}
 use mathlib.Core.Bool.{false}
 use borrow.Author.Needs.{needs}
 use Rattle.rules.specs.Bus.{late}
-use Rattle.state.proofs.DisciplineCases.{is-rtdg, by-discipline}
-use Rattle.state.proofs.disciplines.late.Statement.{statement}
-use Rattle.state.proofs.disciplines.late.Tie as tie
+use Rattle.sorts.proofs.DisciplineCases.{is-rtdg, by-discipline}
+use Rattle.sorts.proofs.disciplines.late.Statement.{statement}
+use Rattle.sorts.proofs.disciplines.late.Tie as tie
 
 before-requires : tie.Need-before-requires
 before-requires c κs = search needs

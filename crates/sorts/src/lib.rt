@@ -1,10 +1,17 @@
-// The three sorts of numbers, opened: slots with slots, addresses with addresses, capabilities with capabilities.
-use crate::Address;
-use crate::Capability;
-use crate::Slot;
+// The three sorts of numbers, each compared with its own sort and opened here; and what a discipline holds a packet's numbers to
+// (`disciplines`). Every function takes any input.
 ghost use Prim.Native.Nat.{_-_};
 ghost use mathlib.Core.Path.{_≡_};
 ghost use lib.Dec.{leb, ltb, eqb};
+
+pub mod disciplines;
+
+// 'Slots, addresses and capabilities count three separate things.'
+pub struct Slot(pub u32);
+
+pub struct Address(pub u32);
+
+pub struct Capability(pub u32);
 
 // Whether slot t comes before slot u.
 pub fn before(t: Slot, u: Slot) -> bool

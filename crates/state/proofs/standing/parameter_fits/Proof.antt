@@ -1,9 +1,9 @@
--- `disciplines::parameter_fits` meets its contract: one test for each discipline. Assumes nothing.
+-- `standing::parameter_fits` meets its contract: one test for each discipline. Assumes nothing.
 use native.Mathlib.Omega.{arith}
 use borrow.Author.Needs.{needs}
-use Rattle.state.proofs.DisciplineCases.{is-pri, is-rtvc}
-use Rattle.state.proofs.disciplines.parameter_fits.Statement.{statement}
-use Rattle.state.proofs.disciplines.parameter_fits.Tie as tie
+use Rattle.sorts.proofs.DisciplineCases.{is-pri, is-rtvc}
+use Rattle.state.proofs.standing.parameter_fits.Statement.{statement}
+use Rattle.state.proofs.standing.parameter_fits.Tie as tie
 
 wide-requires : tie.Need-wide-requires
 wide-requires c κs = search needs

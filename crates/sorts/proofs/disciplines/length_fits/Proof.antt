@@ -2,8 +2,8 @@
 use mathlib.Core.Path.{sym}
 use mathlib.Core.Bool.{Bool·not-not}
 use borrow.Author.Tests.{lt-leb, le-leb}
-use Rattle.state.proofs.disciplines.length_fits.Statement.{statement}
-use Rattle.state.proofs.disciplines.length_fits.Tie as tie
+use Rattle.sorts.proofs.disciplines.length_fits.Statement.{statement}
+use Rattle.sorts.proofs.disciplines.length_fits.Tie as tie
 
 returns : tie.Need-returns
 returns c = simp (lt-leb _ _ (c .if1 .taken))
