@@ -2,7 +2,6 @@
 // Every call takes any bytes.
 ghost use Prim.Native.Nat.{_≤_};
 ghost use mathlib.Core.Path.{_≡_};
-ghost use lib.Dec.{ltb};
 ghost use lib.ListN.{drop};
 ghost use Rattle.state.specs.declared.Settings.{Settings};
 ghost use Rattle.state.specs.SetUp.{requestOf, requestWith, settingsRefusal};
@@ -149,13 +148,6 @@ fn read_stations(input: &[u8], n: usize) -> Stations
     }
 }
 
-// Whether one slot is before another.
-fn before(a: Slot, b: Slot) -> bool
-    ensures { λ r. ⌜ r ≡ ltb (a .0) (b .0) ⌝ }
-{
-    a.0 < b.0
-}
-
 // 'any arrivals', from an offset on; '21: arrival time below the previous arrival's'.
 fn pass_arrivals(input: &[u8], from: usize) -> Passed
     ensures { λ r. ⌜ endingForm (endingAt (now (input .entry)) from) ≡ afterPassed (now (input .entry)) r ⌝ }
@@ -168,7 +160,7 @@ fn pass_arrivals(input: &[u8], from: usize) -> Passed
             return Passed { refusal: 0, at };
         };
         let time = arrival.time;
-        if before(time, previous) {
+        if sorts::before(time, previous) {
             return Passed { refusal: 21, at };
         }
         previous = time;

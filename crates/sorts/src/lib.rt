@@ -38,45 +38,45 @@ pub fn same_address(address: Address, other: Address) -> bool
 }
 
 // Whether an address lies past the last of an address space.
-pub fn address_past(space: u32, x: Address) -> bool
-    ensures { λ r. ⌜ r ≡ leb space (x .0) ⌝ }
+pub fn address_past(a: u32, address: Address) -> bool
+    ensures { λ r. ⌜ r ≡ leb a (address .0) ⌝ }
 {
-    space <= x.0
+    a <= address.0
 }
 
 // The address as a number that windows of addresses hold.
-pub fn address_number(x: Address) -> u64
-    ensures { λ r. ⌜ r ≡ x .0 ⌝ }
+pub fn address_number(address: Address) -> u64
+    ensures { λ r. ⌜ r ≡ address .0 ⌝ }
 {
-    wide(x.0)
+    wide(address.0)
 }
 
 // Whether two capabilities are one.
-pub fn same_capability(x: Capability, y: Capability) -> bool
-    ensures { λ r. ⌜ r ≡ eqb (x .0) (y .0) ⌝ }
+pub fn same_capability(capability: Capability, other: Capability) -> bool
+    ensures { λ r. ⌜ r ≡ eqb (capability .0) (other .0) ⌝ }
 {
-    x.0 == y.0
+    capability.0 == other.0
 }
 
 // Whether a capability is not above another.
-pub fn not_above(x: Capability, y: Capability) -> bool
-    ensures { λ r. ⌜ r ≡ leb (x .0) (y .0) ⌝ }
+pub fn not_above(capability: Capability, last: Capability) -> bool
+    ensures { λ r. ⌜ r ≡ leb (capability .0) (last .0) ⌝ }
 {
-    x.0 <= y.0
+    capability.0 <= last.0
 }
 
 // Whether a capability lies past the last of a parameter space.
-pub fn capability_past(space: u32, x: Capability) -> bool
-    ensures { λ r. ⌜ r ≡ leb space (x .0) ⌝ }
+pub fn capability_past(d: u32, capability: Capability) -> bool
+    ensures { λ r. ⌜ r ≡ leb d (capability .0) ⌝ }
 {
-    space <= x.0
+    d <= capability.0
 }
 
 // The capability as a number that windows of parameters hold.
-pub fn capability_number(x: Capability) -> u64
-    ensures { λ r. ⌜ r ≡ x .0 ⌝ }
+pub fn capability_number(capability: Capability) -> u64
+    ensures { λ r. ⌜ r ≡ capability .0 ⌝ }
 {
-    wide(x.0)
+    wide(capability.0)
 }
 
 // A number in more bits.
