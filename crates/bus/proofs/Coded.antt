@@ -22,17 +22,15 @@ use Rattle.window.specs.declared.Side.the-variants.{Left, Right}
 use Rattle.rules.specs.Step.{opened, stepTests, stepRefusal, step}
 use Rattle.rules.specs.Engine.{machine, Call, admission, one-step, admitted, stepped, reply, next, after, replies, reach}
 use Rattle.rules.specs.Demands.{Demand2, Promised}
-use Rattle.rules.proofs.Laws.{clash, and-true, true-and}
-use Rattle.rules.proofs.Tests.{Whether, decides, told, tells}
+use Rattle.rules.proofs.Laws.{clash, and-true}
+use Rattle.rules.proofs.Tests.{tells}
 use Rattle.rules.proofs.Standing as Rules
 use Rattle.rules.proofs.Refusals.{probe-number, handsBack}
-use Rattle.rules.proofs.Keeps.{keepsStanding}
 use Rattle.rules.proofs.Reach as Reach
 use Rattle.rules.proofs.Reach.{standing-reached}
 use Rattle.rules.proofs.Promises.{promised}
 use Rattle.bus.specs.Types.{State}
 use Rattle.state.specs.State.{Held, meaning, form, padded, standing}
-use Rattle.state.specs.SetUp.{codedSetUp}
 use Rattle.bus.specs.Coded.{codedAdmit, codedStep, coded, answerForm, answerOf}
 use Rattle.state.proofs.Form.{form-meaning, Fits, standing-fits, nothing-fits, meaning-form, padded-form}
 use Rattle.state.proofs.Stands.{form-stands}

@@ -2,17 +2,15 @@
 use Prim.Native.Nat.{ℕ, zero, suc, _+_, _-_, _*_, _≤_, _<_}
 use mathlib.Core.Path.{_≡_, refl, sym, ap, ap₂, _∙_}
 use mathlib.Core.Bool.{Bool, true, false, _&&_, cond}
-use mathlib.Core.List.{List, [], _∷_, _++_, append-assoc, append-nil}
+use mathlib.Core.List.{List, [], _∷_, _++_, append-assoc}
 use native.Mathlib.Numerals.{add-one}
 use native.Mathlib.Omega.{arith}
-use mir.Val.{Val}
-use denote.Laws.{Is}
 use borrow.Author.Tests.{ltb-true, ltb-false, leb-true, le-leb, eqb-true, eqb-false}
 use lib.Dec.{leb, ltb, eqb}
-use lib.ListN.{length, getD, take, drop, set, replicate, length-append, length-map, length-take, length-drop, length-set, length-replicate}
+use lib.ListN.{length, getD, take, drop, set, replicate, length-append, length-take, length-drop, length-set, length-replicate}
 use lib.ListN.{take-append-drop}
-use lib.Seq.{length-take-le, take-all, take-suc, take-at, drop-at, set-at, getD-take, getD-drop, getD-set-same, getD-set-other, drop-drop}
-use lib.Seq.{take-append-seam, drop-append-seam, take-append-le, drop-append-le, drop-append-add, append-snoc, paste, paste-suc}
+use lib.Seq.{length-take-le, take-suc, take-at, drop-at, set-at, getD-set-same, getD-set-other, drop-drop}
+use lib.Seq.{take-append-seam, drop-append-seam, take-append-le, drop-append-le, drop-append-add, append-snoc}
 use Rattle.rules.specs.Lists.{kept, keep, each-of}
 use Rattle.rules.proofs.Laws.{and-true, true-and, length-keep, count-le}
 use Rattle.bus.specs.Types.{Queues, Queue, Packet}

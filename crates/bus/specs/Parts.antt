@@ -18,7 +18,7 @@ use Rattle.rules.specs.Probe as Probe
 use Rattle.rules.specs.Probe.{lies-in, able, idle, collision, success, parameter-phase, tie-phase}
 use Rattle.bus.specs.Types.{Slot, Address, Capability, Settings, Listed, Contender, Contention, Round, Segment, Queues, State, Queue, Packet}
 use Rattle.state.specs.Parts.{noContenders}
-use Rattle.state.specs.State.{noPacket, noContender, noContention, noRound, nobody, lastOf, tieOf, meaning, form, row}
+use Rattle.state.specs.State.{noPacket, noContender, noContention, noRound, nobody, lastOf, tieOf, meaning, form}
 use Rattle.bus.specs.Coded.{Admission, Answer}
 pub use Rattle.bus.specs.declared.Leaving.{Leaving}
 pub use Rattle.bus.specs.declared.Leaving.the-variants.{Late, Sent}

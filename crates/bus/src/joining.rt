@@ -34,7 +34,6 @@ pub fn station_of(listed: [Listed; 64], n: usize, address: Address) -> usize
     n
 }
 
-
 // The first of 11 to 16 that holds, or 0, for a station's place, or N where no station has the address.
 pub fn refusal(
     settings: Settings,

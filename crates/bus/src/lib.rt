@@ -7,7 +7,6 @@ ghost use Rattle.bus.specs.Coded.{codedAdmit, codedStep, admissionResult
 use rules::Admitted;
 use rules::Packet;
 use sorts::Address;
-use sorts::Capability;
 use sorts::Slot;
 use state::Arrival;
 use state::Contention;

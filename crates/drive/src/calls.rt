@@ -1,10 +1,10 @@
 // What a command does: a call of the engine and the line of its answer, or a change of the state.
-use bus::Answer;
 use crate::commands::Command;
 use crate::edits;
 use crate::lines;
 use crate::show;
 use crate::words;
+use bus::Answer;
 use rules::Verdict;
 use sorts::Address;
 use state::Row;

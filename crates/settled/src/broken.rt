@@ -1,13 +1,13 @@
 // States that break one standing condition each, lent to each call. Beside some stands a neighbour that breaks none.
+use crate::edits;
 use crate::edits::between;
 use crate::edits::in_tie;
 use crate::edits::in_window;
 use crate::edits::packet;
-use crate::edits;
 use crate::lines;
+use crate::segments;
 use crate::segments::listed;
 use crate::segments::settings;
-use crate::segments;
 use rules::Packet;
 use state::Contention;
 use state::Listed;

@@ -1,22 +1,16 @@
 -- The places of a row: how long the arrays are, station i's places in the row, and loops that copy places. Assumes nothing.
-use Prim.Native.Nat.{ℕ, zero, suc, _+_, _-_, _*_, _≤_, _<_}
-use mathlib.Core.Path.{_≡_, refl, sym, ap, ap₂, _∙_}
-use mathlib.Core.Bool.{Bool, true, false, _&&_, cond}
-use mathlib.Core.List.{List, [], _∷_, _++_, append-assoc, append-nil}
+use Prim.Native.Nat.{ℕ, _+_, _-_, _*_, _<_}
+use mathlib.Core.Path.{_≡_, sym, ap, ap₂, _∙_}
+use mathlib.Core.List.{List, _++_, append-nil}
 use native.Mathlib.Numerals.{add-one}
 use native.Mathlib.Omega.{arith}
 use mir.Val.{Val}
 use denote.Laws.{Is}
-use borrow.Author.Tests.{ltb-true, ltb-false, leb-true, le-leb, eqb-true, eqb-false}
-use lib.Dec.{leb, ltb, eqb}
-use lib.ListN.{length, getD, take, drop, set, replicate, length-append, length-map, length-take, length-drop, length-set, length-replicate}
-use lib.ListN.{take-append-drop}
-use lib.Seq.{length-take-le, take-all, take-suc, take-at, drop-at, set-at, getD-take, getD-drop, getD-set-same, getD-set-other, drop-drop}
-use lib.Seq.{take-append-seam, drop-append-seam, take-append-le, drop-append-le, drop-append-add, append-snoc, paste, paste-suc}
-use Rattle.rules.specs.Lists.{kept, keep, each-of}
-use Rattle.rules.proofs.Laws.{and-true, true-and, length-keep, count-le}
-use Rattle.state.specs.State.{Queues, Packet, noPacket, placesAt, queueAt, no-packet, queue-padded}
-use Rattle.state.specs.Parts.{Queue, queueOf, packetsOf}
+use lib.ListN.{length, getD, take, drop, set, replicate, length-map, length-take, length-drop}
+use lib.Seq.{take-all, getD-take, getD-drop}
+use lib.Seq.{paste, paste-suc}
+use Rattle.state.specs.State.{Queues, Packet, noPacket, placesAt}
+use Rattle.state.specs.Parts.{Queue}
 use Rattle.state.proofs.Queues as queues
 use Rattle.state.proofs.Queue as queue
 

@@ -1,7 +1,7 @@
 -- A state stands exactly when it is the form of a bus that stands; what a set-up gives stands, or is the all-zero state, which does not.
 -- Assumes nothing.
-use mathlib.Core.Path.{_≡_, refl, sym, ap, ap₂, _∙_}
-use mathlib.Core.Bool.{Bool, true, false, _&&_}
+use mathlib.Core.Path.{_≡_, sym, ap, ap₂, _∙_}
+use mathlib.Core.Bool.{true, false, _&&_}
 use Rattle.rules.specs.Bus.{Bus, nothing}
 use Rattle.rules.specs.SetUp.{Request, setUp}
 use Rattle.rules.specs.Standing.{Standing, stands}

@@ -43,8 +43,8 @@ returns-2 c =
     let r = lent s _ (start .good .0) stood! in
     let room! : (i : ℕ) → i < s .segment .settings .n → getD (s .queues .lengths) i 0 ≤ 16 = λ i l. few-packets s r i (omega arith) in
     let waiting! =
-        c .before .waiting-in .ensures ∙ held-whole (s .queues .lengths) (s .segment .settings .n) room!
-        ∙ waiting-same s (r .held) (r .few) room! in
+    c .before .waiting-in .ensures ∙ held-whole (s .queues .lengths) (s .segment .settings .n) room!
+    ∙ waiting-same s (r .held) (r .few) room! in
     rw stood! (ap (totals s) waiting!)
 
 pub closing-spec : {M : Type 1} → statement M
