@@ -1,60 +1,21 @@
 // A line of output: a word and numbers, one space apart, closed by one newline.
 
-// The bytes of a line so far; no line of a script's answers has more than 233.
-struct Line {
-    pub bytes: [u8; 256],
-    pub length: usize,
+fn byte(b: u8) {
+    io::write_all(1, &[b]);
 }
 
-// The line with one byte more.
-fn with_byte(l: Line, b: u8) -> Line {
-    let at = l.length;
-    if 256 <= at {
-        return l;
-    }
-    let mut next = l;
-    next.bytes[at] = b;
-    next.length = at + 1;
-    next
-}
-
-// The line with these bytes more.
-fn with_bytes(l: Line, bytes: &[u8]) -> Line {
-    let mut next = l;
-    for i in 0..bytes.len() {
-        next = with_byte(next, bytes[i]);
-    }
-    next
-}
-
-// The line with a number more.
-fn with_number(l: Line, n: u64) -> Line {
-    let spaced = with_byte(l, b' ');
-    let mut digits = [0u8; 20];
-    let k = io::decimal(n, &mut digits);
-    with_bytes(spaced, &digits[..k])
-}
-
-// Writes the first n of these bytes.
-fn write_first(bytes: [u8; 256], n: usize) {
-    if n <= 256 {
-        io::write_all(1, &bytes[..n]);
-    }
+fn spaced(n: u64) {
+    byte(b' ');
+    io::print_decimal(1, n);
 }
 
 // Writes the line of a word and numbers.
 pub fn write(word: &[u8], numbers: &[u64]) {
-    let empty = Line {
-        bytes: [0; 256],
-        length: 0,
-    };
-    let mut l = with_bytes(empty, word);
+    io::write_all(1, word);
     for i in 0..numbers.len() {
-        l = with_number(l, numbers[i]);
+        spaced(numbers[i]);
     }
-    let closed = with_byte(l, b'\n');
-    let bytes = closed.bytes;
-    write_first(bytes, closed.length);
+    byte(b'\n');
 }
 
 // Writes a line whose first number is a place, 'where not all of its numbers after the place are zero'.

@@ -1,31 +1,31 @@
 -- `write` is safe and ends: the measure is what is left of the numbers.
 -- Assumes nothing.
 use Prim.Native.Nat.{_≤_, _-_}
-use borrow.Author.Needs.{needs}
 use lib.ListN.{length}
+use borrow.Author.Needs.{needs}
 use Rattle.drive.proofs.lines.write.Statement.{statement}
 use Rattle.drive.proofs.lines.write.Tie as tie
 
 abbrev Inv-loop : tie.InvT-loop
-Inv-loop word numbers l₀ i₀ i-end l i = i ≤ length numbers
+Inv-loop word numbers i₀ i-end i = i ≤ length numbers
 
 abbrev μ-loop : tie.MeasureT-loop
-μ-loop word numbers l₀ i₀ i-end l i = length numbers - i
+μ-loop word numbers i₀ i-end i = length numbers - i
 
-with-bytes-requires : tie.Need-with-bytes-requires Inv-loop μ-loop
-with-bytes-requires c κs = search needs
+write-all-requires : tie.Need-write-all-requires Inv-loop μ-loop
+write-all-requires c κs = search needs
 
 loop-holds : tie.Need-loop-holds Inv-loop μ-loop
 loop-holds c = search needs
 
-mul-with-number : tie.Need-mul-with-number Inv-loop μ-loop
-mul-with-number c = search needs
+mul-spaced : tie.Need-mul-spaced Inv-loop μ-loop
+mul-spaced c = search needs
 
-shared-slice-read-with-number : tie.Need-shared-slice-read-with-number Inv-loop μ-loop
-shared-slice-read-with-number c = search needs
+shared-slice-read-spaced : tie.Need-shared-slice-read-spaced Inv-loop μ-loop
+shared-slice-read-spaced c = search needs
 
-with-number-requires : tie.Need-with-number-requires Inv-loop μ-loop
-with-number-requires c κs = search needs
+spaced-requires : tie.Need-spaced-requires Inv-loop μ-loop
+spaced-requires c κs = search needs
 
 add-i : tie.Need-add-i Inv-loop μ-loop
 add-i c = search needs
@@ -36,11 +36,8 @@ loop-less c = search needs
 loop-again : tie.Need-loop-again Inv-loop μ-loop
 loop-again c = search needs
 
-with-byte-requires : tie.Need-with-byte-requires Inv-loop μ-loop
-with-byte-requires c κs = search needs
-
-write-first-requires : tie.Need-write-first-requires Inv-loop μ-loop
-write-first-requires c κs = search needs
+byte-requires : tie.Need-byte-requires Inv-loop μ-loop
+byte-requires c κs = search needs
 
 returns : tie.Need-returns Inv-loop μ-loop
 returns c = search needs
@@ -51,14 +48,13 @@ write-spec =
     (tie.spec
     Inv-loop
     μ-loop
-    with-bytes-requires
+    write-all-requires
     loop-holds
-    mul-with-number
-    shared-slice-read-with-number
-    with-number-requires
+    mul-spaced
+    shared-slice-read-spaced
+    spaced-requires
     add-i
     loop-less
     loop-again
-    with-byte-requires
-    write-first-requires
+    byte-requires
     returns)
