@@ -28,7 +28,8 @@ use Rattle.bus.proofs.FirstPlace.{first-place-holds, first-place-before
 use Rattle.state.proofs.Form.{parts-padded, queue-length, to-form}
 use Rattle.bus.proofs.Coded.{hands-back-admission, admit-bears, standing-exactly-admission}
 use Rattle.bus.proofs.QueueLaws.{form-joined}
-use Rattle.bus.proofs.Changed.{Lent, queue-formed, address-of, own-address, segmentCounting, recounted, requeued, requeued-held, requeued-padded, stations-now}
+use Rattle.state.proofs.Stands.{Lent}
+use Rattle.bus.proofs.Changed.{queue-formed, address-of, own-address, segmentCounting, recounted, requeued, requeued-held, requeued-padded, stations-now}
 
 -- ---- a test of some value
 

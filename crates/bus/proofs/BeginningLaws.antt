@@ -24,7 +24,8 @@ use Rattle.state.proofs.Rows.{values-take, values-map, values-same, among-value
 use Rattle.state.proofs.Form.{Padded, parts-padded, contender-form, queue-length, to-form}
 use Rattle.state.proofs.Places.{places-count}
 use Rattle.bus.proofs.QueueLaws.{kept-length, kept-room, packets-of-form, form-padded, form-places, queue-of-with}
-use Rattle.bus.proofs.Changed.{Lent, few-packets, queue-formed, segmentCounting, recounted}
+use Rattle.state.proofs.Stands.{Lent, few-packets}
+use Rattle.bus.proofs.Changed.{queue-formed, segmentCounting, recounted}
 
 -- another station is before i + 1 if it is before i
 before-more : (j i : ℕ) → ¬ (j ≡ i) → ltb j i ≡ ltb j (i + 1)

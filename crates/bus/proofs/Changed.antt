@@ -1,66 +1,32 @@
--- What a state that stands has: zero padding, at most 64 stations, no two with one address; a state with other counts; and a state in which
--- one station's queue holds other packets: its padding is zero, and the other stations are as they were. Assumes nothing.
+-- A state that stands, changed: no two of its stations have one address; a state with other counts; and a state in which one station's queue
+-- holds other packets: its padding is zero, and the other stations are as they were. Assumes nothing.
 use Prim.Native.Nat.{ℕ, zero, suc, _+_, _≤_, _<_}
 use mathlib.Core.Path.{_≡_, refl, sym, ap, _∙_, subst}
 use mathlib.Core.Bool.{Bool, true, false, not, _&&_, cond}
 use mathlib.Core.Option.{Option}
 use mathlib.Core.List.{List, map}
 use native.Mathlib.Omega.{arith}
-use mir.Val.{Val}
-use denote.Laws.{Is}
-use borrow.Author.Tests.{eqb-true, eqb-false, eq-eqb, ne-eqb, leb-true, ltb-true, ltb-false}
-use lib.Dec.{eqb, leb, ltb}
-use lib.ListN.{length, getD, drop}
-use Rattle.rules.specs.Lists.{each-of, Among, Distinct}
+use borrow.Author.Tests.{eqb-true, eqb-false, eq-eqb, ne-eqb, ltb-true, ltb-false}
+use lib.Dec.{eqb, ltb}
+use lib.ListN.{length, getD}
+use Rattle.rules.specs.Lists.{Among, Distinct}
 use Rattle.rules.specs.Bus as Machine
 use Rattle.rules.specs.Bus.{Station, Bus, places, most-stations}
-use Rattle.rules.specs.Standing.{stands, Standing}
-use Rattle.rules.proofs.Laws.{and-true}
-use Rattle.rules.proofs.Tests.{tells}
-use Rattle.rules.proofs.Standing.{stands-exactly, set-up-stands}
+use Rattle.rules.specs.Standing.{Standing}
+use Rattle.rules.proofs.Standing.{set-up-stands}
 use Rattle.bus.specs.Types.{Packet, Contender, Contention, Segment, State, Queue}
-use Rattle.state.specs.State.{Held, noContender, nobody, placesAt, queueAt, stationWith, stationAt, valuesFrom, stationsOf, meaning, no-packet, queue-padded, no-station, padded, standing}
+use Rattle.state.specs.State.{Held, noContender, nobody, placesAt, queueAt, stationWith, stationAt, valuesFrom, stationsOf, meaning, queue-padded, no-station}
 use Rattle.state.specs.Parts.{queueOf, packetsOf}
 use Rattle.bus.specs.Parts.{withQueue, queueForm}
-use Rattle.state.proofs.State as state
-use Rattle.state.proofs.Rows.{values-length, values-map, values-same, among-values}
-use Rattle.state.proofs.Form.{Padded, padded-parts, places-length}
+use Rattle.state.proofs.Rows.{values-map, values-same, among-values}
+use Rattle.state.proofs.Form.{Padded, places-length}
 use Rattle.bus.proofs.QueueLaws.{packets-of-form, form-places, form-padded, with-queue-lengths, queue-of-with, padded-form-of}
-pub use Rattle.state.proofs.StandingParts.{state-held}
 
--- ---- what a state that stands has
-
--- zero padding, and a meaning that stands
-pub stood : (s : State) → standing s ≡ true → (padded s ≡ true) × Standing (meaning s)
-stood s e = let both = and-true (padded s) (stands (meaning s)) e in (both .0, tells (stands-exactly (meaning s)) (both .1))
-
-pub few-stations : (s : State) → Standing (meaning s) → s .segment .settings .n ≤ most-stations
-few-stations s h = omega (arith, set-up-stands (meaning s) h .N-most, values-length (stationAt s) 0 (s .segment .settings .n))
+-- ---- queues with zero padding
 
 -- a queue with zero padding is the form of its packets
 pub queue-formed : (s : State) → Held s → Padded s → (i : ℕ) → i < most-stations → queueOf (s .queues) i ≡ queueForm (queueAt (s .queues) i)
 queue-formed s h p i l = padded-form-of (queueOf (s .queues) i) (places-length s h i l) (p .queues i l)
-
--- what a state that a function is lent has, where it stands
-pub record Lent (s : State) : Type 0 where
-  pub held : Held s
-  pub zeros : Padded s
-  pub stands : Standing (meaning s)
-  pub few : s .segment .settings .n ≤ most-stations
-
-pub lent-held : (s : State) → Held s → standing s ≡ true → Lent s
-lent-held s held e =
-    let both = stood s e in
-    record { held = held; zeros = padded-parts s (both .0); stands = both .1; few = few-stations s (both .1) }
-
-pub lent : (s : State) (vs : List Val) → Is state.the-row s vs → standing s ≡ true → Lent s
-lent s vs owned = lent-held s (state-held s vs owned)
-
--- at most sixteen packets in each queue
-pub few-packets : (s : State) → Lent s → (i : ℕ) → i < most-stations → getD (s .queues .lengths) i 0 ≤ places
-few-packets s r i l =
-    let n = getD (s .queues .lengths) i 0 in
-    leb-true n places (and-true (leb n places) (each-of no-packet (drop n (placesAt (s .queues) i))) (r .zeros .queues i l) .0)
 
 -- ---- no two stations have one address
 

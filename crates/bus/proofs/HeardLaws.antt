@@ -10,7 +10,7 @@ use Rattle.rules.specs.Probe.{success}
 use Rattle.bus.specs.Types.{Segment, State}
 use Rattle.bus.specs.Parts.{Moved, contenderAt, transmitsAt, nextTransmitter, probed, heardIn, progressOf, movedBy, withMoved}
 use Rattle.bus.proofs.FirstPlace.{first-place-le, first-place-holds}
-use Rattle.bus.proofs.Changed.{Lent}
+use Rattle.state.proofs.Stands.{Lent}
 use Rattle.bus.proofs.ProbedSlot.{heardWhere, sent-short, sent-counted}
 
 -- ---- the parts of a probe

@@ -35,7 +35,8 @@ use Rattle.state.proofs.Rows.{row-replicate}
 use Rattle.state.proofs.Form.{held-form, parts-padded}
 use Rattle.state.proofs.Stands.{form-stands}
 use Rattle.bus.proofs.Coded.{next-is, next-stands}
-use Rattle.bus.proofs.Changed.{Lent, lent-held, segmentCounting}
+use Rattle.state.proofs.Stands.{Lent, lent-held}
+use Rattle.bus.proofs.Changed.{segmentCounting}
 use Rattle.bus.proofs.Admitting.{refusal-is, gives-refusal, joinedAt, in-row, room-at, joined-in-place}
 use Rattle.state.proofs.Tested.{denied}
 use Rattle.bus.proofs.BeginningLaws.{placesTo, placeFor, begunState, begun-is, begun-idle, all-in-time, waiting-dropped}

@@ -30,7 +30,8 @@ use Rattle.state.proofs.Rows.{values-map, values-same, row-length, row-at, amon
 use Rattle.bus.proofs.FirstPlace.{first-place-le}
 use Rattle.state.proofs.Form.{Padded, parts-padded, to-form}
 use Rattle.bus.proofs.QueueLaws.{kept-length}
-use Rattle.bus.proofs.Changed.{Lent, own-address, requeued, requeued-held, requeued-padded, stations-now}
+use Rattle.state.proofs.Stands.{Lent}
+use Rattle.bus.proofs.Changed.{own-address, requeued, requeued-held, requeued-padded, stations-now}
 
 -- ---- who transmits
 

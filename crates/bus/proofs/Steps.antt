@@ -20,7 +20,7 @@ use Rattle.bus.specs.Parts.{openOf}
 use Rattle.state.proofs.Form.{parts-padded, Fits, standing-fits, meaning-form}
 use Rattle.bus.proofs.Coded.{hands-back-step, step-bears, standing-exactly-step}
 use Rattle.state.proofs.Stands.{form-stands}
-use Rattle.bus.proofs.Changed.{Lent}
+use Rattle.state.proofs.Stands.{Lent}
 
 -- ---- a refused step gives its number, and the state as lent
 

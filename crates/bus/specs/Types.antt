@@ -1,4 +1,4 @@
--- The types of a state (crate state) and of a packet (crate rules), under one name for this crate's files. Assumes nothing.
+-- The types of the lower crates (a packet, the three sorts, a state and its parts), under one name for this crate's files. Assumes nothing.
 pub use Rattle.rules.specs.declared.Packet.{Packet}
 pub use Rattle.sorts.specs.declared.Slot.{Slot}
 pub use Rattle.sorts.specs.declared.Address.{Address}

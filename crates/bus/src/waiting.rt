@@ -93,8 +93,7 @@ pub fn left(queues: Queues, i: usize, leaving: Leaving) -> Queue
     kept(queue, leaving)
 }
 
-// The row without the packets of station i that leave. Its queue is taken out and put back here: calls of `queue_at` and `with_queue`
-// copy the whole row.
+// The row without the packets of station i that leave.
 pub fn without(queues: Queues, i: usize, leaving: Leaving) -> Queues
     requires { ⌜ i < 64 ⌝ }
     requires { ⌜ getD (queues .lengths) i 0 ≤ 16 ⌝ }

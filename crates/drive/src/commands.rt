@@ -4,6 +4,7 @@ use crate::words;
 use sorts::Address;
 use sorts::Capability;
 use state::Listed;
+use state::zeros;
 
 // A letter, its numbers in their order, the stations of `U`, and the place after all of them. What a command does not have is zero.
 pub struct Command {
@@ -87,11 +88,7 @@ fn read_stations(script: &[u8], from: usize, pairs: usize) -> Stations
     requires { ⌜ pairs ≤ 64 ⌝ }
     ensures { λ r. ⌜ from ≤ r .at ⌝ }
 {
-    let nobody = Listed {
-        address: Address(0),
-        capability: Capability(0),
-    };
-    let mut listed = [nobody; 64];
+    let mut listed = [zeros::NOBODY; 64];
     let mut at = from;
     for i in 0..pairs {
         let p = read_pair(script, at);

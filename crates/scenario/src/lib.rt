@@ -9,14 +9,13 @@ ghost use Rattle.scenario.specs.Format.{readRecord, said, outOfPlace};
 ghost use Rattle.scenario.specs.Reading.{reading, scenarioForm, readStations, set-up-bytes, stationOffset, stationsFrom};
 ghost use Rattle.scenario.specs.Reading.{refused as refusedReading};
 ghost use Rattle.scenario.specs.Parts.{endingForm, runAt, endingAt, afterPassed};
-use sorts::Address;
-use sorts::Capability;
 use sorts::Slot;
 use state::Arrival;
 use state::Listed;
 use state::Row;
 use state::Settings;
 use state::State;
+use state::zeros;
 
 mod fields;
 mod records;
@@ -32,12 +31,6 @@ const STATION_BYTES: usize = 8;
 pub const ARRIVAL_BYTES: usize = 16;
 
 const RUN_BYTES: usize = 6;
-
-// A place that no station fills.
-const NOBODY: Listed = Listed {
-    address: Address(0),
-    capability: Capability(0),
-};
 
 // What reading a record answers: its body by its kind, or the number that refuses it.
 pub enum Record {
@@ -117,7 +110,7 @@ fn read_stations(input: &[u8], n: usize) -> Stations
     ensures { λ r. ⌜ r .offset ≡ stationsFrom n set-up-bytes (drop set-up-bytes (now (input .entry))) .offset ⌝ }
     ensures { λ r. ⌜ (r .refusal ≡ 0 → (settings : Settings) → requestOf settings (r .row) ≡ requestWith settings (stationsFrom n set-up-bytes (drop set-up-bytes (now (input .entry))) .asked)) ⌝ }
 {
-    let mut stations = [NOBODY; 64];
+    let mut stations = [zeros::NOBODY; 64];
     let mut i = 0;
     while i < n {
         let at = station_offset(i);

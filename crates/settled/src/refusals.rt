@@ -1,4 +1,4 @@
-// One call for each refusal 1 to 17, and its neighbour that is accepted where a range ends.
+// Calls for each refusal 1 to 17, and a neighbour that is accepted where a range ends.
 use crate::edits;
 use crate::lines;
 use crate::segments;

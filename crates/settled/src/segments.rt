@@ -5,6 +5,7 @@ use state::Listed;
 use state::Row;
 use state::Settings;
 use state::State;
+use state::zeros;
 
 pub fn settings(discipline: u32, d: u32, a: u32, q: u32, n: usize) -> Settings {
     Settings {
@@ -25,8 +26,7 @@ pub fn listed(address: u32, capability: u32) -> Listed {
 
 // A row of three stations.
 pub fn row(x: Listed, y: Listed, z: Listed) -> Row {
-    let nobody = listed(0, 0);
-    let mut stations = [nobody; 64];
+    let mut stations = [zeros::NOBODY; 64];
     stations[0] = x;
     stations[1] = y;
     stations[2] = z;

@@ -1,15 +1,16 @@
--- What is proved of a state, in one place: what it means, when it stands, and what a set-up gives. The contracts of src/ cite `standing`
--- (specs/State.antt) and `codedSetUp` (specs/SetUp.antt), and here stands what those are worth. docs/PROMISES.md says which sentence each
--- theorem answers. `Held s` says that the rows of s have the lengths of the code's arrays, as those of every state in the code have.
+-- What is proved of a state, in one place: what it means, when it stands, and what a set-up gives. The contracts of src/ cite `form`,
+-- `standing` and `waitingIn` (specs/State.antt), `settingsRefusal` and `codedSetUp` (specs/SetUp.antt), and here stands what those are worth.
+-- docs/PROMISES.md says which sentence each theorem answers. `Held s` says that the rows of s have the lengths of the code's arrays, as those
+-- of every state in the code have.
 -- Assumes nothing.
 use mathlib.Core.Path.{_≡_}
 use mathlib.Core.Logic.{_↔_}
 use mathlib.Core.Bool.{true, false}
-use Rattle.rules.specs.Bus.{Bus, nothing}
+use Rattle.rules.specs.Bus.{Bus, nothing, waiting}
 use Rattle.rules.specs.Standing.{Standing}
 use Rattle.rules.specs.SetUp.{Request}
 use Rattle.rules.proofs.Tests.{tells, told}
-use Rattle.state.specs.State.{State, Held, meaning, form, padded, standing}
+use Rattle.state.specs.State.{State, Held, meaning, form, padded, standing, waitingIn}
 use Rattle.state.specs.SetUp.{codedSetUp}
 use Rattle.state.proofs.Form as Form
 use Rattle.state.proofs.Stands as Stands
@@ -30,6 +31,11 @@ form-stands = Stands.form-stands
 -- a state stands exactly when it is the form of a bus that keeps the standing conditions of paper 01
 pub stands-exactly : (s : State) → Held s → (standing s ≡ true) ↔ (Standing (meaning s) × (form (meaning s) ≡ s))
 stands-exactly s held = (tells (Stands.stands-exactly s held), told (Stands.stands-exactly s held))
+
+-- what its lengths count as waiting are the packets that wait
+pub waiting-counted :
+    (s : State) → Held s → standing s ≡ true → waitingIn (s .queues .lengths) (s .segment .settings .n) ≡ waiting (meaning s .stations)
+waiting-counted s held e = Stands.waiting-counted s (Stands.lent-held s held e)
 
 -- ---- set-up
 

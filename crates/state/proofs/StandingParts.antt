@@ -1,4 +1,4 @@
--- The standing conditions in the parts that the code tests (specs/Parts.antt): together they are `standing` (specs/Coded.antt), that the
+-- The standing conditions in the parts that the code tests (specs/Parts.antt): together they are `standing` (specs/State.antt), that the
 -- padding is zero and the meaning stands. Assumes nothing.
 use Prim.Native.Nat.{ℕ, zero, suc, _+_, _-_, _*_, _≤_, _<_, min}
 use mathlib.Core.Path.{_≡_, refl, sym, ap, ap₂, _∙_}
@@ -22,9 +22,9 @@ use Rattle.rules.specs.Standing.{value-fits, length-fits, rising, same-packet, 
 use Rattle.rules.proofs.Laws.{clash, and-true, true-and}
 use Rattle.rules.proofs.Tests.{Whether, holds, fails}
 use Rattle.rules.proofs.Standing.{stands-exactly}
-use Rattle.state.specs.State.{Contender, Contention, Segment, Queues, State, Held, noContender, nobody, placesAt, queueAt, stationAt, stationsOf, valuesFrom, tieOf, meaning, no-packet, queue-padded, contender-padded, station-padded, no-station, each-place, round-padded, contention-padded, padded, standing}
+use Rattle.state.specs.State.{Contender, Contention, Segment, Queues, State, Held, noContender, nobody, placesAt, queueAt, stationAt, stationsOf, valuesFrom, tieOf, meaning, no-packet, queue-padded, contender-padded, station-padded, no-station, each-place, round-padded, contention-padded, padded, standing, waitingIn}
 use Rattle.state.specs.SetUp.{askedOf, requestWith}
-use Rattle.state.specs.Parts.{parameterFits, contenderSound, stationSound, nobodyAt, placeSound, numbersFrom, waitingIn, queuesSound, roundSound, contentionSound}
+use Rattle.state.specs.Parts.{parameterFits, contenderSound, stationSound, nobodyAt, placeSound, numbersFrom, queuesSound, roundSound, contentionSound}
 use Rattle.state.proofs.State as state
 use Rattle.state.proofs.Rows.{each-place-all, values-take}
 use Rattle.state.proofs.Form.{padded-parts, places-length}

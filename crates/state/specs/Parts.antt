@@ -1,5 +1,5 @@
 -- The parts that the code of a state is made of, as functions: what the contracts of the private functions cite. Assumes nothing.
-use Prim.Native.Nat.{ℕ, zero, suc, _+_, _-_, _%_, _≤_, _<_, min}
+use Prim.Native.Nat.{ℕ, zero, suc, _+_, _-_, _%_, _≤_, _<_}
 use mathlib.Core.Path.{_≡_}
 use mathlib.Core.Logic.{_≢_}
 use mathlib.Core.Bool.{Bool, true, not, _&&_, _||_, cond}
@@ -8,7 +8,7 @@ use lib.Dec.{leb, ltb, eqb}
 use lib.ListN.{getD, take, drop}
 use Rattle.window.specs.Splitting.{placed}
 use Rattle.rules.specs.Lists.{each-of, some-of, has, total, distinct}
-use Rattle.rules.specs.Bus.{places, Discipline, PRI, RTDG, RTVC, numbersIn}
+use Rattle.rules.specs.Bus.{Discipline, PRI, RTDG, RTVC, numbersIn}
 use Rattle.rules.specs.SetUp.{Asked, disciplineOf}
 use Rattle.rules.specs.Standing.{value-fits, length-fits, rising, same-packet}
 use Rattle.state.specs.State.{Capability, Settings, Listed, Contender, Contention, Segment, Queues, State, Packet, noPacket, noContender, noContention, noRound, nobody, placesAt, queueAt, row, no-packet, queue-padded, contender-padded, round-padded, contention-padded, each-place}
@@ -140,10 +140,6 @@ pub record Latest (numbers : List ℕ) (r link count : ℕ) : Type 0 where
 -- each of the first `count` numbers has a link to the latest before it that leaves the same
 abbrev pub Linked : List ℕ → List ℕ → ℕ → Type 0
 Linked numbers links count = (p : ℕ) → p < count → Latest numbers (remainder (getD numbers p 0)) (getD links p 0) p
-
--- 'waiting is the number of packets in the queues': of the first n, none of which holds more than 16
-abbrev pub waitingIn : List ℕ → ℕ → ℕ
-waitingIn lengths n = total (λ k. min k places) (take n lengths)
 
 -- the places of stations, the counts, and 'none twice over all queues'
 abbrev pub queuesSound : Segment → Queues → Bool

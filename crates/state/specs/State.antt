@@ -1,7 +1,7 @@
 -- The state of the code (src/lib.rt), and what it means: the machine of the rules. `meaning` leaves out the places that have no
--- meaning, `form` pads a bus with zeros, `padded` is paper 01's 'What has no meaning is zero', and `standing` all of its standing
--- conditions. Assumes nothing.
-use Prim.Native.Nat.{ℕ, zero, suc, _-_, _*_, _/_, _%_}
+-- meaning, `form` pads a bus with zeros, `padded` is paper 01's 'What has no meaning is zero', `standing` all of its standing
+-- conditions, and `waitingIn` what waits. Assumes nothing.
+use Prim.Native.Nat.{ℕ, zero, suc, _-_, _*_, _/_, _%_, min}
 use mathlib.Core.Path.{_≡_}
 use mathlib.Core.Bool.{Bool, true, false, not, _&&_, _||_, cond}
 use mathlib.Core.Option.{Option, none, some}
@@ -12,7 +12,7 @@ use Rattle.window.specs.declared.Side.the-variants.{Left}
 use Rattle.window.specs.declared.Window.{Window}
 use Rattle.window.specs.Splitting.{sameSide}
 pub use Rattle.rules.specs.declared.Packet.{Packet}
-use Rattle.rules.specs.Lists.{each-of}
+use Rattle.rules.specs.Lists.{each-of, total}
 use Rattle.rules.specs.Bus as Machine
 use Rattle.rules.specs.Bus.{places, most-stations, code}
 use Rattle.rules.specs.SetUp.{disciplineOf}
@@ -249,3 +249,8 @@ padded s =
 
 abbrev pub standing : State → Bool
 standing s = padded s && stands (meaning s)
+
+-- ---- 'waiting is the number of packets in the queues': of the first n queues, by their lengths. A length above 16 counts as 16.
+
+abbrev pub waitingIn : List ℕ → ℕ → ℕ
+waitingIn lengths n = total (λ k. min k places) (take n lengths)

@@ -1,5 +1,5 @@
 // The state of a bus segment: what it is made of, the set-up that it comes from, and the conditions that it stands by (`standing::stands`).
-// Every function takes any input.
+// Every exported function takes any input.
 ghost use mathlib.Core.Path.{_≡_};
 ghost use Rattle.rules.specs.Bus.{nothing};
 ghost use Rattle.state.specs.State.{form};
@@ -110,12 +110,21 @@ pub struct Arrival {
     pub length: u32,
 }
 
+// No set-up.
+const NO_SETTINGS: Settings = Settings {
+    discipline: 0,
+    d: 0,
+    a: 0,
+    q: 0,
+    n: 0,
+};
+
 // 'an all-zero state', 'which refusal 1 catches'
 pub fn all_zero() -> State
     ensures { λ r. ⌜ r ≡ form nothing ⌝ }
 {
     let nobody = [zeros::NOBODY; 64];
-    stations::fresh(zeros::NO_SETTINGS, nobody)
+    stations::fresh(NO_SETTINGS, nobody)
 }
 
 // 2 to 6 of a set-up's numbers, before its stations are known; 0 for none.

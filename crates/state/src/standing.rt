@@ -24,8 +24,8 @@ ghost use lib.ListN.{drop, take};
 ghost use Rattle.rules.specs.Lists.{each-of, some-of};
 ghost use Rattle.rules.specs.SetUp.{disciplineOf};
 ghost use Rattle.rules.specs.Standing.{value-fits, length-fits, rising, same-packet};
-ghost use Rattle.state.specs.State.{no-packet, no-window, each-place, standing};
-ghost use Rattle.state.specs.Parts.{packetsOf, no-contender, contenderSound, stationTest, nobodyTest, parameterFits, placeSound, queuesSound, waitingIn, roundSound, contentionSound};
+ghost use Rattle.state.specs.State.{no-packet, no-window, each-place, standing, waitingIn};
+ghost use Rattle.state.specs.Parts.{packetsOf, no-contender, contenderSound, stationTest, nobodyTest, parameterFits, placeSound, queuesSound, roundSound, contentionSound};
 
 // 'packets admitted: at most 4,294,967,295'
 pub const MOST_ADMITTED: u64 = 4_294_967_295;
@@ -238,7 +238,7 @@ fn place_stands(
     nobody_at(l, c, queue)
 }
 
-// Each of the 64 places. The queues are taken out in the loop itself: a call of `queue_at` copies the whole row.
+// Each of the 64 places. The queues are taken out in the loop itself: a call copies the whole row.
 fn places_stand(g: Segment, queues: Queues) -> bool
     ensures { λ r. ⌜ r ≡ each-place (placeSound g queues) 0 64 ⌝ }
 {
@@ -275,7 +275,7 @@ fn at_most(n: usize, most: usize) -> usize
     n
 }
 
-// 'waiting is the number of packets in the queues': of the first n of the 64, none of which holds more than 16.
+// 'waiting is the number of packets in the queues', of the first n of them. A length above 16 counts as 16, and n above 64 as 64.
 pub fn waiting_in(lengths: [usize; 64], n: usize) -> usize
     ensures { λ r. ⌜ r ≡ waitingIn lengths n ⌝ }
 {

@@ -1,23 +1,13 @@
-// 'What has no meaning is zero': no set-up, places that nothing fills, no contention, no last winner.
+// 'What has no meaning is zero': places that nothing fills, no contention, no last winner.
 use crate::Contender;
 use crate::Contention;
 use crate::Listed;
 use crate::Round;
-use crate::Settings;
 use rules::Packet;
 use sorts::Address;
 use sorts::Capability;
 use window::Side;
 use window::Window;
-
-// No set-up.
-pub const NO_SETTINGS: Settings = Settings {
-    discipline: 0,
-    d: 0,
-    a: 0,
-    q: 0,
-    n: 0,
-};
 
 // A place that no station fills.
 pub const NOBODY: Listed = Listed {

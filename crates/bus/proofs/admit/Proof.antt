@@ -5,7 +5,8 @@ use Rattle.rules.specs.Admission.{admissionRefusal}
 use Rattle.state.specs.State.{meaning}
 use Rattle.bus.specs.Coded.{arrivalOf}
 use Rattle.state.proofs.Tested.{denied, granted}
-use Rattle.bus.proofs.Changed.{state-held, Lent, lent}
+use Rattle.state.proofs.Stands.{Lent, lent}
+use Rattle.state.proofs.StandingParts.{state-held}
 use Rattle.bus.proofs.Admitting.{at-station, refusal-is, gives-1, gives-refusal, takes-in, room-at, count-left}
 use Rattle.bus.proofs.admit.Statement.{statement}
 use Rattle.bus.proofs.admit.Tie as tie

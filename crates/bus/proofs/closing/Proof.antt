@@ -1,15 +1,12 @@
 -- `closing` meets its contract: of a state that stands the clock and the counts, and what waits by the lengths of the queues.
 -- Assumes nothing.
-use Prim.Native.Nat.{ℕ, _≤_, _<_}
+use Prim.Native.Nat.{ℕ}
 use mathlib.Core.Path.{ap, _∙_}
-use native.Mathlib.Omega.{arith}
 use borrow.Author.Needs.{needs}
-use lib.ListN.{getD}
 use Rattle.bus.specs.Types.{State}
 use Rattle.bus.specs.Coded.{Totals}
 use Rattle.state.proofs.Tested.{denied, granted}
-use Rattle.state.proofs.StandingParts.{held-whole, waiting-same}
-use Rattle.bus.proofs.Changed.{lent, few-packets}
+use Rattle.state.proofs.Stands.{lent, waiting-counted}
 use Rattle.bus.proofs.closing.Statement.{statement}
 use Rattle.bus.proofs.closing.Tie as tie
 
@@ -41,10 +38,7 @@ returns-2 c =
     let s = start .args .s in
     let stood! = granted (tested .before .stands .ensures) (tested .if1 .left) in
     let r = lent s _ (start .good .0) stood! in
-    let room! : (i : ℕ) → i < s .segment .settings .n → getD (s .queues .lengths) i 0 ≤ 16 = λ i l. few-packets s r i (omega arith) in
-    let waiting! =
-    c .before .waiting-in .ensures ∙ held-whole (s .queues .lengths) (s .segment .settings .n) room!
-    ∙ waiting-same s (r .held) (r .few) room! in
+    let waiting! = c .before .waiting-in .ensures ∙ waiting-counted s r in
     rw stood! (ap (totals s) waiting!)
 
 pub closing-spec : {M : Type 1} → statement M

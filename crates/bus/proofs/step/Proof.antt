@@ -11,7 +11,8 @@ use Rattle.state.specs.State.{meaning, form, standing}
 use Rattle.bus.specs.Coded.{Stepped, Answer, stepResult}
 use Rattle.bus.specs.Parts.{Begun, openOf}
 use Rattle.state.proofs.Tested.{denied, granted}
-use Rattle.bus.proofs.Changed.{state-held, lent}
+use Rattle.state.proofs.Stands.{lent}
+use Rattle.state.proofs.StandingParts.{state-held}
 use Rattle.bus.proofs.Steps.{gives-1, gives-17, probes, goes-on, begins, begun-stands}
 use Rattle.bus.proofs.step.Statement.{statement}
 use Rattle.bus.proofs.step.Tie as tie

@@ -11,7 +11,7 @@ use Rattle.bus.specs.Types.{State}
 use Rattle.state.specs.State.{meaning}
 use Rattle.state.proofs.Places.{queues-arrays}
 use Rattle.state.proofs.StandingParts.{held-whole}
-use Rattle.bus.proofs.Changed.{Lent, lent, few-packets}
+use Rattle.state.proofs.Stands.{Lent, lent, few-packets}
 use Rattle.bus.proofs.BeginningLaws.{all-formed, room-left, waiting-dropped, lost-counted, begun-is}
 use Rattle.bus.proofs.beginning.begin.Statement.{statement}
 use Rattle.bus.proofs.beginning.begin.Tie as tie

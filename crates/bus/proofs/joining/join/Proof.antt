@@ -10,7 +10,8 @@ use Rattle.bus.specs.Types.{Packet, Address, State, Queue}
 use Rattle.bus.specs.Coded.{arrivalOf}
 use Rattle.bus.specs.Parts.{queueForm, withQueue, addressPlace, accepted}
 use Rattle.state.specs.Parts.{packetsOf}
-use Rattle.bus.proofs.Changed.{Lent, lent, queue-formed}
+use Rattle.state.proofs.Stands.{Lent, lent}
+use Rattle.bus.proofs.Changed.{queue-formed}
 use Rattle.bus.proofs.Admitting.{counted, state-joined, taken}
 use Rattle.bus.proofs.joining.join.Statement.{statement}
 use Rattle.bus.proofs.joining.join.Tie as tie

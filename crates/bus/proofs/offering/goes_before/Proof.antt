@@ -1,4 +1,4 @@
--- `disciplines::goes_before` meets its contract: by value and number in PRI and RTDG, by number in RTVC. Assumes nothing.
+-- `offering::goes_before` meets its contract: by value and number in PRI and RTDG, by number in RTVC. Assumes nothing.
 use mathlib.Core.Path.{_≡_}
 use native.Mathlib.Omega.{arith}
 use borrow.Author.Needs.{needs}

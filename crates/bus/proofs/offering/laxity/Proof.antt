@@ -1,4 +1,4 @@
--- `disciplines::laxity` meets its contract: the smaller of the two is the one that the test picks. Assumes nothing.
+-- `offering::laxity` meets its contract: the smaller of the two is the one that the test picks. Assumes nothing.
 use mathlib.Core.Path.{sym}
 use native.Mathlib.Nat.{min-eq-left, min-eq-right}
 use native.Mathlib.Omega.{arith}

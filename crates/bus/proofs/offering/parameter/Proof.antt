@@ -1,4 +1,4 @@
--- `disciplines::parameter` meets its contract: one parameter for each discipline. Assumes nothing.
+-- `offering::parameter` meets its contract: one parameter for each discipline. Assumes nothing.
 use mathlib.Core.Path.{_∙_}
 use native.Mathlib.Omega.{arith}
 use borrow.Author.Needs.{needs}

@@ -1,4 +1,4 @@
--- `disciplines::sits_out` meets its contract: in RTVC alone, and only after a winner of the round. Assumes nothing.
+-- `offering::sits_out` meets its contract: in RTVC alone, and only after a winner of the round. Assumes nothing.
 use mathlib.Core.Path.{_≡_, refl}
 use mathlib.Core.Bool.{false}
 use native.Mathlib.Omega.{arith}

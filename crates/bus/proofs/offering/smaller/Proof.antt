@@ -1,4 +1,4 @@
--- `disciplines::smaller` meets its contract: by the values, and by the numbers where those are equal. Assumes nothing.
+-- `offering::smaller` meets its contract: by the values, and by the numbers where those are equal. Assumes nothing.
 use native.Mathlib.Omega.{arith}
 use borrow.Author.Tests.{lt-ltb, le-ltb, eq-eqb, ne-eqb}
 use Rattle.bus.proofs.offering.smaller.Statement.{statement}

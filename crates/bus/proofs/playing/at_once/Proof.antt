@@ -16,7 +16,7 @@ use Rattle.bus.specs.Types.{Queues, Queue, State, Contender, Arrival}
 use Rattle.state.specs.State.{noContender, meaning, queueAt}
 use Rattle.rules.specs.Lists.{keep}
 use Rattle.bus.specs.Parts.{Heard, segmentWith, stays, Sent, addressPlace, refusalAt, withQueue, queueForm}
-use Rattle.bus.proofs.Changed.{lent, few-packets, Lent}
+use Rattle.state.proofs.Stands.{lent, few-packets, Lent}
 use Rattle.bus.proofs.Stretched.{on, at-last, arrivals-array, row-few, row-full}
 use Rattle.bus.proofs.InPlace.{whole, Going, at-outset, with-arrival, with-step, turned-away, place-in, place-has-room, taken-in, passed, Opened, was-open, now-open, opened-as, idle-open, offered-open, still-on, ends-unheard, winner-in, put-back, ends-won}
 use Rattle.state.proofs.Tested.{denied, granted}

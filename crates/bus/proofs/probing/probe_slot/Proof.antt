@@ -8,7 +8,7 @@ use borrow.Author.Tests.{eq-eqb, ne-eqb}
 use Rattle.rules.specs.Probe.{success, probe}
 use Rattle.bus.specs.Types.{State}
 use Rattle.bus.specs.Parts.{Probed, openOf}
-use Rattle.bus.proofs.Changed.{Lent, lent, few-packets}
+use Rattle.state.proofs.Stands.{Lent, lent, few-packets}
 use Rattle.bus.proofs.ProbedSlot.{queuesAfter, slotWith, stepped, sent-short, sent-counted, winner-there, probed-is}
 use Rattle.bus.proofs.probing.probe_slot.Statement.{statement}
 use Rattle.bus.proofs.probing.probe_slot.Tie as tie
