@@ -1,7 +1,7 @@
 -- One station's queue by its packets, and the row with one queue put back. Assumes nothing.
 use Prim.Native.Nat.{ℕ, zero, suc, _+_, _-_, _*_, _≤_, _<_}
 use mathlib.Core.Path.{_≡_, refl, sym, ap, ap₂, _∙_}
-use mathlib.Core.Bool.{Bool, true, false, _&&_, cond}
+use mathlib.Core.Bool.{Bool, true, false, cond}
 use mathlib.Core.List.{List, [], _∷_, _++_, append-assoc}
 use native.Mathlib.Numerals.{add-one}
 use native.Mathlib.Omega.{arith}
@@ -17,6 +17,7 @@ use Rattle.bus.specs.Types.{Queues, Queue, Packet}
 use Rattle.state.specs.State.{noPacket, placesAt, queueAt, no-packet, queue-padded}
 use Rattle.state.specs.Parts.{queueOf, packetsOf}
 use Rattle.state.proofs.Places.{place-at}
+use Rattle.state.proofs.Form.{no-packet-is}
 use Rattle.bus.specs.Parts.{withQueue, queueForm}
 
 -- ---- queues by their packets
@@ -159,12 +160,6 @@ queue-of-with qs i j queue h k ls ps full = go (eqb j i) refl
         ap₂ made (elsewhere (eqb-false j i e) (ltb j i) refl) (getD-set-other (qs .lengths) i j (queue .length) 0 (eqb-false j i e))
 
 -- ---- places that no packet fills, and queues whose other places are such
-
-no-packet-is : (p : Packet) → no-packet p ≡ true → p ≡ noPacket
-no-packet-is p e =
-    let a = and-true (eqb (p .number) 0 && eqb (p .value) 0) (eqb (p .length) 0) e in
-    let b = and-true (eqb (p .number) 0) (eqb (p .value) 0) (a .0) in
-    λ k. record { number = eqb-true (p .number) 0 (b .0) k; value = eqb-true (p .value) 0 (b .1) k; length = eqb-true (p .length) 0 (a .1) k }
 
 no-packets : (n : ℕ) → each-of no-packet (replicate n noPacket) ≡ true
 no-packets zero = refl

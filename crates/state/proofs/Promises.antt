@@ -3,16 +3,21 @@
 -- docs/PROMISES.md says which sentence each theorem answers. `Held s` says that the rows of s have the lengths of the code's arrays, as those
 -- of every state in the code have.
 -- Assumes nothing.
+use Prim.Native.Nat.{_≤_}
 use mathlib.Core.Path.{_≡_}
 use mathlib.Core.Logic.{_↔_}
 use mathlib.Core.Bool.{true, false}
+use mathlib.Core.List.{List}
+use lib.ListN.{length}
+use Rattle.rules.specs.Lists.{firstOf}
 use Rattle.rules.specs.Bus.{Bus, nothing, waiting}
 use Rattle.rules.specs.Standing.{Standing}
-use Rattle.rules.specs.SetUp.{Request}
+use Rattle.rules.specs.SetUp.{Asked, Request, fine, settingsTests}
 use Rattle.rules.proofs.Tests.{tells, told}
-use Rattle.state.specs.State.{State, Held, meaning, form, padded, standing, waitingIn}
-use Rattle.state.specs.SetUp.{codedSetUp}
+use Rattle.state.specs.State.{Settings, State, Held, meaning, form, padded, standing, waitingIn}
+use Rattle.state.specs.SetUp.{requestWith, settingsRefusal, codedSetUp}
 use Rattle.state.proofs.Form as Form
+use Rattle.state.proofs.SettingUp as SettingUp
 use Rattle.state.proofs.Stands as Stands
 
 -- ---- what a state means
@@ -38,6 +43,17 @@ pub waiting-counted :
 waiting-counted s held e = Stands.waiting-counted s (Stands.lent-held s held e)
 
 -- ---- set-up
+
+-- 'Refusals 2 to 6 come as the set-up is read': those of the numbers alone are those of a set-up whose row has its N stations
+pub settings-known :
+    (g : Settings) (row : List Asked) → g .n ≤ length row
+    → firstOf fine (settingsTests (requestWith g row)) .refusal ≡ settingsRefusal g
+settings-known = SettingUp.settings-known
+
+-- and what the numbers alone are refused with, every set-up with them is refused with, whatever its row
+pub settings-first :
+    (g : Settings) (row : List Asked) → ¬ (settingsRefusal g ≡ 0) → codedSetUp (requestWith g row) .0 .refusal ≡ settingsRefusal g
+settings-first = SettingUp.settings-first
 
 -- 'Every call that accepts keeps these conditions.'
 pub keeps-standing-set-up : (r : Request) → codedSetUp r .0 .refusal ≡ 0 → standing (codedSetUp r .1) ≡ true

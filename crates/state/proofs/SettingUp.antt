@@ -17,13 +17,13 @@ use borrow.Author.Tests.{leb-true, leb-false, ltb-true, ltb-false, eqb-true, le-
 use Rattle.rules.specs.Lists.{each-of, outside, firstOf, verdict}
 use Rattle.rules.specs.declared.Verdict.{Verdict}
 use Rattle.rules.specs.Bus.{most-stations, least-space, most-space, most-step, places, RTDG, code, Station, Bus, nothing}
-use Rattle.rules.specs.SetUp.{Asked, Request, fine, settingsTests, stationTests, rowTests, setUpVerdict, freshStation, freshBus}
+use Rattle.rules.specs.SetUp.{Asked, Request, fault, fine, settingsTests, stationTests, rowTests, setUpVerdict, freshStation, freshBus}
 use Rattle.rules.specs.Standing.{asked, askedFor}
 use Rattle.rules.specs.Conditions.{settingsConditions}
 use Rattle.rules.proofs.Laws.{and-true}
 use Rattle.rules.proofs.Tests.{below, out-of, by-case, equal, negated, one-of, inside, Tried, done, _then_, NoneHolds, none-held}
 use Rattle.state.specs.State.{Settings, Listed, State, noPacket, noContender, noContention, noRound, nobody, row, stationOr, listedForm, contenderForm, form, stationAt, stationsOf, meaning}
-use Rattle.state.specs.SetUp.{SetUp, askedOf, requestWith, codedSetUp, setUpResult}
+use Rattle.state.specs.SetUp.{SetUp, askedOf, requestWith, settingsRefusal, codedSetUp, setUpResult}
 use Rattle.state.specs.Parts.{Compared, numberOf, shared, freshState}
 use Rattle.state.proofs.Listed.{the-row}
 use Rattle.state.proofs.Rows.{values-length, values-map, values-take, row-same}
@@ -217,6 +217,73 @@ set-up-pass g row e = settings-pass g row (go (eqb (v .refusal) 0) refl)
     go : (t : Bool) → eqb (v .refusal) 0 ≡ t → v .refusal ≡ 0
     go true same = eqb-true (v .refusal) 0 same
     go false same = ap (λ (w : Verdict). w .refusal) (sym (set-up-turn g row v false refl same)) ∙ e
+
+-- ---- 2 to 6 before the stations are known
+
+-- a row of 64 is long enough for every N within its range
+long-enough : (n : ℕ) → (outside 1 most-stations n || ltb most-stations n) ≡ outside 1 most-stations n
+long-enough n = go (leb 1 n) refl
+  where
+    twice : (t : Bool) → (t || t) ≡ t
+    twice true = refl
+    twice false = refl
+
+    go : (t : Bool) → leb 1 n ≡ t → (outside 1 most-stations n || ltb most-stations n) ≡ outside 1 most-stations n
+    go true e =
+        let above = outside-above 1 most-stations n (leb-true 1 n e) in
+        ap (λ t. outside 1 most-stations n || t) (sym above) ∙ twice (outside 1 most-stations n)
+    go false e =
+        let below! = outside-below 1 most-stations n (leb-false 1 n e) in
+        ap (λ t. t || ltb most-stations n) below! ∙ sym below!
+
+-- 2 to 5 of these numbers, and 2 to 6 by the test of N
+abbrev before-count : Settings → List (Verdict × Bool)
+before-count g = take 4 (settingsTests (requestWith g []))
+
+abbrev by-count : Settings → Bool → Verdict
+by-count g t = firstOf fine (before-count g ++ ((fault 6 0, t) ∷ []))
+
+-- what is refused with a row that is long enough is refused with the same number by any row; `short` is whether that is shorter than N
+for-any-row : (g : Settings) (t short : Bool) → ¬ (by-count g t .refusal ≡ 0) → by-count g (t || short) ≡ by-count g t
+for-any-row g true short h = refl
+for-any-row g false short h = go (eqb (firstOf fine (before-count g) .refusal) 0) (turn short) (turn false)
+  where
+    earlier : Verdict
+    earlier = firstOf fine (before-count g)
+
+    turn : (t : Bool) → by-count g t ≡ cond (eqb (earlier .refusal) 0) (verdict t (fault 6 0) fine) earlier
+    turn t = in-turn (before-count g) ((fault 6 0, t) ∷ []) refl
+
+    go :
+        (z : Bool) → by-count g short ≡ cond z (verdict short (fault 6 0) fine) earlier → by-count g false ≡ cond z fine earlier
+        → by-count g short ≡ by-count g false
+    go true e k = absurd (h (ap (λ (v : Verdict). v .refusal) k))
+    go false e k = e ∙ sym k
+
+numbers-alone : (g : Settings) → settingsRefusal g ≡ by-count g (outside 1 most-stations (g .n)) .refusal
+numbers-alone g = ap (λ t. by-count g t .refusal) (long-enough (g .n))
+
+-- so 2 to 6 of the numbers alone are those of a set-up whose row has its N stations
+pub settings-known :
+    (g : Settings) (row : List Asked) → g .n ≤ length row
+    → firstOf fine (settingsTests (requestWith g row)) .refusal ≡ settingsRefusal g
+settings-known g row h =
+    let long = le-ltb (length row) (g .n) h in
+    ap (λ t. by-count g (outside 1 most-stations (g .n) || t) .refusal) long
+    ∙ ap (λ t. by-count g t .refusal) (or-false (outside 1 most-stations (g .n)))
+    ∙ sym (numbers-alone g)
+
+-- and what they are refused with, every set-up with them is refused with, whatever its row
+pub settings-first :
+    (g : Settings) (row : List Asked) → ¬ (settingsRefusal g ≡ 0) → setUpVerdict (requestWith g row) .refusal ≡ settingsRefusal g
+settings-first g row h =
+    let v = firstOf fine (settingsTests (requestWith g row)) in
+    ap (λ (w : Verdict). w .refusal) (set-up-turn g row v false refl (ne-eqb (v .refusal) 0 (λ z. h (sym same ∙ z)))) ∙ same
+  where
+    same : firstOf fine (settingsTests (requestWith g row)) .refusal ≡ settingsRefusal g
+    same =
+        let o = outside 1 most-stations (g .n) in
+        ap (λ (w : Verdict). w .refusal) (for-any-row g o (ltb (length row) (g .n)) (λ z. h (numbers-alone g ∙ z))) ∙ sym (numbers-alone g)
 
 -- ---- the state that a set-up gives
 
