@@ -15,6 +15,18 @@ pub const LONGEST_SCRIPT: usize = 65_536;
 /// Numbers from here on read as the largest of 64 bits.
 const READS_AS_LARGEST: u64 = 18_446_744_073_709_551_610;
 
+/// "up to 512 calls", and "the 512 places" of their reports.
+const CALLS: usize = 512;
+
+/// "a row of 64 places of arrivals", and "fewer than 64 arrivals taken".
+const ARRIVALS: usize = 64;
+
+/// The numbers of a report after its place.
+type Report = [u64; 16];
+
+/// "what it does not have is zero".
+const ZERO_REPORT: Report = [0; 16];
+
 /// Plays a whole script; "At the script's end the state is written once more".
 pub fn drive<W: Write>(script: &[u8], lines: &mut Lines<W>) {
     let mut state = State::ZERO;
@@ -27,6 +39,7 @@ pub fn drive<W: Write>(script: &[u8], lines: &mut Lines<W>) {
             b'U' => play_set_up(&mut state, &mut script, lines),
             b'A' => play_admission(&mut state, &mut script, lines),
             b'S' => play_step(&mut state, lines),
+            b'R' => play_stretch(&mut state, &mut script, lines),
             b'T' => play_totals(&state, lines),
             b'E' => play_change(&mut state, &mut script),
             _ => write_state(&state, lines),
@@ -53,7 +66,7 @@ impl Script<'_> {
         loop {
             match self.byte()? {
                 b'#' => self.pass_line(),
-                letter @ (b'U' | b'A' | b'S' | b'T' | b'E' | b'P') => return Some(letter),
+                letter @ (b'U' | b'A' | b'S' | b'R' | b'T' | b'E' | b'P') => return Some(letter),
                 _ => {}
             }
         }
@@ -131,24 +144,33 @@ fn play_admission<W: Write>(state: &mut State, script: &mut Script, lines: &mut 
     let address = script.number32();
     let value = script.number32();
     let length = script.number32();
-    let (refusal, number) = match admit(state, address, value, length) {
-        Ok(number) => (0, number),
-        Err(refusal) => (refusal.number(), 0),
-    };
-    lines.word("A").number(refusal).number(number).close();
+    let numbers = admission_numbers(state, address, value, length);
+    lines.word("A").numbers(&numbers).close();
 }
 
-/// `S`: step; "zero in the answer's other fields" for a refusal.
+/// Admits; "the two numbers of an `A` line".
+fn admission_numbers(state: &mut State, address: u32, value: u32, length: u32) -> [u64; 2] {
+    match admit(state, address, value, length) {
+        Ok(number) => [0, number],
+        Err(refusal) => [u64::from(refusal.number()), 0],
+    }
+}
+
+/// `S`: step.
 fn play_step<W: Write>(state: &mut State, lines: &mut Lines<W>) {
-    lines.word("S");
+    lines.word("S").numbers(&step_numbers(state)).close();
+}
+
+/// Steps; "the eleven numbers of an `S` line", "zero in the answer's other fields" for a refusal.
+fn step_numbers(state: &mut State) -> [u64; 11] {
     match step(state) {
-        Ok(answer) => write_answer(&answer, lines),
-        Err(refusal) => lines.number(refusal.number()).numbers(&[0; 10]).close(),
+        Ok(answer) => answer_numbers(&answer),
+        Err(refusal) => [u64::from(refusal.number()), 0, 0, 0, 0, 0, 0, 0, 0, 0, 0],
     }
 }
 
 /// The fields of a step that was not refused.
-fn write_answer<W: Write>(answer: &Answer, lines: &mut Lines<W>) {
+fn answer_numbers(answer: &Answer) -> [u64; 11] {
     let (event, address, number, length) = match answer.event {
         Event::Idle => (0, 0, 0, 0),
         Event::Collision => (1, 0, 0, 0),
@@ -158,16 +180,120 @@ fn write_answer<W: Write>(answer: &Answer, lines: &mut Lines<W>) {
             length,
         } => (2, u64::from(address), number, u64::from(length)),
     };
+    [
+        0,
+        answer.drops,
+        u64::from(answer.slot),
+        u64::from(answer.tied),
+        answer.start,
+        answer.size,
+        event,
+        address,
+        number,
+        length,
+        u64::from(answer.ended),
+    ]
+}
+
+/// An arrival of a stretch.
+#[derive(Clone, Copy)]
+struct Arrival {
+    time: u32,
+    address: u32,
+    value: u32,
+    length: u32,
+}
+
+impl Arrival {
+    const ZERO: Arrival = Arrival {
+        time: 0,
+        address: 0,
+        value: 0,
+        length: 0,
+    };
+}
+
+/// `R`: "a row of 64 places of arrivals of which the first `length` are filled; the fours stand in its
+/// first places, the others are zero".
+fn play_stretch<W: Write>(state: &mut State, script: &mut Script, lines: &mut Lines<W>) {
+    let steps = script.number32();
+    let filled = at_most_64(script.number());
+    let fours = at_most_64(script.number());
+    let mut row = [Arrival::ZERO; ARRIVALS];
+    for arrival in &mut row[..fours] {
+        arrival.time = script.number32();
+        arrival.address = script.number32();
+        arrival.value = script.number32();
+        arrival.length = script.number32();
+    }
+    let stretch = stretch(state, &row[..filled], steps);
+    for (place, report) in stretch.reports.iter().enumerate() {
+        write_place("call", place, report, lines);
+    }
     lines
-        .number(0u64)
-        .number(answer.drops)
-        .number(answer.slot)
-        .number(answer.tied)
-        .number(answer.start)
-        .number(answer.size)
-        .numbers(&[event, address, number, length])
-        .number(answer.ended)
+        .word("R")
+        .number(stretch.made as u64)
+        .number(stretch.taken as u64)
+        .number(stretch.left)
         .close();
+}
+
+/// "the calls made, the arrivals taken and the steps left where it ends", and the reports.
+struct Stretch {
+    made: usize,
+    taken: usize,
+    left: u32,
+    reports: [Report; CALLS],
+}
+
+/// "A stretch is made of the single calls."
+fn stretch(state: &mut State, row: &[Arrival], steps: u32) -> Stretch {
+    let mut stretch = Stretch {
+        made: 0,
+        taken: 0,
+        left: steps,
+        reports: [ZERO_REPORT; CALLS],
+    };
+    // "fewer than 512 calls have been made, fewer than 64 arrivals taken, and a step is left".
+    while stretch.made < CALLS && stretch.taken < ARRIVALS && stretch.left > 0 {
+        stretch.reports[stretch.made] = match next_arrival(state, &row[stretch.taken..]) {
+            Some(arrival) => {
+                stretch.taken += 1;
+                admission_report(state, arrival)
+            }
+            None => {
+                stretch.left -= 1;
+                step_report(state)
+            }
+        };
+        stretch.made += 1;
+    }
+    stretch
+}
+
+/// "if an arrival comes next in the row and its time is not above the clock".
+fn next_arrival<'a>(state: &State, rest: &'a [Arrival]) -> Option<&'a Arrival> {
+    rest.first().filter(|arrival| arrival.time <= state.clock)
+}
+
+/// "the clock before the call", and of an admission "the arrival's address and the two numbers of an
+/// `A` line".
+fn admission_report(state: &mut State, arrival: &Arrival) -> Report {
+    let clock = u64::from(state.clock);
+    let address = u64::from(arrival.address);
+    let [refusal, number] =
+        admission_numbers(state, arrival.address, arrival.value, arrival.length);
+    let mut report = ZERO_REPORT;
+    report[..5].copy_from_slice(&[1, clock, address, refusal, number]);
+    report
+}
+
+/// "the clock before the call", and "of a step the eleven numbers of an `S` line".
+fn step_report(state: &mut State) -> Report {
+    let mut report = ZERO_REPORT;
+    report[1] = u64::from(state.clock);
+    report[5..].copy_from_slice(&step_numbers(state));
+    report
 }
 
 /// `T`: "the closing numbers of a state that stands; any other is refused with 1, and zeros".

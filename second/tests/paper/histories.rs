@@ -1,14 +1,12 @@
 //! Made-up histories and lent states: accepted calls keep the conditions, refused ones the state.
 
 use second::admission::admit;
-use second::drive::drive;
-use second::lines::Lines;
 use second::standing::stands;
 use second::state::{first_window, State};
 use second::step::step;
 use second::totals::totals;
 
-use crate::worlds::fresh;
+use crate::worlds::{fresh, played};
 
 /// A plain generator of numbers, the same ones at every run.
 struct Numbers(u64);
@@ -114,10 +112,11 @@ fn scripts_of_any_content_are_played() {
     for _ in 0..200 {
         let mut script = String::from("U 1 8 8 3 3 3 3 1 0 2 0 3 0 A 1 9 2 A 2 9 1 A 3 30 4 ");
         for _ in 0..60 {
-            match numbers.below(6) {
+            match numbers.below(7) {
                 0 => script += "S ",
                 1 => script += "T ",
                 2 => script += "A 1 50 2 ",
+                3 => script += "R 9 3 2 0 1 50 2 12 2 60 1 ",
                 _ => {
                     let field = 1 + numbers.below(28);
                     let index = numbers.below(4);
@@ -126,8 +125,6 @@ fn scripts_of_any_content_are_played() {
                 }
             }
         }
-        let mut lines = Lines::new(Vec::new());
-        drive(script.as_bytes(), &mut lines);
-        assert!(lines.finish().ends_with(b"end\n"));
+        assert!(played(&script).ends_with("end\n"));
     }
 }

@@ -1,4 +1,4 @@
-//! Tests of the paper's worked example, settled examples, refusals, standing conditions and scripts.
+//! Tests of the paper's worked example, settled examples, refusals, standing conditions, scripts and stretches.
 
 mod examples;
 mod histories;
@@ -6,4 +6,5 @@ mod listing;
 mod refusals;
 mod script;
 mod standing;
+mod stretch;
 mod worlds;

@@ -1,26 +1,17 @@
 //! Scripts of calls: reading of commands and numbers, changed fields, and what is written.
 
-use second::drive::drive;
-use second::lines::Lines;
-
-fn played(script: &str) -> String {
-    let mut lines = Lines::new(Vec::new());
-    drive(script.as_bytes(), &mut lines);
-    String::from_utf8(lines.finish()).expect("what is written is text")
-}
-
-const ZERO: &str =
-    "settings 0 0 0 0 0\nclock 0\ncounts 0 0 0\nround 0 0\ncontention 0 0 0 0 0 0\nend\n";
+use crate::worlds::{played, WRITTEN_ZERO};
 
 #[test]
 fn the_empty_script() {
-    assert_eq!(played(""), ZERO);
-    assert_eq!(played("x # U A S T P\n y12"), ZERO);
+    assert_eq!(played(""), WRITTEN_ZERO);
+    assert_eq!(played("x # U A S R T P\n y12"), WRITTEN_ZERO);
 }
 
 #[test]
 fn calls_on_a_zero_state() {
-    let expected = format!("A 1 0\nS 1 0 0 0 0 0 0 0 0 0 0\nT 1 0 0 0 0 0\n{ZERO}{ZERO}");
+    let expected =
+        format!("A 1 0\nS 1 0 0 0 0 0 0 0 0 0 0\nT 1 0 0 0 0 0\n{WRITTEN_ZERO}{WRITTEN_ZERO}");
     assert_eq!(played("A 1 2 3 S T P"), expected);
 }
 
@@ -83,7 +74,7 @@ fn numbers_of_a_script() {
 fn changed(change: &str) -> Vec<String> {
     played(change)
         .lines()
-        .filter(|line| !ZERO.lines().any(|zero| zero == *line))
+        .filter(|line| !WRITTEN_ZERO.lines().any(|zero| zero == *line))
         .map(str::to_string)
         .collect()
 }

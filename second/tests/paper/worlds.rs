@@ -1,6 +1,7 @@
-//! What the tests share: settings, station rows, states, scenario bytes and listings.
+//! What the tests share: settings, station rows, states, scenario bytes, listings and scripts.
 
 use second::admission::admit;
+use second::drive::drive;
 use second::lines::Lines;
 use second::listing::list;
 use second::set_up::set_up;
@@ -103,3 +104,14 @@ pub fn run_record(steps: u16) -> Vec<u8> {
     record.extend(steps.to_le_bytes());
     record
 }
+
+/// What playing a script writes.
+pub fn played(script: &str) -> String {
+    let mut lines = Lines::new(Vec::new());
+    drive(script.as_bytes(), &mut lines);
+    String::from_utf8(lines.finish()).expect("what is written is text")
+}
+
+/// The all-zero state as it is written.
+pub const WRITTEN_ZERO: &str =
+    "settings 0 0 0 0 0\nclock 0\ncounts 0 0 0\nround 0 0\ncontention 0 0 0 0 0 0\nend\n";
