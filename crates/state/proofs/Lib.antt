@@ -6,6 +6,6 @@ pub mod Stands
 pub mod Tested
 pub mod SettingUp
 pub mod StandingParts
-pub mod Chained
+pub mod Found
 pub mod Promises
 pub mod Unique

@@ -1,6 +1,6 @@
 -- The stations of a set-up: the tests of its numbers and of its row in the order in which they are tried, and the state that it gives.
 -- Assumes nothing.
-use Prim.Native.Nat.{ℕ, zero, suc, _+_, _/_, _%_, _≤_, _<_, min}
+use Prim.Native.Nat.{ℕ, suc, _+_, _/_, _%_, _≤_, _<_, min}
 use mathlib.Core.Path.{_≡_, refl, sym, ap, ap₂, _∙_}
 use mathlib.Core.Logic.{inl, inr}
 use mathlib.Core.Bool.{Bool, true, false, not, _||_, cond, or-assoc, or-false}
@@ -26,7 +26,7 @@ use Rattle.state.specs.State.{Settings, Listed, State, noPacket, noConte
 use Rattle.state.specs.SetUp.{SetUp, askedOf, requestWith, settingsRefusal, codedSetUp, setUpResult}
 use Rattle.state.specs.Parts.{Compared, numberOf, shared, freshState}
 use Rattle.state.proofs.Listed.{the-row}
-use Rattle.state.proofs.Rows.{values-length, values-map, values-take, row-same}
+use Rattle.state.proofs.Rows.{take-map, values-length, values-map, values-take, row-same}
 use Rattle.state.proofs.Form.{code-discipline}
 
 -- ---- ranges
@@ -147,12 +147,7 @@ faulty-end r stations i n h l =
 -- the first n of a row that is asked for
 pub asked-first :
     (stations : List Listed) (n count : ℕ) → n ≤ count → take n (map askedOf (take count stations)) ≡ map askedOf (take n stations)
-asked-first stations n count h = take-map n (take count stations) ∙ ap (map askedOf) (take-take n count stations h)
-  where
-    take-map : (m : ℕ) (ls : List Listed) → take m (map askedOf ls) ≡ map askedOf (take m ls)
-    take-map zero ls = refl
-    take-map (suc m) [] = refl
-    take-map (suc m) (l ∷ ls) = ap (λ more. askedOf l ∷ more) (take-map m ls)
+asked-first stations n count h = take-map askedOf n (take count stations) ∙ ap (map askedOf) (take-take n count stations h)
 
 -- how long it is
 pub asked-count :

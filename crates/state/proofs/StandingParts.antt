@@ -4,15 +4,16 @@ use Prim.Native.Nat.{ℕ, zero, suc, _+_, _-_, _*_, _≤_, _<_, min}
 use mathlib.Core.Path.{_≡_, refl, sym, ap, ap₂, _∙_}
 use mathlib.Core.Bool.{Bool, true, false, not, _&&_, _||_, cond, and-true as and-last-true, and-false, and-assoc, and-comm}
 use mathlib.Core.Option.{none, some}
-use mathlib.Core.List.{List, [], _∷_, _++_, map}
-use native.Mathlib.Nat.{zero-add, add-zero, suc-add, add-suc, min-eq-left, min-eq-right}
+use mathlib.Core.List.{List, [], _∷_, _++_, map, append-nil, append-assoc}
+use native.Mathlib.Nat.{zero-add, add-zero, sub-zero, suc-add, add-suc, min-eq-left, min-eq-right, mod-eq-of-lt}
+use native.Mathlib.Numerals.{add-one}
 use native.Mathlib.Omega.{arith}
 use mir.Val.{Val}
 use denote.Laws.{Is}
 use lib.Dec.{leb, ltb, eqb}
-use lib.ListN.{length, getD, take, drop, length-take, length-map}
-use lib.Seq.{length-take-le, take-all}
-use borrow.Author.Tests.{eqb-true, leb-true, leb-false, le-leb, lt-ltb, le-ltb, eq-eqb, ne-eqb}
+use lib.ListN.{length, getD, take, drop, length-append, length-take, length-map}
+use lib.Seq.{take-all}
+use borrow.Author.Tests.{eqb-true, leb-true, leb-false, ltb-true, ltb-false, le-leb, lt-ltb, le-ltb, eq-eqb, ne-eqb}
 use Rattle.window.specs.Splitting.{placed}
 use Rattle.rules.specs.Lists.{each-of, some-of, total, distinct}
 use Rattle.rules.specs.Bus as Machine
@@ -22,13 +23,13 @@ use Rattle.rules.specs.Standing.{value-fits, length-fits, rising, same-packet, 
 use Rattle.rules.proofs.Laws.{clash, and-true, true-and}
 use Rattle.rules.proofs.Tests.{Whether, holds, fails}
 use Rattle.rules.proofs.Standing.{stands-exactly}
-use Rattle.state.specs.State.{Contender, Contention, Segment, Queues, State, Held, noContender, nobody, placesAt, queueAt, stationAt, stationsOf, valuesFrom, tieOf, meaning, no-packet, queue-padded, contender-padded, station-padded, no-station, each-place, round-padded, contention-padded, padded, standing, waitingIn}
+use Rattle.state.specs.State.{Contender, Contention, Segment, Queues, State, Packet, Held, noContender, nobody, placesAt, queueAt, stationAt, stationsOf, valuesFrom, tieOf, meaning, no-packet, queue-padded, contender-padded, station-padded, no-station, each-place, round-padded, contention-padded, padded, standing, waitingIn}
 use Rattle.state.specs.SetUp.{askedOf, requestWith}
-use Rattle.state.specs.Parts.{parameterFits, contenderSound, stationSound, nobodyAt, placeSound, numbersFrom, queuesSound, roundSound, contentionSound}
+use Rattle.state.specs.Parts.{parameterFits, contenderSound, stationSound, nobodyAt, placeSound, numbersFrom, numbersSound, queuesSound, roundSound, contentionSound}
 use Rattle.state.proofs.State as state
-use Rattle.state.proofs.Rows.{each-place-all, values-take}
+use Rattle.state.proofs.Rows.{rest-suc, rest-none, each-place-turn, each-place-end, values-take}
 use Rattle.state.proofs.Form.{padded-parts, places-length}
-use Rattle.state.proofs.Places.{queues-arrays}
+use Rattle.state.proofs.Places.{queues-arrays, cut}
 use Rattle.state.proofs.SettingUp.{set-up-pass, passes-as-asked}
 
 -- ---- tests
@@ -268,19 +269,23 @@ numbers-same : (s : State) (i k : ℕ) → numbers (valuesFrom (stationAt s) i k
 numbers-same s i zero = refl
 numbers-same s i (suc k) = ap (λ ns. numbersIn (queueAt (s .queues) i) ++ ns) (numbers-same s (suc i) k)
 
--- a queue whose length is in range is as long as that says
-length-is :
-    (s : State) → Held s → (i : ℕ) → i < most-stations → getD (s .queues .lengths) i 0 ≤ places
-    → length (queueAt (s .queues) i) ≡ getD (s .queues .lengths) i 0
-length-is s h i l room = length-take-le (getD (s .queues .lengths) i 0) (placesAt (s .queues) i) (omega (arith, places-length s h i l))
+-- as many packets wait as there are numbers
+numbers-count : (stations : List Machine.Station) → length (numbers stations) ≡ waiting stations
+numbers-count [] = refl
+numbers-count (s ∷ stations) =
+    length-append (numbersIn (s .queue)) (numbers stations) ∙ ap₂ _+_ (length-map (s .queue) (λ p. p .number)) (numbers-count stations)
 
 -- the packets waiting at the k stations from i on, by the lengths of their queues
 waiting-from :
-    (s : State) → Held s → (i k : ℕ) → i + k ≤ most-stations → ((j : ℕ) → j < i + k → getD (s .queues .lengths) j 0 ≤ places)
-    → waiting (valuesFrom (stationAt s) i k) ≡ total (λ n. n) (valuesFrom (λ j. getD (s .queues .lengths) j 0) i k)
-waiting-from s h i zero l room = refl
-waiting-from s h i (suc k) l room =
-    ap₂ _+_ (length-is s h i (omega arith) (room i (omega arith))) (waiting-from s h (suc i) k (omega arith) (λ j m. room j (omega arith)))
+    (s : State) → Held s → (i k : ℕ) → i + k ≤ most-stations
+    → waiting (valuesFrom (stationAt s) i k) ≡ total (λ n. min n places) (valuesFrom (λ j. getD (s .queues .lengths) j 0) i k)
+waiting-from s h i zero l = refl
+waiting-from s h i (suc k) l =
+    let n = getD (s .queues .lengths) i 0 in
+    ap₂
+    _+_
+    (length-take n (placesAt (s .queues) i) ∙ ap (min n) (places-length s h i (omega arith)))
+    (waiting-from s h (suc i) k (omega arith))
 
 -- the first n of a list are its first n up to its length
 pub first-few : {X : Type 0} (xs : List X) (n k : ℕ) → length xs ≡ k → take (min n k) xs ≡ take n xs
@@ -300,14 +305,14 @@ held-whole (k ∷ lengths) zero room = refl
 held-whole (k ∷ lengths) (suc n) room =
     ap₂ _+_ (min-eq-left (room 0 (omega arith))) (held-whole lengths n (λ i h. room (suc i) (omega arith)))
 
+-- what waits is what the lengths count
 pub waiting-same :
     (s : State) → Held s → s .segment .settings .n ≤ most-stations
-    → ((i : ℕ) → i < s .segment .settings .n → getD (s .queues .lengths) i 0 ≤ places)
-    → total (λ k. k) (take (s .segment .settings .n) (s .queues .lengths)) ≡ waiting (stationsOf s)
-waiting-same s h l room =
+    → waitingIn (s .queues .lengths) (s .segment .settings .n) ≡ waiting (stationsOf s)
+waiting-same s h l =
     let n = s .segment .settings .n in
-    ap (total (λ k. k)) (values-take (s .queues .lengths) 0 n (omega (arith, h .lengths)))
-    ∙ sym (waiting-from s h 0 n (omega arith) (λ j m. room j (omega arith)))
+    ap (total (λ k. min k places)) (values-take (s .queues .lengths) 0 n (omega (arith, h .lengths)))
+    ∙ sym (waiting-from s h 0 n (omega arith))
 
 -- ---- the round
 
@@ -420,28 +425,22 @@ state-held s vs owned =
 -- ---- the standing conditions
 
 -- The parts in the order of `standing`, and as the code has them. `sound` is the test of the 64 places: the tests `zeros`, `past` and
--- `stand`. The counts are compared where the places are sound.
+-- `stand`.
 parts-order :
-    (zeros past round contention clock admitted counts stand apart last window sound counts′ : Bool)
-    → sound ≡ (zeros && past && stand) → (sound ≡ true → counts′ ≡ counts)
+    (zeros past round contention clock admitted counts stand apart last window sound : Bool) → sound ≡ (zeros && past && stand)
     → (zeros && past && round && contention && (clock && admitted && counts && stand && apart && last && window))
-    ≡ (clock && (admitted && ((round && last) && ((contention && window) && (sound && counts′ && apart)))))
-parts-order zeros past round contention clock admitted counts stand apart last window sound counts′ same agreed =
+    ≡ (clock && (admitted && ((round && last) && ((contention && window) && (sound && (counts && apart))))))
+parts-order zeros past round contention clock admitted counts stand apart last window sound same =
     and-four (zeros && past && round) contention (clock && admitted && counts && stand && apart && last) window
     ∙ ap (λ t. t && (contention && window)) (and-four (zeros && past) round (clock && admitted && counts && stand && apart) last)
     ∙ ap (λ t. t && (round && last) && (contention && window)) (gather (zeros && past) (clock && admitted))
-    ∙ ap (λ t. clock && admitted && (t && counts && apart) && (round && last) && (contention && window)) (sym same)
-    ∙ ap (λ t. clock && admitted && t && (round && last) && (contention && window)) (compare sound agreed)
-    ∙ queues-last clock admitted (round && last) (contention && window) (sound && counts′ && apart)
+    ∙ ap (λ t. clock && admitted && (t && (counts && apart)) && (round && last) && (contention && window)) (sym same)
+    ∙ queues-last clock admitted (round && last) (contention && window) (sound && (counts && apart))
   where
-    gather : (a b : Bool) → (a && (b && counts && stand && apart)) ≡ (b && (a && stand && counts && apart))
+    gather : (a b : Bool) → (a && (b && counts && stand && apart)) ≡ (b && (a && stand && (counts && apart)))
     gather a false = and-false a
     gather false true = refl
-    gather true true = ap (λ t. t && apart) (and-comm counts stand)
-
-    compare : (t : Bool) → (t ≡ true → counts′ ≡ counts) → (t && counts && apart) ≡ (t && counts′ && apart)
-    compare false h = refl
-    compare true h = ap (λ t. t && apart) (sym (h refl))
+    gather true true = ap (λ t. t && apart) (and-comm counts stand) ∙ and-assoc stand counts apart
 
     queues-last : (a b c d e : Bool) → (a && b && e && c && d) ≡ (a && (b && (c && (d && e))))
     queues-last false b c d e = refl
@@ -466,25 +465,78 @@ not-set-up s h n = go (standing s) refl
         (eq-eqb (setUpVerdict (askedFor (meaning s)) .refusal) 0 (passes (stands-exactly (meaning s)) (both .1))))
         (set-up-same s h ∙ ne-eqb (setUpVerdict (tried s) .refusal) 0 n)
 
--- where all 64 places are sound: what other tests lean on
-module _
-    (g : Segment)
-    (qs : Queues)
-    (few : g .settings .n ≤ most-stations)
-    (sound : each-place (placeSound g qs) 0 most-stations ≡ true)
-    (i : ℕ)
-    (here : i < g .settings .n)
-  where
-    pub sound-room : getD (qs .lengths) i 0 ≤ places
-    sound-room =
-        let k = getD (qs .lengths) i 0 in
-        let zeros = each-of no-packet (drop k (placesAt qs i)) in
-        let place = each-place-all (placeSound g qs) 0 most-stations sound i (omega arith) (omega arith) in
-        let station = ap (λ t. cond t (stationSound g qs i) (nobodyAt g qs i)) (sym (lt-ltb i (g .settings .n) here)) ∙ place in
-        let three = and-true (leb k places && zeros && _ && _) _ station in
-        let two = and-true (leb k places && zeros && _) _ (three .0) in
-        let both = and-true (leb k places && zeros) _ (two .0) in
-        leb-true k places (and-true (leb k places) zeros (both .0) .0)
+-- ---- the queues, place by place
+
+-- numbers up to an admitted count in range are held whole
+cut-whole :
+    (before admitted : ℕ) (ps : List Packet) → admitted ≤ most-admitted → rising before admitted ps ≡ true
+    → (before ≤ admitted) × (cut ps ≡ numbersIn ps)
+cut-whole before admitted [] l e = (leb-true before admitted e, refl)
+cut-whole before admitted (p ∷ ps) l e =
+    let both = and-true (ltb before (p .number)) (rising (p .number) admitted ps) e in
+    let more = cut-whole (p .number) admitted ps l (both .1) in
+    (omega (arith, ltb-true before (p .number) (both .0)), ap₂ _∷_ (mod-eq-of-lt (omega arith)) (more .1))
+
+module _ (g : Segment) (qs : Queues) where
+  -- the numbers from place i on
+  abbrev later : ℕ → List ℕ
+  later i = numbersFrom qs i (g .settings .n - i)
+
+  -- of a place that is sound: its queue has room, and its numbers come next, none past N, and are held whole
+  abbrev Next : ℕ → Type 0
+  Next i =
+      (getD (qs .lengths) i 0 ≤ places)
+      × (later i ≡ numbersIn (queueAt qs i) ++ later (suc i))
+      × (g .admitted ≤ most-admitted → cut (queueAt qs i) ≡ numbersIn (queueAt qs i))
+
+  pub next : (i : ℕ) → placeSound g qs i ≡ true → Next i
+  next i = go (ltb i (g .settings .n)) refl
+    where
+      k : ℕ
+      k = getD (qs .lengths) i 0
+
+      go : (t : Bool) → ltb i (g .settings .n) ≡ t → cond t (stationSound g qs i) (nobodyAt g qs i) ≡ true → Next i
+      go true e h =
+          let padded = queue-padded k (placesAt qs i) in
+          let three = and-true (padded && _ && _) _ h in
+          let two = and-true (padded && _) _ (three .0) in
+          let both = and-true padded _ (two .0) in (
+            leb-true k places (and-true (leb k places) _ (both .0) .0),
+            ap (numbersFrom qs i) (rest-suc i _ (ltb-true i _ e)),
+            λ l. cut-whole 0 (g .admitted) (queueAt qs i) l (both .1) .1,
+          )
+      go false e h =
+          let l = getD (g .listed) i nobody in
+          let unnamed = eqb (l .address .0) 0 && eqb (l .capability .0) 0 in
+          let two = and-true (unnamed && eqb k 0 && _) _ h in
+          let both = and-true (unnamed && eqb k 0) _ (two .0) in
+          let none = eqb-true k 0 (and-true unnamed (eqb k 0) (both .0) .1) in
+          let past = ltb-false i (g .settings .n) e in
+          (omega arith, rw (rest-none i _ past, rest-none (suc i) (g .settings .n) (omega arith), none), λ l. rw none)
+
+  -- the test from place i on, where `seen` are the numbers before it
+  abbrev pub from-place : List ℕ → ℕ → Bool
+  from-place seen i = each-place (placeSound g qs) i (most-stations - i) && numbersSound g (seen ++ later i)
+
+  pub place-first : queuesSound g qs ≡ from-place [] 0
+  place-first = rw (sub-zero (g .settings .n))
+
+  module _ (seen : List ℕ) (i : ℕ) where
+    pub place-fails : i < most-stations → placeSound g qs i ≡ false → from-place seen i ≡ false
+    place-fails h e = simp (each-place-turn (placeSound g qs) i most-stations h, e)
+
+    pub place-passes :
+        {more : List ℕ} → i < most-stations → placeSound g qs i ≡ true → g .admitted ≤ most-admitted → more ≡ seen ++ cut (queueAt qs i)
+        → from-place seen i ≡ from-place more (i + 1)
+    place-passes h e l same =
+        let order = append-assoc seen (numbersIn (queueAt qs i)) (later (suc i)) in
+        rw (same, next i e .2 l, add-one i, order, each-place-turn (placeSound g qs) i most-stations h, e, next i e .1)
+
+    pub places-end :
+        {k : ℕ} → g .settings .n ≤ most-stations → most-stations ≤ i → length seen ≡ k
+        → from-place seen i ≡ (eqb (g .admitted) (g .sent + g .lost + k) && distinct seen)
+    places-end few h same =
+        rw (each-place-end (placeSound g qs) i most-stations h, rest-none i (g .settings .n) (omega arith), append-nil seen, same)
 
 -- the tests of the code after the set-up: from the admitted count on, from the round on, from the contention on
 abbrev pub from-contention : State → Bool
@@ -512,35 +564,15 @@ standing-parts s h e =
     let sound = each-place (placeSound (s .segment) (s .queues)) 0 most-stations in
     let counted : ℕ → Bool = λ waiting. eqb (s .segment .admitted) (s .segment .sent + s .segment .lost + waiting) in
     let counts = counted (waiting (stationsOf s)) in
-    let counts′ = counted (total (λ k. k) (take n (s .queues .lengths))) in
     let apart = distinct (numbers (stationsOf s)) in
     let round = round-padded (s .segment .round) in
     let last = last-stands (meaning s .discipline) (stationsOf s) (meaning s .last) in
     let contention = contention-padded (s .segment .contention) in
     let window = contention-stands (meaning s) (meaning s .contention) in
     let begun = contentionSound (s .segment .settings) (s .segment .contention) in
-    ap₂
-    (λ d v. d && zeros && past && round && contention && (v && clock && admitted && counts && stand && apart && last && window))
-    (both .0)
-    (both .1)
-    ∙ parts-order
-    zeros
-    past
-    round
-    contention
-    clock
-    admitted
-    counts
-    stand
-    apart
-    last
-    window
-    sound
-    counts′
-    (places-same s few)
-    (λ k. ap counted (waiting-same s h few (sound-room (s .segment) (s .queues) few k)))
-    ∙ ap₂
-    (λ r c. clock && (admitted && (r && (c && (sound && counts′ && apart)))))
-    (sym (round-same s h few))
-    (sym (contention-same s))
-    ∙ ap (λ ns. clock && (admitted && (roundSound (s .segment) && (begun && (sound && counts′ && distinct ns))))) (numbers-same s 0 n)
+    let same =
+    ap (λ k. counted k && apart) (sym (numbers-count (stationsOf s))) ∙ ap (numbersSound (s .segment)) (numbers-same s 0 n) in
+    ap₂ (λ d v. d && zeros && past && round && contention && (v && clock && admitted && counts && stand && apart && last && window)) (both .0) (both .1)
+    ∙ parts-order zeros past round contention clock admitted counts stand apart last window sound (places-same s few)
+    ∙ ap₂ (λ r c. clock && (admitted && (r && (c && (sound && (counts && apart)))))) (sym (round-same s h few)) (sym (contention-same s))
+    ∙ ap (λ t. clock && (admitted && (roundSound (s .segment) && (begun && (sound && t))))) same

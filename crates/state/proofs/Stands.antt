@@ -24,7 +24,7 @@ use Rattle.state.specs.SetUp.{codedSetUp}
 use Rattle.state.proofs.State as state
 use Rattle.state.proofs.Rows.{values-length}
 use Rattle.state.proofs.Form.{Padded, padded-parts, form-meaning, standing-fits, nothing-fits, meaning-form, padded-form}
-use Rattle.state.proofs.StandingParts.{state-held, held-whole, waiting-same}
+use Rattle.state.proofs.StandingParts.{state-held, waiting-same}
 
 pub form-stands : (b : Bus) → Standing b → standing (form b) ≡ true
 form-stands b h =
@@ -83,9 +83,6 @@ few-packets s r i l =
     let n = getD (s .queues .lengths) i 0 in
     leb-true n places (and-true (leb n places) (each-of no-packet (drop n (placesAt (s .queues) i))) (r .zeros .queues i l) .0)
 
--- and so what waits is what the lengths count
+-- what waits is what the lengths count
 pub waiting-counted : (s : State) → Lent s → waitingIn (s .queues .lengths) (s .segment .settings .n) ≡ waiting (stationsOf s)
-waiting-counted s r =
-    let room : (i : ℕ) → i < s .segment .settings .n → getD (s .queues .lengths) i 0 ≤ places
-    = λ i l. few-packets s r i (omega (arith, r .few)) in
-    held-whole (s .queues .lengths) (s .segment .settings .n) room ∙ waiting-same s (r .held) (r .few) room
+waiting-counted s r = waiting-same s (r .held) (r .few)

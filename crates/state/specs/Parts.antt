@@ -1,13 +1,11 @@
 -- The parts that the code of a state is made of, as functions: what the contracts of the private functions cite. Assumes nothing.
-use Prim.Native.Nat.{ℕ, zero, suc, _+_, _-_, _%_, _≤_, _<_}
-use mathlib.Core.Path.{_≡_}
-use mathlib.Core.Logic.{_≢_}
+use Prim.Native.Nat.{ℕ, zero, suc, _+_}
 use mathlib.Core.Bool.{Bool, true, not, _&&_, _||_, cond}
 use mathlib.Core.List.{List, [], _++_, map}
 use lib.Dec.{leb, ltb, eqb}
-use lib.ListN.{getD, take, drop}
+use lib.ListN.{length, getD, take, drop}
 use Rattle.window.specs.Splitting.{placed}
-use Rattle.rules.specs.Lists.{each-of, some-of, has, total, distinct}
+use Rattle.rules.specs.Lists.{each-of, some-of, has, distinct}
 use Rattle.rules.specs.Bus.{Discipline, PRI, RTDG, RTVC, numbersIn}
 use Rattle.rules.specs.SetUp.{Asked, disciplineOf}
 use Rattle.rules.specs.Standing.{value-fits, length-fits, rising, same-packet}
@@ -127,26 +125,13 @@ abbrev pub numbersFrom : Queues → ℕ → ℕ → List ℕ
 numbersFrom qs i zero = []
 numbersFrom qs i (suc k) = numbersIn (queueAt qs i) ++ numbersFrom qs (suc i) k
 
--- what a number leaves: those that leave the same stand on one chain
-abbrev pub remainder : ℕ → ℕ
-remainder n = n % 2039
+-- 'admitted = sent + lost + waiting' and 'none twice over all queues', of the numbers of those that wait
+abbrev pub numbersSound : Segment → List ℕ → Bool
+numbersSound g ns = eqb (g .admitted) (g .sent + g .lost + length ns) && distinct ns
 
--- a link to the latest of the first `count` numbers that leave r: its place and one more, and 0 where none does
-pub record Latest (numbers : List ℕ) (r link count : ℕ) : Type 0 where
-  pub inside : link ≤ count
-  pub none-later : (p : ℕ) → link ≤ p → p < count → remainder (getD numbers p 0) ≢ r
-  pub leaves : 0 < link → remainder (getD numbers (link - 1) 0) ≡ r
-
--- each of the first `count` numbers has a link to the latest before it that leaves the same
-abbrev pub Linked : List ℕ → List ℕ → ℕ → Type 0
-Linked numbers links count = (p : ℕ) → p < count → Latest numbers (remainder (getD numbers p 0)) (getD links p 0) p
-
--- the places of stations, the counts, and 'none twice over all queues'
+-- the places of stations, and the numbers in their queues
 abbrev pub queuesSound : Segment → Queues → Bool
-queuesSound g qs =
-    each-place (placeSound g qs) 0 64
-    && eqb (g .admitted) (g .sent + g .lost + total (λ k. k) (take (g .settings .n) (qs .lengths)))
-    && distinct (numbersFrom qs 0 (g .settings .n))
+queuesSound g qs = each-place (placeSound g qs) 0 64 && numbersSound g (numbersFrom qs 0 (g .settings .n))
 
 -- `round-padded`, and `last-stands` of the rules
 abbrev pub roundSound : Segment → Bool

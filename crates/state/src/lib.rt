@@ -90,12 +90,6 @@ pub struct Queue {
     pub length: usize,
 }
 
-// Which of their numbers two stations are compared by.
-enum Compared {
-    Addresses,
-    Capabilities,
-}
-
 // A set-up's answer, and the state.
 pub struct SetUp {
     pub verdict: Verdict,
@@ -108,6 +102,12 @@ pub struct Arrival {
     pub address: Address,
     pub value: u32,
     pub length: u32,
+}
+
+// Which of their numbers two stations are compared by.
+enum Compared {
+    Addresses,
+    Capabilities,
 }
 
 // No set-up.

@@ -1,91 +1,37 @@
-// 'none twice over all queues': the queues' numbers are gathered in one list, and each is compared with those before it that leave the
-// same remainder by 2,039, a prime. These stand on a chain, and a table has the latest of each chain. A full state, 64 queues of 16
-// packets, takes 1,024 turns: no comparison where its numbers lie within 2,039 of each other, some 260 where they are scattered, and
-// 523,776 at worst, where all leave one remainder.
-use crate::Queues;
-ghost use Prim.Native.Nat.{ℕ, _<_, _≤_};
+// 'none twice over all queues': each number is sought among those before it, and hung where its way ends. A way begins at one of 2,048
+// links, by the number's remainder, and goes on at one of the two links of each number on it, by the next bit of the quotient. A full
+// state, 64 queues of 16 packets, takes 1,024 ways: no comparison where its numbers lie within 2,048 of each other, some 240 where they
+// are scattered, and at most 22 on one way, since a number has 32 bits.
+ghost use Prim.Native.Nat.{_≤_};
 ghost use mathlib.Core.Path.{_≡_};
-ghost use lib.ListN.{length, getD, take};
-ghost use Rattle.rules.specs.Lists.{has, distinct};
-ghost use Rattle.state.specs.Parts.{numbersFrom, remainder, Latest, Linked};
+ghost use denote.Ref.{now};
+ghost use lib.ListN.{length, take};
+ghost use Rattle.rules.specs.Lists.{distinct};
 
-// Writes the numbers of the first n queues one after the other, and says how many they are. A reference does not tell how long its array
-// is, so the contracts do.
-fn gather(queues: Queues, n: usize, numbers: &mut [u64; 1024]) -> usize
-    requires { ⌜ n ≤ 64 ⌝ }
-    requires { ⌜ ((i : ℕ) → i < n → getD (queues .lengths) i 0 ≤ 16) ⌝ }
-    requires { ⌜ length (now numbers) ≡ 1024 ⌝ }
-    ensures { λ r. ⌜ r ≤ 1024 ⌝ }
-    ensures { λ r. ⌜ length (now (numbers .exit)) ≡ 1024 ⌝ }
-    ensures { λ r. ⌜ take r (now (numbers .exit)) ≡ numbersFrom queues 0 n ⌝ }
+// Whether none of the first n numbers stands twice among them. A link is to a number, as one more than its place, and 0 is a free one. The
+// first 2,048 are where ways begin, and then each place has two.
+pub fn none_twice(numbers: &[u32; 1024], n: usize) -> bool
+    requires { ⌜ n ≤ 1024 ⌝ }
+    requires { ⌜ n ≤ length (now numbers) ⌝ }
+    ensures { λ r. ⌜ r ≡ distinct (take n (now (numbers .entry))) ⌝ }
 {
-    let mut count = 0usize;
-    for i in 0..n {
-        let length = queues.lengths[i];
-        for j in 0..length {
-            let at = 16 * i + j;
-            let p = queues.packets[at];
-            numbers[count] = p.number;
-            count += 1;
+    let mut links = [0u16; 4096];
+    for k in 0..n {
+        let number = numbers[k];
+        let mut at = (number % 2048) as usize;
+        let mut rest = number / 2048;
+        loop {
+            let link = links[at] as usize;
+            if link == 0 {
+                break;
+            }
+            if numbers[link - 1] == number {
+                return false;
+            }
+            at = 2046 + 2 * link + (rest % 2) as usize;
+            rest = rest / 2;
         }
-    }
-    count
-}
-
-// Whether a number is one of the first so many, found along the chain of its remainder from the latest on. A link is a place and one
-// more, and 0 ends the chain.
-fn on_chain(
-    number: u64,
-    numbers: &[u64; 1024],
-    links: &[usize; 1024],
-    from: usize,
-    count: usize,
-) -> bool
-    requires { ⌜ count ≤ 1024 ⌝ }
-    requires { ⌜ length (now numbers) ≡ 1024 ⌝ }
-    requires { ⌜ Linked (now numbers) (now links) count ⌝ }
-    requires { ⌜ Latest (now numbers) (remainder number) from count ⌝ }
-    ensures { λ r. ⌜ r ≡ has number (take count (now (numbers .entry))) ⌝ }
-{
-    let mut link = from;
-    while 0 < link {
-        let place = link - 1;
-        if number == numbers[place] {
-            return true;
-        }
-        link = links[place];
-    }
-    false
-}
-
-// Whether the first so many numbers all differ. Each number passed has a link to the one before it on its chain.
-fn differ(numbers: &[u64; 1024], count: usize) -> bool
-    requires { ⌜ count ≤ 1024 ⌝ }
-    requires { ⌜ length (now numbers) ≡ 1024 ⌝ }
-    ensures { λ r. ⌜ r ≡ distinct (take count (now (numbers .entry))) ⌝ }
-{
-    let mut latest = [0usize; 2039];
-    let mut links = [0usize; 1024];
-    for i in 0..count {
-        let number = numbers[i];
-        let remainder = (number % 2039) as usize;
-        let from = latest[remainder];
-        if on_chain(number, numbers, &links, from, i) {
-            return false;
-        }
-        links[i] = from;
-        latest[remainder] = i + 1;
+        links[at] = (k + 1) as u16;
     }
     true
-}
-
-// Whether no packet's number stands twice in the queues of the first n stations.
-pub fn none_twice(queues: Queues, n: usize) -> bool
-    requires { ⌜ n ≤ 64 ⌝ }
-    requires { ⌜ ((i : ℕ) → i < n → getD (queues .lengths) i 0 ≤ 16) ⌝ }
-    ensures { λ r. ⌜ r ≡ distinct (numbersFrom queues 0 n) ⌝ }
-{
-    let mut numbers = [0u64; 1024];
-    let count = gather(queues, n, &mut numbers);
-    differ(&numbers, count)
 }

@@ -22,10 +22,11 @@ ghost use mathlib.Core.Bool.{_&&_, cond};
 ghost use lib.Dec.{eqb, ltb};
 ghost use lib.ListN.{drop, take};
 ghost use Rattle.rules.specs.Lists.{each-of, some-of};
+ghost use Rattle.rules.specs.Bus.{most-admitted};
 ghost use Rattle.rules.specs.SetUp.{disciplineOf};
 ghost use Rattle.rules.specs.Standing.{value-fits, length-fits, rising, same-packet};
-ghost use Rattle.state.specs.State.{no-packet, no-window, each-place, standing, waitingIn};
-ghost use Rattle.state.specs.Parts.{packetsOf, no-contender, contenderSound, stationTest, nobodyTest, parameterFits, placeSound, queuesSound, roundSound, contentionSound};
+ghost use Rattle.state.specs.State.{no-packet, no-window, standing, waitingIn};
+ghost use Rattle.state.specs.Parts.{packetsOf, no-contender, contenderSound, stationTest, nobodyTest, parameterFits, queuesSound, roundSound, contentionSound};
 
 // 'packets admitted: at most 4,294,967,295'
 pub const MOST_ADMITTED: u64 = 4_294_967_295;
@@ -238,33 +239,6 @@ fn place_stands(
     nobody_at(l, c, queue)
 }
 
-// Each of the 64 places. The queues are taken out in the loop itself: a call copies the whole row.
-fn places_stand(g: Segment, queues: Queues) -> bool
-    ensures { λ r. ⌜ r ≡ each-place (placeSound g queues) 0 64 ⌝ }
-{
-    let settings = g.settings;
-    let contention = g.contention;
-    for i in 0..64 {
-        let l = g.listed[i];
-        let c = g.contenders[i];
-        let mut places = [zeros::NO_PACKET; 16];
-        let first = 16 * i;
-        for j in 0..16 {
-            let at = first + j;
-            places[j] = queues.packets[at];
-        }
-        let length = queues.lengths[i];
-        let queue = Queue {
-            packets: places,
-            length,
-        };
-        if !place_stands(settings, contention.begun, g.admitted, i, l, c, queue) {
-            return false;
-        }
-    }
-    true
-}
-
 // A number, or the most where it is above that.
 fn at_most(n: usize, most: usize) -> usize
     ensures { λ r. ⌜ r ≡ min n most ⌝ }
@@ -375,22 +349,39 @@ fn contention_stands(settings: Settings, c: Contention) -> bool
     window::is_placed(w, settings.d)
 }
 
-// The places of stations, 'admitted = sent + lost + waiting', and 'none twice over all queues'.
+// Each of the 64 places, 'admitted = sent + lost + waiting', and 'none twice over all queues'. The queues and their numbers are taken out in
+// the loop itself: a call copies the whole row. Numbers are held in 32 bits: where a place stands, none is above the admitted count.
 fn queues_stand(g: Segment, queues: Queues) -> bool
-    requires { ⌜ g .settings .n ≤ 64 ⌝ }
+    requires { ⌜ (g .settings .n ≤ 64) × (g .admitted ≤ most-admitted) ⌝ }
     ensures { λ r. ⌜ r ≡ queuesSound g queues ⌝ }
 {
-    if !places_stand(g, queues) {
-        return false;
-    }
     let settings = g.settings;
-    let n = settings.n;
-    let lengths = queues.lengths;
-    let waiting = waiting_in(lengths, n);
+    let contention = g.contention;
+    let mut numbers = [0u32; 1024];
+    let mut waiting = 0usize;
+    for i in 0..64 {
+        let l = g.listed[i];
+        let c = g.contenders[i];
+        let mut places = [zeros::NO_PACKET; 16];
+        for j in 0..16 {
+            let p = queues.packets[16 * i + j];
+            places[j] = p;
+            numbers[waiting + j] = (p.number % 4_294_967_296) as u32;
+        }
+        let length = queues.lengths[i];
+        let queue = Queue {
+            packets: places,
+            length,
+        };
+        if !place_stands(settings, contention.begun, g.admitted, i, l, c, queue) {
+            return false;
+        }
+        waiting += length;
+    }
     if !counts_stand(g.admitted, g.sent, g.lost, waiting) {
         return false;
     }
-    numbers::none_twice(queues, n)
+    numbers::none_twice(&numbers, waiting)
 }
 
 // The test that refusal 1 goes by: the set-up, 'clock and admitted count within range', the round, the contention, the queues.

@@ -1,64 +1,237 @@
--- `standing::queues_stand` meets its contract: each test that fails makes the conjunction fail, and the queues of sound places have room.
--- Assumes nothing.
-use mathlib.Core.Path.{_≡_, _∙_}
-use mathlib.Core.Bool.{true}
+-- `standing::queues_stand` meets its contract. The loop's invariant: the test is what is left of it at place i, behind the numbers before it.
+-- That of the loop in it: the first j of station i's places are copied, and their numbers. Assumes nothing.
+use Prim.Native.Nat.{ℕ, _≤_, _<_, _+_, _-_, _*_}
+use mathlib.Core.Path.{_≡_, refl, sym, _∙_}
+use mathlib.Core.Bool.{true, _&&_}
+use mathlib.Core.List.{List}
+use native.Mathlib.Omega.{arith}
 use borrow.Author.Needs.{needs}
-use lib.ListN.{take}
-use Rattle.rules.specs.Lists.{total}
-use Rattle.state.specs.State.{each-place}
-use Rattle.state.specs.Parts.{placeSound}
-use Rattle.state.proofs.Tested.{denied, granted}
-use Rattle.state.proofs.StandingParts.{held-whole, sound-room}
+use lib.Dec.{eqb}
+use lib.ListN.{length, take}
+use lib.Seq.{length-take-le, paste, paste-zero}
+use Rattle.rules.specs.Lists.{distinct}
+use Rattle.state.specs.State.{Segment, Queues, placesAt}
+use Rattle.state.specs.Parts.{placeSound, queuesSound}
+use Rattle.state.proofs.Tested.{denied, granted, passed, failed}
+use Rattle.state.proofs.Places.{queues-arrays, cut, taken-one, taken-all, written-one, written-all}
+use Rattle.state.proofs.StandingParts.{next, from-place, place-first, place-fails, place-passes, places-end}
 use Rattle.state.proofs.standing.queues_stand.Statement.{statement}
 use Rattle.state.proofs.standing.queues_stand.Tie as tie
 
-sound : (c : tie.Else1) → each-place (placeSound (c .before .before .args .g) (c .before .before .args .queues)) 0 64 ≡ true
-sound c = granted (c .before .places-stand .ensures) (c .if1 .left)
+abbrev Inv-loop2 : tie.InvT-loop2
+Inv-loop2 g queues settings contention numbers₀ waiting i l c places₀ j₀ numbers places j =
+    (j ≤ 16)
+    × (places ≡ paste places₀ 0 (placesAt queues i) j)
+    × (numbers ≡ paste numbers₀ waiting (cut (placesAt queues i)) j)
 
-places-stand-requires : tie.Need-places-stand-requires
-places-stand-requires c κs = search needs
+abbrev μ-loop2 : tie.MeasureT-loop2
+μ-loop2 g queues settings contention numbers₀ waiting i l c places₀ j₀ numbers places j = 16 - j
 
-returns : tie.Need-returns
-returns c = simp (denied (c .before .places-stand .ensures) (c .if1 .taken))
+abbrev Inv-loop : tie.InvT-loop
+Inv-loop g queues settings contention numbers₀ waiting₀ i₀ numbers waiting i =
+    (i ≤ 64) × (waiting ≤ 16 * i) × (length numbers ≡ 1024) × (queuesSound g queues ≡ from-place g queues (take waiting numbers) i)
 
-waiting-in-requires : tie.Need-waiting-in-requires
-waiting-in-requires c κs = search needs
+abbrev μ-loop : tie.MeasureT-loop
+μ-loop g queues settings contention numbers₀ waiting₀ i₀ numbers waiting i = 64 - i
 
--- what waits is what the lengths make
-waits : (c : tie.After-waiting-in) → c .waiting-in .result ≡ total (λ k. k) (take (c .before .before .before .before .before .args .g .settings .n) (c .before .before .before .before .before .args .queues .lengths))
-waits c =
-    let one = c .before .before .before in
-    let start = one .before .before in
-    c .waiting-in .ensures
-    ∙ held-whole (start .args .queues .lengths) (start .args .g .settings .n) (sound-room (start .args .g) (start .args .queues) (start .pre) (sound one))
+-- of a turn: what was lent, and the numbers before place i
+abbrev lent : tie.At-loop Inv-loop2 μ-loop2 Inv-loop μ-loop → Segment
+lent at = at .before .before .before .args .t1
 
-counts-stand-requires : tie.Need-counts-stand-requires
+abbrev row : tie.At-loop Inv-loop2 μ-loop2 Inv-loop μ-loop → Queues
+row at = at .before .before .before .args .t2
+
+abbrev seen : tie.At-loop Inv-loop2 μ-loop2 Inv-loop μ-loop → List ℕ
+seen at = take (at .loop .waiting) (at .loop .numbers)
+
+full : (at : tie.At-loop Inv-loop2 μ-loop2 Inv-loop μ-loop) → length (row at .packets) ≡ 1024
+full at = queues-arrays (row at) _ (at .before .before .before .good .1 .0) .1
+
+loop-holds : tie.Need-loop-holds Inv-loop2 μ-loop2 Inv-loop μ-loop
+loop-holds c = (search needs, search needs, refl, place-first (c .before .before .args .t1) (c .before .before .args .t2))
+
+mul-l : tie.Need-mul-l Inv-loop2 μ-loop2 Inv-loop μ-loop
+mul-l c = search needs
+
+element-copy-out-l : tie.Need-element-copy-out-l Inv-loop2 μ-loop2 Inv-loop μ-loop
+element-copy-out-l c = search needs
+
+mul-c : tie.Need-mul-c Inv-loop2 μ-loop2 Inv-loop μ-loop
+mul-c c = search needs
+
+element-copy-out-c : tie.Need-element-copy-out-c Inv-loop2 μ-loop2 Inv-loop μ-loop
+element-copy-out-c c = search needs
+
+loop2-holds : tie.Need-loop2-holds Inv-loop2 μ-loop2 Inv-loop μ-loop
+loop2-holds c =
+    let at = c .before .before .before in
+    (search needs, refl, paste-zero (at .loop .numbers) (at .loop .waiting) (cut (placesAt (row at) (at .loop .i))))
+
+mul-p : tie.Need-mul-p Inv-loop2 μ-loop2 Inv-loop μ-loop
+mul-p c = search needs
+
+add-p : tie.Need-add-p Inv-loop2 μ-loop2 Inv-loop μ-loop
+add-p c = search needs
+
+mul-p-2 : tie.Need-mul-p-2 Inv-loop2 μ-loop2 Inv-loop μ-loop
+mul-p-2 c = search needs
+
+element-copy-out-p : tie.Need-element-copy-out-p Inv-loop2 μ-loop2 Inv-loop μ-loop
+element-copy-out-p c = search needs
+
+mul-places : tie.Need-mul-places Inv-loop2 μ-loop2 Inv-loop μ-loop
+mul-places c = search needs
+
+array-set-from-places : tie.Need-array-set-from-places Inv-loop2 μ-loop2 Inv-loop μ-loop
+array-set-from-places c = search needs
+
+cast-numbers : tie.Need-cast-numbers Inv-loop2 μ-loop2 Inv-loop μ-loop
+cast-numbers c = search needs
+
+add-numbers : tie.Need-add-numbers Inv-loop2 μ-loop2 Inv-loop μ-loop
+add-numbers c = search needs
+
+mul-numbers : tie.Need-mul-numbers Inv-loop2 μ-loop2 Inv-loop μ-loop
+mul-numbers c = search needs
+
+array-write-numbers : tie.Need-array-write-numbers Inv-loop2 μ-loop2 Inv-loop μ-loop
+array-write-numbers c = search needs
+
+add-j : tie.Need-add-j Inv-loop2 μ-loop2 Inv-loop μ-loop
+add-j c = search needs
+
+loop2-less : tie.Need-loop2-less Inv-loop2 μ-loop2 Inv-loop μ-loop
+loop2-less c = search needs
+
+loop2-again : tie.Need-loop2-again Inv-loop2 μ-loop2 Inv-loop μ-loop
+loop2-again c =
+    let turn = c .before .before .before in
+    let at = turn .before .before .before .before in
+    let i = at .loop .i in
+    let j = turn .loop2 .j in (
+      search needs,
+      taken-one (row at) i j (omega arith) (full at) (omega arith) (turn .loop2 .inv .1),
+      written-one (row at) i (at .loop .waiting) (at .loop .numbers) (omega arith) (full at) (omega arith) j (omega arith) (turn .loop2 .inv .2),
+    )
+
+mul-length : tie.Need-mul-length Inv-loop2 μ-loop2 Inv-loop μ-loop
+mul-length c = search needs
+
+element-copy-out-length : tie.Need-element-copy-out-length Inv-loop2 μ-loop2 Inv-loop μ-loop
+element-copy-out-length c = search needs
+
+place-stands-requires : tie.Need-place-stands-requires Inv-loop2 μ-loop2 Inv-loop μ-loop
+place-stands-requires c κs = search needs
+
+-- what is told of place i
+told :
+    (c : tie.After-place-stands Inv-loop2 μ-loop2 Inv-loop μ-loop)
+    → let at = c .before .before .before .before .before .before .before in c .place-stands .result ≡ placeSound (lent at) (row at) (at .loop .i)
+told c =
+    let inner = c .before .before .before in
+    let at = inner .before .before .before .before in
+    rw (taken-all (row at) (at .loop .i) (inner .loop2 .j) (omega arith) (full at) (omega arith) (inner .loop2 .inv .1)) at (c .place-stands .ensures)
+
+sound :
+    (c : tie.Else1 Inv-loop2 μ-loop2 Inv-loop μ-loop)
+    → let at = c .before .before .before .before .before .before .before .before in placeSound (lent at) (row at) (at .loop .i) ≡ true
+sound c = granted (told (c .before)) (c .if1 .left)
+
+returns : tie.Need-returns Inv-loop2 μ-loop2 Inv-loop μ-loop
+returns c =
+    let at = c .before .before .before .before .before .before .before .before in
+    let none = place-fails (lent at) (row at) (seen at) (at .loop .i) (omega arith) in
+    sym (at .loop .inv .3 ∙ none (denied (told (c .before)) (c .if1 .taken)))
+
+add-waiting : tie.Need-add-waiting Inv-loop2 μ-loop2 Inv-loop μ-loop
+add-waiting c =
+    let at = c .before .before .before .before .before .before .before .before in
+    omega (arith, next (lent at) (row at) (at .loop .i) (sound c) .0)
+
+add-i : tie.Need-add-i Inv-loop2 μ-loop2 Inv-loop μ-loop
+add-i c = search needs
+
+loop-less : tie.Need-loop-less Inv-loop2 μ-loop2 Inv-loop μ-loop
+loop-less c = search needs
+
+loop-again : tie.Need-loop-again Inv-loop2 μ-loop2 Inv-loop μ-loop
+loop-again c =
+    let inner = c .before .before .before .before in
+    let at = inner .before .before .before .before in
+    let i = at .loop .i in
+    let room = next (lent at) (row at) i (sound c) .0 in
+    let here : i < 64 = omega arith in
+    let fits : at .loop .waiting + 16 ≤ length (at .loop .numbers) = omega arith in
+    let all : inner .loop2 .j ≡ 16 = omega arith in
+    let more = written-all (row at) i (at .loop .waiting) (at .loop .numbers) here (full at) fits (inner .loop2 .j) _ all room (inner .loop2 .inv .2) in (
+      search needs,
+      omega arith,
+      more .0 ∙ at .loop .inv .2,
+      at .loop .inv .3
+          ∙ place-passes (lent at) (row at) (seen at) i here (sound c) (at .before .before .before .pre .1) (more .1),
+    )
+
+-- at the end: the count and the numbers are left
+ended :
+    (c : tie.After-loop Inv-loop2 μ-loop2 Inv-loop μ-loop)
+    → let at = c .before in
+    let g = lent at in
+    queuesSound g (row at)
+    ≡ (eqb (g .admitted) (g .sent + g .lost + at .loop .waiting) && distinct (seen at))
+ended c =
+    let at = c .before in
+    let count = length-take-le (at .loop .waiting) (at .loop .numbers) (omega arith) in
+    at .loop .inv .3 ∙ places-end (lent at) (row at) (seen at) (at .loop .i) (at .before .before .before .pre .0) (c .loop-test .left) count
+
+counts-stand-requires : tie.Need-counts-stand-requires Inv-loop2 μ-loop2 Inv-loop μ-loop
 counts-stand-requires c κs = search needs
 
-returns-2 : tie.Need-returns-2
-returns-2 c =
-    let waited = c .before .before in
-    simp (sound (waited .before .before .before), ← waits waited, denied (c .before .counts-stand .ensures) (c .if2 .taken))
+returns-2 : tie.Need-returns-2 Inv-loop2 μ-loop2 Inv-loop μ-loop
+returns-2 c = sym (failed _ (ended (c .before .before)) (denied (c .before .counts-stand .ensures) (c .if2 .taken)))
 
-none-twice-requires : tie.Need-none-twice-requires
-none-twice-requires c κs =
-    let one = c .before .before .before .before .before in
-    let start = one .before .before in
-    (start .pre, sound-room (start .args .g) (start .args .queues) (start .pre) (sound one))
+none-twice-requires : tie.Need-none-twice-requires Inv-loop2 μ-loop2 Inv-loop μ-loop
+none-twice-requires c κs = (omega arith, omega arith)
 
-returns-3 : tie.Need-returns-3
+returns-3 : tie.Need-returns-3 Inv-loop2 μ-loop2 Inv-loop μ-loop
 returns-3 c =
-    let waited = c .before .before .before in
-    let count = granted (c .before .before .counts-stand .ensures) (c .before .if2 .left) in
-    simp (sound (waited .before .before .before), ← waits waited, count) (c .none-twice .ensures)
+    let two = c .before .before in
+    c .none-twice .ensures ∙ sym (passed (ended (two .before .before)) (granted (two .before .counts-stand .ensures) (two .if2 .left)))
 
 pub queues-stand-spec : {M : Type 1} → statement M
 queues-stand-spec =
     tie.close
     (tie.spec
-    places-stand-requires
+    Inv-loop2
+    μ-loop2
+    Inv-loop
+    μ-loop
+    loop-holds
+    mul-l
+    element-copy-out-l
+    mul-c
+    element-copy-out-c
+    loop2-holds
+    mul-p
+    add-p
+    mul-p-2
+    element-copy-out-p
+    mul-places
+    array-set-from-places
+    cast-numbers
+    add-numbers
+    mul-numbers
+    array-write-numbers
+    add-j
+    loop2-less
+    loop2-again
+    mul-length
+    element-copy-out-length
+    place-stands-requires
     returns
-    waiting-in-requires
+    add-waiting
+    add-i
+    loop-less
+    loop-again
     counts-stand-requires
     returns-2
     none-twice-requires

@@ -81,7 +81,9 @@ returns-5 : tie.Need-returns-5
 returns-5 c = sym (failed _ (after-round (c .before .before .before)) (denied (c .before .contention-stands .ensures) (c .if5 .taken)))
 
 queues-stand-requires : tie.Need-queues-stand-requires
-queues-stand-requires c κs = few (c .before .before .before .before .before .before .before .before .before .before)
+queues-stand-requires c κs =
+    let three = c .before .before .before .before .before .before in
+    (few (three .before .before .before .before), three .if3 .left)
 
 returns-6 : tie.Need-returns-6
 returns-6 c =
