@@ -19,15 +19,15 @@ use Rattle.rules.specs.Admission.{Arrival, named, admissionRefusal, newPacket, 
 use Rattle.rules.proofs.Tests.{told}
 use Rattle.rules.proofs.Standing.{stands-exactly, admission-accepted, admit-is}
 use Rattle.bus.specs.Types.{Address, Packet, Queues, State, Queue}
-use Rattle.state.specs.State.{Held, queueAt, stationWith, stationAt, valuesFrom, stationsOf, meaning, form, standing}
+use Rattle.state.specs.State.{Held, queueAt, stationWith, stationAt, valuesFrom, stationsOf, meaning, form, standing, nobody}
 use Rattle.bus.specs.Coded.{Admission, arrivalOf, codedAdmit, admissionResult}
 use Rattle.state.specs.Parts.{queueOf}
-use Rattle.bus.specs.Parts.{queueForm, withQueue, firstPlace, addressPlace, refusalTests, refusalAt, accepted}
+use Rattle.bus.specs.Parts.{queueForm, firstPlace, refusalTests, refusalAt}
 use Rattle.state.proofs.Rows.{among-values}
 use Rattle.bus.proofs.FirstPlace.{first-place-holds, first-place-before}
 use Rattle.state.proofs.Form.{parts-padded, queue-length, to-form}
 use Rattle.bus.proofs.Coded.{hands-back-admission, admit-bears, standing-exactly-admission}
-use Rattle.bus.proofs.QueueLaws.{form-joined}
+use Rattle.bus.proofs.QueueLaws.{form-joined, withQueue}
 use Rattle.state.proofs.Stands.{Lent}
 use Rattle.bus.proofs.Changed.{queue-formed, address-of, own-address, segmentCounting, recounted, requeued, requeued-held, requeued-padded, stations-now}
 
@@ -65,6 +65,11 @@ module _ {X : Type 0} (t : X → Bool) (f : ℕ → X) where
           ap (λ u. u || rest) (others i (omega arith) (omega arith) (λ z. other (sym z))) ∙ later (omega arith)
 
 -- ---- the station with an address
+
+-- the place of the station with an address; N where there is none
+abbrev pub addressPlace : State → Address → ℕ
+addressPlace s address =
+    firstPlace (λ i. eqb (address .0) (getD (s .segment .listed) i nobody .address .0)) 0 (s .segment .settings .n)
 
 -- whether station j has it
 abbrev named-by : State → Address → ℕ → Bool
@@ -125,7 +130,7 @@ module _ (s : State) (r : Lent s) (place : ℕ) (address : Address) (sought : pl
   refused-11 past = rw (told (stands-exactly (meaning s)) (r .stands), none-named s address (omega arith))
 
   -- where no refusal is given, a station has the address
-  pub at-station : admissionRefusal (meaning s) arrival ≡ 0 → place < s .segment .settings .n
+  at-station : admissionRefusal (meaning s) arrival ≡ 0 → place < s .segment .settings .n
   at-station none! = go (ltb place (s .segment .settings .n)) refl
     where
       go : (t : Bool) → ltb place (s .segment .settings .n) ≡ t → place < s .segment .settings .n
@@ -245,6 +250,11 @@ refusal-is s r place address sought value len = go (leb (s .segment .settings .n
     go true e = refused-11 s r place address sought value len (leb-true (s .segment .settings .n) place e)
     go false e = refused-later s r place address sought value len (leb-false (s .segment .settings .n) place e)
 
+-- an accepted admission
+abbrev pub accepted : State → Arrival → Admission
+accepted s a =
+    record { answer = record { refusal = 0; number = suc (s .segment .admitted) }; state = form (withPacket (meaning s) a) }
+
 -- ---- what a call gives back
 
 -- a refused call: its number, and the state as lent
@@ -275,7 +285,7 @@ module _ (s : State) (r : Lent s) (a : Arrival) where
   gives-refusal refusal e =
       handed-back s (r .held) a refusal (ap (λ (o : Admitted × State). o .0 .refusal) of-rules ∙ admit-bears (meaning s) a ∙ sym e)
 
-  pub takes-in : admissionRefusal (meaning s) a ≡ 0 → accepted s a ≡ admissionResult (codedAdmit s a)
+  takes-in : admissionRefusal (meaning s) a ≡ 0 → accepted s a ≡ admissionResult (codedAdmit s a)
   takes-in none! =
       sym
       (ap admissionResult of-rules ∙ ap (λ (o : Admitted × Bus). admissionResult (o .0, form (o .1))) (admit-is (meaning s) a none!))
@@ -349,9 +359,6 @@ module _
 
     pub room-at : getD (s .queues .lengths) place 0 < 16
     room-at = room-left s r place address sought value len here! none!
-
-    pub count-left : s .segment .admitted < 4294967295
-    count-left = admission-accepted (meaning s) (arrivalOf address value len) none! .count-left
 
     pub joined-in-place :
         (number : ℕ) → number ≡ s .segment .admitted + 1

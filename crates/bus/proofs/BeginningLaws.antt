@@ -10,20 +10,21 @@ use native.Mathlib.Omega.{arith}
 use lib.Dec.{eqb, ltb}
 use lib.ListN.{length, getD, take, set, replicate}
 use borrow.Author.Tests.{eqb-true, eqb-false, ltb-true, ltb-false, lt-ltb, le-ltb, not-true}
-use Rattle.rules.specs.Lists.{kept, keep, count, total}
+use Rattle.rules.specs.Lists.{keep, count, total}
 use Rattle.rules.specs.Bus.{Discipline, PRI, RTDG, RTVC, Offer, Station, Bus, most-admitted, late}
 use Rattle.rules.specs.SetUp.{disciplineOf}
 use Rattle.rules.specs.Standing.{OfferStands}
 use Rattle.rules.specs.Begin.{sits-out, parameterOf, offers, choice, entered, dropsOf, begin}
 use Rattle.rules.proofs.Laws.{and-true, true-and, keep-all, kept-failed, count-le, total-among, total-mono}
 use Rattle.bus.specs.Types.{Slot, Settings, Listed, Contender, Contention, Round, Segment, Queues, State, Packet, Queue}
-use Rattle.state.specs.State.{Held, noContender, nobody, placesAt, queueAt, offerOf, stationAt, valuesFrom, stationsOf, lastOf, contentionOf, meaning, contenderForm, form, row, queue-padded, contender-padded, no-station}
-use Rattle.bus.specs.Parts.{openingOf, Begun, Late, queueForm, withQueue, stays, chosenForm, parameterFor, contenderOn, contenderFor}
+use Rattle.state.specs.State.{Held, noContender, nobody, placesAt, queueAt, offerOf, stationAt, valuesFrom, stationsOf, lastOf, contentionOf, meaning, contenderForm, form, row, waitingIn, queue-padded, contender-padded, no-station}
+use Rattle.bus.specs.Parts.{openingOf, Begun, Late, queueForm, stays, chosenForm, parameterFor, contenderOn, contenderFor}
 use Rattle.state.specs.Parts.{queueOf, packetsOf}
 use Rattle.state.proofs.Rows.{values-take, values-map, values-same, among-values, row-length, row-at, row-ext, row-replicate, row-same, row-set}
 use Rattle.state.proofs.Form.{Padded, parts-padded, contender-form, queue-length, to-form}
-use Rattle.state.proofs.Places.{places-count}
-use Rattle.bus.proofs.QueueLaws.{kept-length, kept-room, packets-of-form, form-padded, form-places, queue-of-with}
+use Rattle.bus.proofs.QueueLaws.{kept-room, packets-of-form, form-padded}
+use Rattle.bus.proofs.ClosingUp.{inRange, range-tells, queueIf, LeftIn, left-in, left-out}
+use Rattle.state.proofs.StandingParts.{held-whole}
 use Rattle.state.proofs.Stands.{Lent, few-packets}
 use Rattle.bus.proofs.Changed.{queue-formed, segmentCounting, recounted}
 
@@ -123,134 +124,47 @@ module _ (f : ℕ → Contender) where
           let same = eqb-true j i e in rw (le-ltb j i (omega arith), lt-ltb j (i + 1) (omega arith)) (sym (ap f same ∙ still))
       place j false e = ap (λ t. cond t (f j) noContender) (before-more j i (eqb-false j i e))
 
--- ---- late packets leave one queue
-
--- the queue of station j, without the packets that leave, if so
-abbrev pub queueIf : Bool → (Packet → Bool) → Queues → ℕ → Queue
-queueIf t f qs j = cond t (queueForm (keep f (queueAt qs j))) (queueOf qs j)
-
--- where as many are kept as there were, all are kept
-all-kept : (f : Packet → Bool) (ps : List Packet) → length (keep f ps) ≡ length ps → keep f ps ≡ ps
-all-kept f [] e = refl
-all-kept f (p ∷ ps) e = go (f p) e (all-kept f ps)
-  where
-    go :
-        (t : Bool) → length (kept t p (keep f ps)) ≡ suc (length ps) → (length (keep f ps) ≡ length ps → keep f ps ≡ ps)
-        → kept t p (keep f ps) ≡ p ∷ ps
-    go true h more = ap (λ qs. p ∷ qs) (more (omega arith))
-    go false h more = absurd (omega (arith, kept-length f ps))
-
--- a queue that is the form of some packets is the form of its own
-formed : (queue : Queue) (ps : List Packet) → queue ≡ queueForm ps → queue ≡ queueForm (packetsOf queue)
-formed queue ps e = e ∙ ap queueForm (sym (ap packetsOf e ∙ packets-of-form ps))
-
--- where no packet of station i leaves, its queue is as it was
-none-leaves :
-    (f : Packet → Bool) (qs : Queues) (i : ℕ) → i < 64 → ((j : ℕ) → j < 64 → queueOf qs j ≡ queueForm (queueAt qs j))
-    → length (keep f (queueAt qs i)) ≡ getD (qs .lengths) i 0
-    → (j : ℕ) → j < 64 → queueOf qs j ≡ queueIf (eqb j i) f qs j
-none-leaves f qs i h all e j l = go (eqb j i) refl
-  where
-    go : (t : Bool) → eqb j i ≡ t → queueOf qs j ≡ queueIf t f qs j
-    go true k =
-        let full = ap (λ (queue : Queue). queue .length) (all i h) in
-        let same = all-kept f (queueAt qs i) (e ∙ full) in
-        all j l ∙ ap queueForm (sym (subst (λ m. keep f (queueAt qs m) ≡ queueAt qs m) (sym (eqb-true j i k)) same))
-    go false k = refl
-
--- some packets of station i leave: the others are put back
-pub some-leave :
-    (f : Packet → Bool) (qs : Queues) (i : ℕ) → i < 64 → length (qs .lengths) ≡ 64 → length (qs .packets) ≡ 1024
-    → getD (qs .lengths) i 0 ≤ 16 → (j : ℕ) → j < 64
-    → queueOf (withQueue qs i (queueForm (keep f (queueAt qs i)))) j ≡ queueIf (eqb j i) f qs j
-some-leave f qs i h ls ps room j l =
-    let stay = keep f (queueAt qs i) in
-    queue-of-with qs i j (queueForm stay) h l ls ps (form-places stay (kept-room f qs i room)) ∙ go (eqb j i) refl
-  where
-    go : (t : Bool) → eqb j i ≡ t → cond t (queueForm (keep f (queueAt qs i))) (queueOf qs j) ≡ queueIf t f qs j
-    go true k = ap (λ m. queueForm (keep f (queueAt qs m))) (sym (eqb-true j i k))
-    go false k = refl
-
 -- ---- late packets leave the queues of the stations before n
 
 -- where no packet is late, the queues are as they were
-pub none-late :
+none-late :
     (f : Packet → Bool) (qs : Queues) (n : ℕ) → ((p : Packet) → f p ≡ true) → ((j : ℕ) → j < 64 → queueOf qs j ≡ queueForm (queueAt qs j))
-    → (j : ℕ) → j < 64 → queueOf qs j ≡ queueIf (ltb j n) f qs j
-none-late f qs n stay all j l = go (ltb j n)
+    → LeftIn f qs 0 n qs
+none-late f qs n stay all j l = go (inRange 0 n j)
   where
     go : (t : Bool) → queueOf qs j ≡ queueIf t f qs j
     go true = all j l ∙ ap queueForm (sym (keep-all f (queueAt qs j) (λ p i. stay p)))
     go false = refl
 
 -- outside RTDG no packet is late
-pub in-time : (d : ℕ) (clock : Slot) → ¬ (d ≡ 1) → (p : Packet) → stays (Late d clock) p ≡ true
+in-time : (d : ℕ) (clock : Slot) → ¬ (d ≡ 1) → (p : Packet) → stays (Late d clock) p ≡ true
 in-time zero clock n p = refl
 in-time (suc zero) clock n p = absurd (n refl)
 in-time (suc (suc d)) clock n p = refl
 
--- `next` has the queues of `qs`, of the stations before i without the packets that leave
-abbrev pub LeftTo : (Packet → Bool) → Queues → ℕ → Queues → Type 0
-LeftTo f qs i next = (j : ℕ) → j < 64 → queueOf next j ≡ queueIf (ltb j i) f qs j
+-- the number of stations whose late packets are dropped
+abbrev pub droppingTo : ℕ → ℕ → ℕ
+droppingTo d n = cond (eqb d 1) n 0
 
-module _ (f : Packet → Bool) (qs : Queues) where
-  -- before the first station
-  pub left-none : LeftTo f qs 0 qs
-  left-none j l = ap (λ t. queueIf t f qs j) (sym (le-ltb j 0 (omega arith)))
+pub dropping-few : (d n : ℕ) → droppingTo d n ≤ n
+dropping-few d n = go (eqb d 1)
+  where
+    go : (t : Bool) → cond t n 0 ≤ n
+    go true = omega arith
+    go false = omega arith
 
-  -- the queues before i, and those from i on
-  left-before : (i : ℕ) (next : Queues) → LeftTo f qs i next → (j : ℕ) → j < 64 → j < i → queueOf next j ≡ queueForm (keep f (queueAt qs j))
-  left-before i next left j l m = left j l ∙ ap (λ t. queueIf t f qs j) (lt-ltb j i m)
-
-  pub left-past : (i : ℕ) (next : Queues) → LeftTo f qs i next → (j : ℕ) → j < 64 → i ≤ j → queueOf next j ≡ queueOf qs j
-  left-past i next left j l m = left j l ∙ ap (λ t. queueIf t f qs j) (le-ltb j i m)
-
-  -- every queue is still the form of its packets
-  pub left-formed :
-      (i : ℕ) (next : Queues) → ((j : ℕ) → j < 64 → queueOf qs j ≡ queueForm (queueAt qs j)) → LeftTo f qs i next
-      → (j : ℕ) → j < 64 → queueOf next j ≡ queueForm (queueAt next j)
-  left-formed i next all left j l = go (ltb j i) (left j l)
-    where
-      go : (t : Bool) → queueOf next j ≡ queueIf t f qs j → queueOf next j ≡ queueForm (queueAt next j)
-      go true e = formed (queueOf next j) (keep f (queueAt qs j)) e
-      go false e = formed (queueOf next j) (queueAt qs j) (e ∙ all j l)
-
-  -- station i's queue still has its places and its room
-  pub left-places :
-      (i : ℕ) (next : Queues) → i < 64 → length (qs .packets) ≡ 1024 → LeftTo f qs i next → length (placesAt next i) ≡ 16
-  left-places i next h row left =
-      ap (λ (queue : Queue). length (queue .packets)) (left-past i next left i h (omega arith)) ∙ places-count qs i h row
-
-  pub left-room :
-      (i : ℕ) (next : Queues) → i < 64 → ((j : ℕ) → j < 64 → getD (qs .lengths) j 0 ≤ 16) → LeftTo f qs i next
-      → getD (next .lengths) i 0 ≤ 16
-  left-room i next h room left =
-      omega (arith, ap (λ (queue : Queue). queue .length) (left-past i next left i h (omega arith)), room i h)
-
-  -- one station more
-  pub left-more :
-      (i : ℕ) (next after : Queues) → i < 64 → LeftTo f qs i next
-      → ((j : ℕ) → j < 64 → queueOf after j ≡ queueIf (eqb j i) f next j)
-      → LeftTo f qs (i + 1) after
-  left-more i next after h left one j l = one j l ∙ go (eqb j i) refl
-    where
-      here : j ≡ i → queueAt next j ≡ queueAt qs j
-      here e = ap packetsOf (subst (λ k. queueOf next k ≡ queueOf qs k) (sym e) (left-past i next left i h (omega arith)))
-
-      go :
-          (t : Bool) → eqb j i ≡ t
-          → queueIf t f next j ≡ queueIf (ltb j (i + 1)) f qs j
-      go true e =
-          let same = eqb-true j i e in
-          ap (λ ps. queueForm (keep f ps)) (here same)
-          ∙ ap (λ t. queueIf t f qs j) (sym (lt-ltb j (i + 1) (omega arith)))
-      go false e = left j l ∙ ap (λ t. queueIf t f qs j) (before-more j i (eqb-false j i e))
-
-  -- one station more, none of whose packets leaves
-  pub left-same :
-      (i : ℕ) (next : Queues) → i < 64 → ((j : ℕ) → j < 64 → queueOf qs j ≡ queueForm (queueAt qs j)) → LeftTo f qs i next
-      → length (keep f (queueAt next i)) ≡ getD (next .lengths) i 0 → LeftTo f qs (i + 1) next
-  left-same i next h all left e = left-more i next next h left (none-leaves f next i h (left-formed i next all left) e)
+-- then late packets have left the queues of all stations before n: outside RTDG there are none
+pub left-late :
+    (d : ℕ) (clock : Slot) (qs : Queues) (n : ℕ) (rest : Queues) → ((j : ℕ) → j < 64 → queueOf qs j ≡ queueForm (queueAt qs j))
+    → LeftIn (stays (Late d clock)) qs 0 (droppingTo d n) rest → LeftIn (stays (Late d clock)) qs 0 n rest
+left-late d clock qs n rest all left = go (eqb d 1) refl left
+  where
+    go :
+        (t : Bool) → eqb d 1 ≡ t → LeftIn (stays (Late d clock)) qs 0 (cond t n 0) rest → LeftIn (stays (Late d clock)) qs 0 n rest
+    go true e now j l = now j l
+    go false e now j l =
+        left-out (stays (Late d clock)) qs 0 0 rest now j l (λ a b. omega arith)
+        ∙ none-late (stays (Late d clock)) qs n (in-time d clock (eqb-false d 1 e)) all j l
 
 -- ---- a place among the contenders is zero or contends, and its offer is the offer of the rules
 
@@ -332,10 +246,10 @@ module _ (s : State) (r : Lent s) where
       let dropped = total-mono (meaning s .stations) (λ x i. count-le (lateAt s) (x .queue)) in
       omega (arith, r .stands .counts, r .stands .admitted-in)
 
-  module _ (rest : Queues) (left : LeftTo (inTimeAt s) (s .queues) (s .segment .settings .n) rest) where
+  module _ (rest : Queues) (left : LeftIn (inTimeAt s) (s .queues) 0 (s .segment .settings .n) rest) where
     -- a station's packets are those in time
     left-at : (j : ℕ) → j < s .segment .settings .n → queueOf rest j ≡ queueForm (keep (inTimeAt s) (queueAt (s .queues) j))
-    left-at j l = left-before (inTimeAt s) (s .queues) (s .segment .settings .n) rest left j (omega arith) l
+    left-at j l = left-in (inTimeAt s) (s .queues) 0 (s .segment .settings .n) rest left j (omega arith) (omega arith) l
 
     packets-at : (j : ℕ) → j < s .segment .settings .n → queueAt rest j ≡ keep (inTimeAt s) (queueAt (s .queues) j)
     packets-at j l = ap packetsOf (left-at j l) ∙ packets-of-form (keep (inTimeAt s) (queueAt (s .queues) j))
@@ -349,7 +263,7 @@ module _ (s : State) (r : Lent s) where
     -- ---- the padding is zero
 
     queue-zeros : (j : ℕ) → j < 64 → queue-padded (getD (rest .lengths) j 0) (placesAt rest j) ≡ true
-    queue-zeros j l = ap zeros (left j l) ∙ go (ltb j (s .segment .settings .n))
+    queue-zeros j l = ap zeros (left j l) ∙ go (inRange 0 (s .segment .settings .n) j)
       where
         zeros : Queue → Bool
         zeros queue = queue-padded (queue .length) (queue .packets)
@@ -386,7 +300,7 @@ module _ (s : State) (r : Lent s) where
           let nobody-there = eqb (who .address .0) 0 && eqb (who .capability .0) 0 in
           let abc = and-true (nobody-there && eqb n 0) (not (c .contends)) (r .zeros .past-N j m l) in
           let ab = and-true nobody-there (eqb n 0) (abc .0) in
-          let same = left-past (inTimeAt s) (s .queues) (s .segment .settings .n) rest left j l m in
+          let same = left-out (inTimeAt s) (s .queues) 0 (s .segment .settings .n) rest left j l (λ a b. omega arith) in
           true-and
           (true-and (ab .0) (ap (λ (queue : Queue). eqb (queue .length) 0) same ∙ ab .1))
           (ap (λ place. not (place .contends)) (place-of j l)
@@ -471,6 +385,19 @@ module _ (s : State) (r : Lent s) where
               kept-failed (lateAt s) (queueAt (s .queues) j),
             )
 
+    -- the same as the code counts them
+    pub late-counted :
+        length (rest .lengths) ≡ 64
+        → waitingIn (s .queues .lengths) (s .segment .settings .n)
+        ≡ waitingIn (rest .lengths) (s .segment .settings .n) + dropsOf (meaning s)
+    late-counted ls =
+        let n = s .segment .settings .n in
+        rw (
+          held-whole (s .queues .lengths) n (λ i l. few-packets s r i (omega (arith, r .few))),
+          held-whole (rest .lengths) n room-left,
+        )
+        (waiting-dropped ls)
+
     -- ---- it is the state of the rules
 
     pub begun-is :
@@ -521,7 +448,7 @@ none-offered b x (some o) h = absurd h
 
 module _ (s : State) (r : Lent s) where
   -- outside RTDG the queues stay as they are
-  pub all-in-time : ¬ (s .segment .settings .discipline ≡ 1) → LeftTo (inTimeAt s) (s .queues) (s .segment .settings .n) (s .queues)
+  pub all-in-time : ¬ (s .segment .settings .discipline ≡ 1) → LeftIn (inTimeAt s) (s .queues) 0 (s .segment .settings .n) (s .queues)
   all-in-time other =
       none-late
       (inTimeAt s)
@@ -540,12 +467,12 @@ module _ (s : State) (r : Lent s) where
         (omega (arith, r .stands .counts, total-among (λ x. length (x .queue)) (meaning s .stations) among))
 
     -- so the queues stay as they are
-    pub left-idle : LeftTo (inTimeAt s) (s .queues) (s .segment .settings .n) (s .queues)
-    left-idle j l = go (ltb j (s .segment .settings .n)) refl
+    pub left-idle : LeftIn (inTimeAt s) (s .queues) 0 (s .segment .settings .n) (s .queues)
+    left-idle j l = go (inRange 0 (s .segment .settings .n) j) refl
       where
-        go : (t : Bool) → ltb j (s .segment .settings .n) ≡ t → queueOf (s .queues) j ≡ queueIf t (inTimeAt s) (s .queues) j
+        go : (t : Bool) → inRange 0 (s .segment .settings .n) j ≡ t → queueOf (s .queues) j ≡ queueIf t (inTimeAt s) (s .queues) j
         go true e =
-            let waits = none-waits j (ltb-true j (s .segment .settings .n) e) in
+            let waits = none-waits j (range-tells 0 (s .segment .settings .n) j e .1) in
             all-formed s r j l ∙ ap queueForm (waits ∙ sym (ap (keep (inTimeAt s)) waits))
         go false e = refl
 

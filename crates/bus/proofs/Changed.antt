@@ -14,13 +14,13 @@ use Rattle.rules.specs.Bus as Machine
 use Rattle.rules.specs.Bus.{Station, Bus, places, most-stations}
 use Rattle.rules.specs.Standing.{Standing}
 use Rattle.rules.proofs.Standing.{set-up-stands}
-use Rattle.bus.specs.Types.{Packet, Contender, Contention, Segment, State, Queue}
+use Rattle.bus.specs.Types.{Packet, Contention, State, Queue, Segment, Contender}
 use Rattle.state.specs.State.{Held, noContender, nobody, placesAt, queueAt, stationWith, stationAt, valuesFrom, stationsOf, meaning, queue-padded, no-station}
 use Rattle.state.specs.Parts.{queueOf, packetsOf}
-use Rattle.bus.specs.Parts.{withQueue, queueForm}
+use Rattle.bus.specs.Parts.{queueForm}
 use Rattle.state.proofs.Rows.{values-map, values-same, among-values}
 use Rattle.state.proofs.Form.{Padded, places-length}
-use Rattle.bus.proofs.QueueLaws.{packets-of-form, form-places, form-padded, with-queue-lengths, queue-of-with, padded-form-of}
+use Rattle.bus.proofs.QueueLaws.{packets-of-form, form-places, form-padded, with-queue-lengths, queue-of-with, padded-form-of, withQueue}
 
 -- ---- queues with zero padding
 

@@ -8,10 +8,10 @@ use lib.Dec.{eqb}
 use borrow.Author.Tests.{eqb-true, eqb-false, eq-eqb}
 use Rattle.rules.specs.Probe.{success}
 use Rattle.bus.specs.Types.{Segment, State}
-use Rattle.bus.specs.Parts.{Moved, contenderAt, transmitsAt, nextTransmitter, probed, heardIn, progressOf, movedBy, withMoved}
+use Rattle.bus.specs.Parts.{Moved, contenderAt, transmitsAt, nextTransmitter, heardIn, movedBy, withMoved}
 use Rattle.bus.proofs.FirstPlace.{first-place-le, first-place-holds}
 use Rattle.state.proofs.Stands.{Lent}
-use Rattle.bus.proofs.ProbedSlot.{heardWhere, sent-short, sent-counted}
+use Rattle.bus.proofs.ProbedSlot.{probed, heardWhere, sent-short, sent-counted, progressOf}
 
 -- ---- the parts of a probe
 

@@ -1,23 +1,22 @@
--- A call made in place, on a segment and queues that are held apart: the laws that `playing::at_once` goes by. Assumes nothing.
-use Prim.Native.Nat.{ℕ, _+_, _-_, _*_, _≤_, _<_}
+-- A call made in place, on a segment and queues that are held apart: the laws that `admit`, `step` and `playing::calls` go by. Assumes nothing.
+use Prim.Native.Nat.{ℕ, _+_, _-_, _≤_, _<_}
 use mathlib.Core.Path.{_≡_, refl, sym, ap, ap₂, _∙_, subst}
 use mathlib.Core.Bool.{Bool, true, false, not, _&&_, cond}
-use mathlib.Core.List.{List, _++_}
-use native.Mathlib.Nat.{add-zero}
+use mathlib.Core.List.{List}
 use native.Mathlib.Omega.{arith}
 use lib.Dec.{eqb, ltb}
-use lib.ListN.{length, getD, take, drop, set, replicate}
+use lib.ListN.{length, getD, set, replicate}
 use borrow.Author.Tests.{ltb-false, eq-eqb, ne-eqb}
 use Rattle.window.specs.declared.Side.{Side}
 use Rattle.window.specs.declared.Side.the-variants.{Left, Right}
 use Rattle.rules.specs.SetUp.{disciplineOf}
-use Rattle.rules.specs.declared.Admitted.{Admitted}
 use Rattle.rules.specs.Lists.{keep}
 use Rattle.rules.specs.Bus.{Bus, last-slot, most-stations}
 use Rattle.rules.specs.Standing.{Standing}
+use Rattle.rules.specs.Admission as Rules
 use Rattle.rules.specs.Admission.{admissionRefusal}
 use Rattle.rules.specs.Begin.{begin, dropsOf}
-use Rattle.rules.specs.Probe.{success}
+use Rattle.rules.specs.Probe.{success, refusedAnswer}
 use Rattle.rules.specs.Step.{opened}
 use Rattle.rules.specs.Engine as Engine
 use Rattle.rules.specs.Engine.{machine, Call, next}
@@ -25,26 +24,29 @@ use Rattle.rules.proofs.Keeps.{begin-stands}
 use Rattle.rules.proofs.Laws.{clash, true-and}
 use Rattle.rules.proofs.Tests as Tests
 use Rattle.rules.proofs.Standing.{stands-exactly}
-use Rattle.bus.specs.Types.{Packet, Settings, Contender, Contention, Segment, Queues, State, Arrival, Queue}
+use Rattle.bus.specs.Types.{Address, Settings, Contender, Contention, Segment, Queues, State, Arrival}
 use Rattle.state.specs.State.{noContender, Held, meaning, form, queueAt, standing}
-use Rattle.bus.specs.Coded.{Answer, Stepped, Admission, codedAdmit, codedStep, coded, admissionResult, stepResult}
+use Rattle.bus.specs.Coded.{Answer, Stepped, Admission, arrivalOf, codedAdmit, codedStep, coded, admissionResult, stepResult}
 use Rattle.bus.specs.Stretch.{Arrivals, Report, noArrival, most-calls, noReport, asks, due, arrivalReport, stepReport, inRow, mayBeMore}
-use Rattle.bus.specs.Parts.{openingOf, addressPlace, refusalAt, Begun, Probed, Heard, Progress, Moved, unheardOn, wonOn, collidedOn, openOf, probed, heardIn, progressOf, movedBy, withMoved, segmentWith, withQueue, queueForm, stays, Sent}
+use Rattle.bus.specs.Parts.{openingOf, refusalAt, answered, Asked, askedIf, begunWith, Begun, Heard, Progress, Moved, unheardOn, wonOn, collidedOn, heardIn, movedBy, withMoved, segmentWith, queueForm, stays, Sent}
 use Rattle.state.specs.Parts.{noContenders}
 use Rattle.state.proofs.Rows.{row-replicate}
 use Rattle.state.proofs.Form.{held-form, parts-padded}
 use Rattle.state.proofs.Stands.{form-stands}
 use Rattle.bus.proofs.Coded.{next-is, next-stands}
 use Rattle.state.proofs.Stands.{Lent, lent-held}
-use Rattle.bus.proofs.Changed.{segmentCounting}
-use Rattle.bus.proofs.Admitting.{refusal-is, gives-refusal, joinedAt, in-row, room-at, joined-in-place}
+use Rattle.bus.proofs.Admitting.{refusal-is, gives-1, gives-refusal, joinedAt, in-row, room-at, joined-in-place, addressPlace}
+use Rattle.bus.proofs.SingleCalls.{next-same}
+use Rattle.bus.proofs.ClosingUp.{LeftIn}
 use Rattle.state.proofs.Tested.{denied}
-use Rattle.bus.proofs.BeginningLaws.{placesTo, placeFor, begunState, begun-is, begun-idle, all-in-time, waiting-dropped}
+use Rattle.bus.proofs.BeginningLaws.{inTimeAt, begunState, begun-is, begun-idle, all-in-time, waiting-dropped}
 use Rattle.bus.proofs.BeginningLaws.{opened as begun-state}
-use Rattle.bus.proofs.Steps.{goes-on, begins, probes}
-use Rattle.bus.proofs.ProbedSlot.{queuesAfter, slotWith, slotOf, winner-there, probed-is}
+use Rattle.bus.proofs.Steps as Steps
+use Rattle.bus.proofs.Steps.{gives-17, goes-on, begins, probes}
+use Rattle.bus.proofs.ProbedSlot.{Probed, probed, queuesAfter, slotWith, winner-there, probed-is, openOf, progressOf}
 use Rattle.bus.proofs.HeardLaws.{answer-moved, segment-moved, winner-moved}
 use Rattle.bus.proofs.Stretched.{So-far, at-first, row-due, took, stepped-on}
+use Rattle.bus.proofs.QueueLaws.{withQueue}
 
 -- the state of these parts
 abbrev pub whole : Segment → Queues → State
@@ -64,44 +66,110 @@ lent-next s r c =
     let held = subst Held (sym (next-is s c (parts-padded s (r .zeros)))) (held-form (next machine (meaning s) c)) in
     lent-held (next coded s c) held (next-stands s c (passed s r))
 
+-- ---- a call on a state that stands, or does not
+
+-- what is known of a state that a call is lent, by whether it stands
+abbrev pub Sound : Bool → State → Type 0
+Sound true s = Lent s
+Sound false s = Held s × (standing s ≡ false)
+
+pub sound-of : (s : State) (t : Bool) → Held s → (standing s ≡ true → Lent s) → t ≡ standing s → Sound t s
+sound-of s true held lent e = lent (sym e)
+sound-of s false held lent e = (held, sym e)
+
+sound-next : (t : Bool) (s : State) → Sound t s → (c : Call) → Sound t (next coded s c)
+sound-next true s r c = lent-next s r c
+sound-next false s r c = subst (Sound false) (sym (next-same s (r .0) (r .1) c)) r
+
 -- ---- an admission in place
 
--- the answer to an admission, by its refusal
-abbrev pub answered : ℕ → ℕ → Admitted
-answered refusal admitted = record { refusal = refusal; number = cond (eqb refusal 0) (admitted + 1) 0 }
+module _ (s : State) (address : Address) (value len : ℕ) where
+  abbrev arrival : Rules.Arrival
+  arrival = arrivalOf address value len
 
-module _ (s : State) (r : Lent s) (a : Arrival) (place : ℕ) (sought : place ≡ addressPlace s (a .address)) (refusal : ℕ)
-    (e : refusal ≡ refusalAt (s .segment .settings) (s .segment .clock) (s .segment .admitted) (s .queues .lengths) place (a .value) (a .length))
-    (answer : Admitted) (f : answer ≡ answered refusal (s .segment .admitted)) where
-  of-rules : refusal ≡ admissionRefusal (meaning s) (asks a)
-  of-rules = e ∙ refusal-is s r place (a .address) sought (a .value) (a .length)
+  -- what is answered, by whether the state stands
+  abbrev pub askedOf : Bool → Asked
+  askedOf t = askedIf t (s .segment .settings) (s .segment .listed) (s .segment .clock) (s .segment .admitted) (s .queues .lengths) address value len
 
-  pub turned-away :
-      ¬ (refusal ≡ 0) → _≡_ {A = Admission} (record { answer = answer; state = s }) (admissionResult (codedAdmit s (asks a)))
-  turned-away n =
-      ap (λ (o : Admitted). record { answer = o; state = s })
-      (f ∙ ap (λ (t : Bool). record { refusal = refusal; number = cond t (s .segment .admitted + 1) 0 }) (ne-eqb refusal 0 n))
-      ∙ gives-refusal s r (asks a) refusal of-rules n
+  module _ (r : Lent s) where
+    abbrev refusal : ℕ
+    refusal =
+        refusalAt (s .segment .settings) (s .segment .clock) (s .segment .admitted) (s .queues .lengths) (addressPlace s address) value len
 
-  module _ (z : refusal ≡ 0) where
-    none! : admissionRefusal (meaning s) (asks a) ≡ 0
-    none! = sym of-rules ∙ z
+    of-rules : refusal ≡ admissionRefusal (meaning s) arrival
+    of-rules = refusal-is s r (addressPlace s address) address refl value len
 
-    pub place-in : place < 64
-    place-in = in-row s r place (a .address) sought (a .value) (a .length) none!
+    turned-away :
+        ¬ (refusal ≡ 0)
+        → _≡_ {A = Admission} (record { answer = answered refusal (s .segment .admitted); state = s }) (admissionResult (codedAdmit s arrival))
+    turned-away n =
+        ap (λ (t : Bool). record { answer = record { refusal = refusal; number = cond t (s .segment .admitted + 1) 0 }; state = s }) (ne-eqb refusal 0 n)
+        ∙ gives-refusal s r arrival refusal of-rules n
 
-    pub place-has-room : getD (s .queues .lengths) place 0 < 16
-    place-has-room = room-at s r place (a .address) sought (a .value) (a .length) none!
+  -- the call is refused
+  pub asked-away :
+      (t : Bool) → Sound t s → (o : Asked) → o ≡ askedOf t → ¬ (o .answer .refusal ≡ 0)
+      → _≡_ {A = Admission} (record { answer = o .answer; state = s }) (admissionResult (codedAdmit s arrival))
+  asked-away true r o e n =
+      ap (λ (x : Asked). record { answer = x .answer; state = s }) e
+      ∙ turned-away r (λ z. n (ap (λ (x : Asked). x .answer .refusal) e ∙ z))
+  asked-away false r o e n = ap (λ (x : Asked). record { answer = x .answer; state = s }) e ∙ gives-1 s (r .0) arrival (r .1)
 
-    pub taken-in :
-        _≡_
-        {A = Admission}
-        (record { answer = answer; state = joinedAt s place (answer .number) (a .value) (a .length) })
-        (admissionResult (codedAdmit s (asks a)))
-    taken-in =
-        let number! : answer ≡ record { refusal = 0; number = s .segment .admitted + 1 } = f ∙ ap (λ (k : ℕ). answered k (s .segment .admitted)) z in
-        ap (λ (o : Admitted). record { answer = o; state = joinedAt s place (o .number) (a .value) (a .length) }) number!
-        ∙ joined-in-place s r place (a .address) sought (a .value) (a .length) none! (s .segment .admitted + 1) refl
+  -- or the packet has its place
+  pub record Taken (o : Asked) : Type 0 where
+    pub in-row : o .place < 64
+    pub room : getD (s .queues .lengths) (o .place) 0 < 16
+    pub is :
+        _≡_ {A = Admission} (record { answer = o .answer; state = joinedAt s (o .place) (o .answer .number) value len })
+        (admissionResult (codedAdmit s arrival))
+
+  taken-at : (r : Lent s) → refusal r ≡ 0 → Taken (askedOf true)
+  taken-at r z =
+      let none! : admissionRefusal (meaning s) arrival ≡ 0 = sym (of-rules r) ∙ z in
+      let place = addressPlace s address in
+      record {
+        in-row = in-row s r place address refl value len none!;
+        room = room-at s r place address refl value len none!;
+        is =
+            ap
+            (λ (k : ℕ).
+            record {
+              answer = answered k (s .segment .admitted);
+              state = joinedAt s place (answered k (s .segment .admitted) .number) value len;
+            })
+            z
+            ∙ joined-in-place s r place address refl value len none! (s .segment .admitted + 1) refl;
+      }
+
+  pub asked-in : (t : Bool) → Sound t s → (o : Asked) → o ≡ askedOf t → o .answer .refusal ≡ 0 → Taken o
+  asked-in true r o e z = subst Taken (sym e) (taken-at r (sym (ap (λ (x : Asked). x .answer .refusal) e) ∙ z))
+  asked-in false r o e z = let one = ap (λ (x : Asked). x .answer .refusal) e in absurd (omega arith)
+
+-- ---- a step is refused, or is not
+
+-- 'a step tries 1, then 17', by whether the state stands
+abbrev pub stepRefused : Bool → State → ℕ
+stepRefused t s = cond t (cond (ltb last-slot (s .segment .clock .0)) 17 0) 1
+
+pub step-away :
+    (t : Bool) (s : State) → Sound t s → (refusal : ℕ) → refusal ≡ stepRefused t s → ¬ (refusal ≡ 0)
+    → stepResult (refusedAnswer refusal, s) ≡ stepResult (codedStep s)
+step-away true s r refusal e n = go (ltb last-slot (s .segment .clock .0)) refl
+  where
+    go : (u : Bool) → ltb last-slot (s .segment .clock .0) ≡ u → stepResult (refusedAnswer refusal, s) ≡ stepResult (codedStep s)
+    go true f = ap (λ (k : ℕ). stepResult (refusedAnswer k, s)) (e ∙ ap (λ (u : Bool). cond u 17 0) f) ∙ gives-17 s r f
+    go false f = absurd (n (e ∙ ap (λ (u : Bool). cond u 17 0) f))
+step-away false s r refusal e n = ap (λ (k : ℕ). stepResult (refusedAnswer k, s)) e ∙ Steps.gives-1 s (r .0) (r .1)
+
+pub step-on :
+    (t : Bool) (s : State) → Sound t s → (refusal : ℕ) → refusal ≡ stepRefused t s → refusal ≡ 0
+    → (Lent s) × (ltb last-slot (s .segment .clock .0) ≡ false)
+step-on true s r refusal e z = (r, go (ltb last-slot (s .segment .clock .0)) refl)
+  where
+    go : (u : Bool) → ltb last-slot (s .segment .clock .0) ≡ u → ltb last-slot (s .segment .clock .0) ≡ false
+    go true f = let given = sym (e ∙ ap (λ (u : Bool). cond u 17 0) f) ∙ z in absurd (omega arith)
+    go false f = f
+step-on false s r refusal e z = absurd (omega arith)
 
 -- ---- the contention is under way, or has just begun
 
@@ -150,23 +218,23 @@ module _ (s : State) (r : Lent s) (between : s .segment .contention .begun ≡ f
       opened-as (ap (λ (c : Contention). contending (s .segment) c (s .segment .contenders)) k!) refl refl
       (now-open s r between (record { state = begun-state s; drops = 0 }) (begun-idle s r between idle))
 
-  -- and where packets wait of which none is late
-  pub offered-open :
-      ¬ (s .segment .settings .discipline ≡ 1) → (contenders : List Contender)
-      → contenders ≡ placesTo (placeFor (s .segment) (s .queues)) (s .segment .settings .n)
-      → Opened s (contending (s .segment) k contenders) (s .queues) 0
-  offered-open n contenders e =
-      let kept = all-in-time s r n in
-      let none : 0 ≡ dropsOf (meaning s) = omega (arith, waiting-dropped s r (s .queues) kept (r .held .lengths)) in
-      opened-as
-      (ap₂ (λ (c : Contention) (os : List Contender). contending (s .segment) c os) k! e
-      ∙ ap
-      (λ (lost : ℕ).
-      segmentCounting (s .segment) (s .segment .admitted) lost (openingOf (s .segment .settings .d)) (placesTo (placeFor (s .segment) (s .queues)) (s .segment .settings .n)))
-      (sym (add-zero (s .segment .lost))))
-      refl
-      refl
-      (now-open s r between (record { state = begunState s (s .queues) 0; drops = 0 }) (begun-is s r (s .queues) kept 0 none (r .held .lengths) (r .held .packets)))
+-- and where packets wait, of which these are left
+module _ (s : State) (r : Lent s) (between : s .segment .contention .begun ≡ false) (rest : Queues)
+    (kept : LeftIn (inTimeAt s) (s .queues) 0 (s .segment .settings .n) rest) (ls : length (rest .lengths) ≡ 64) (ps : length (rest .packets) ≡ 1024) where
+  pub begun-open :
+      (drops : ℕ) → drops ≡ dropsOf (meaning s) → (g : Segment) → g ≡ begunWith (s .segment) rest drops → Opened s g rest drops
+  begun-open drops e g f =
+      opened-as f refl refl
+      (now-open s r between (record { state = begunState s rest drops; drops = drops }) (begun-is s r rest kept drops e ls ps))
+
+-- nothing is late but in RTDG
+pub offered-open :
+    (s : State) (r : Lent s) → s .segment .contention .begun ≡ false → ¬ (s .segment .settings .discipline ≡ 1) → (g : Segment)
+    → g ≡ begunWith (s .segment) (s .queues) 0 → Opened s g (s .queues) 0
+offered-open s r between n g f =
+    let kept = all-in-time s r n in
+    let none : 0 ≡ dropsOf (meaning s) = omega (arith, waiting-dropped s r (s .queues) kept (r .held .lengths)) in
+    begun-open s r between (s .queues) kept (r .held .lengths) (r .held .packets) 0 none g f
 
 -- ---- a probe in place
 
@@ -207,11 +275,6 @@ module _ (s : State) (r : Lent s) (in-time : ltb last-slot (s .segment .clock .0
   segment! : withMoved g m ≡ p .segment
   segment! = ap (withMoved g) whole-moved ∙ sym (segment-moved g drops)
 
-  by-machine : slotOf (whole g queues) p ≡ stepResult (codedStep s)
-  by-machine =
-      probed-is (whole g queues) (o .ready) (o .begun) drops p refl
-      ∙ probes s r in-time (openOf (whole g queues) drops) (o .is)
-
   -- the segment moved, and the queues by whether a packet was sent
   abbrev after : Queues → Stepped
   after rest = record { answer = m .answer; state = whole (withMoved g m) rest }
@@ -223,7 +286,8 @@ module _ (s : State) (r : Lent s) (in-time : ltb last-slot (s .segment .clock .0
       ap₂ (λ (answer : Answer) (q : Queues). record { answer = answer; state = whole (withMoved g m) q }) answer! k
       ∙ ap (λ (x : Segment). record { answer = p .answer; state = whole x (cond sent (queuesAfter (whole g queues) p) queues) }) segment!
       ∙ ap (λ (t : Bool). slotWith p (cond t (queuesAfter (whole g queues) p) queues)) (sym f)
-      ∙ by-machine
+      ∙ probed-is (whole g queues) (o .ready) (o .begun) drops p refl
+      ∙ probes s r in-time (openOf (whole g queues) drops) (o .is)
 
   -- the answer, and the state with these contenders and queues
   abbrev placed : List Contender → Queues → Stepped
@@ -241,7 +305,7 @@ module _ (s : State) (r : Lent s) (in-time : ltb last-slot (s .segment .clock .0
   contenders-of f rest = ap (λ (t : Bool). placed (cond t noContenders (g .contenders)) rest) (sym f)
 
   -- no packet was sent
-  none-sent : ¬ (m .answer .event ≡ success) → after queues ≡ stepResult (codedStep s)
+  pub none-sent : ¬ (m .answer .event ≡ success) → after queues ≡ stepResult (codedStep s)
   none-sent n =
       after-is false (ne-eqb (p .answer .event) success (λ k. n (ap (λ (x : Answer). x .event) answer! ∙ k))) queues refl
 
@@ -253,7 +317,7 @@ module _ (s : State) (r : Lent s) (in-time : ltb last-slot (s .segment .clock .0
   winner-in k = omega (arith, winner! k, winner-there (whole g queues) (o .ready) drops p refl)
 
   -- the winner's packet leaves its queue
-  one-sent :
+  pub one-sent :
       m .answer .event ≡ success → (rest : Queues)
       → rest ≡ withQueue queues (heard .first) (queueForm (keep (stays (Sent (m .answer .number))) (queueAt queues (heard .first))))
       → after rest ≡ stepResult (codedStep s)
@@ -284,28 +348,20 @@ module _ (s : State) (r : Lent s) (in-time : ltb last-slot (s .segment .clock .0
       → placed (replicate 64 noContender) rest ≡ stepResult (codedStep s)
   ends-won f k rest h′ = cleared rest ∙ contenders-of f rest ∙ one-sent k rest h′
 
--- a queue put back in place
-pub put-back :
-    (qs : Queues) (i : ℕ) (rest : Queue) (next : Queues) (packets : List Packet) → next .lengths ≡ set (qs .lengths) i (rest .length)
-    → next .packets ≡ take (16 * i) (qs .packets) ++ rest .packets ++ drop (16 * i + 16) (qs .packets) → rest ≡ queueForm packets
-    → next ≡ withQueue qs i (queueForm packets)
-put-back qs i rest next packets a b e =
-    ap₂ (λ (lengths : List ℕ) (ps : List Packet). record { lengths = lengths; packets = ps }) a b ∙ ap (withQueue qs i) e
-
 -- ---- what a stretch has come to, in place
 
-pub record Going (s : State) (x : Arrivals) (steps : ℕ) (g : Segment) (queues : Queues) (reports : List Report) (made taken left : ℕ) : Type 0 where
+pub record Going (stands : Bool) (s : State) (x : Arrivals) (steps : ℕ) (g : Segment) (queues : Queues) (reports : List Report) (made taken left : ℕ) : Type 0 where
   pub so-far : So-far s (inRow x) (mayBeMore x) steps (whole g queues) reports made taken left
-  pub lent : Lent (whole g queues)
+  pub sound : Sound stands (whole g queues)
   pub few : made ≤ 512
   pub here : taken ≤ length (inRow x)
 
-pub at-outset : (s : State) (x : Arrivals) (steps : ℕ) → Lent s → Going s x steps (s .segment) (s .queues) (replicate most-calls noReport) 0 0 steps
-at-outset s x steps r =
-    record { so-far = at-first s (inRow x) (mayBeMore x) steps; lent = r; few = omega arith; here = omega arith }
+pub at-outset : (stands : Bool) (s : State) (x : Arrivals) (steps : ℕ) → Sound stands s → Going stands s x steps (s .segment) (s .queues) (replicate most-calls noReport) 0 0 steps
+at-outset stands s x steps r =
+    record { so-far = at-first s (inRow x) (mayBeMore x) steps; sound = r; few = omega arith; here = omega arith }
 
-module _ (x : Arrivals) (places : length (x .row) ≡ 64) (s : State) (steps : ℕ) (g : Segment) (queues : Queues) (reports : List Report) (made taken left : ℕ)
-    (y : Going s x steps g queues reports made taken left) (m : made < 512) (t : taken < 64) (l : 0 < left) where
+module _ (stands : Bool) (x : Arrivals) (places : length (x .row) ≡ 64) (s : State) (steps : ℕ) (g : Segment) (queues : Queues) (reports : List Report) (made taken left : ℕ)
+    (y : Going stands s x steps g queues reports made taken left) (m : made < 512) (t : taken < 64) (l : 0 < left) where
   abbrev coming : Arrival
   coming = getD (x .row) taken noArrival
 
@@ -313,11 +369,11 @@ module _ (x : Arrivals) (places : length (x .row) ≡ 64) (s : State) (steps : �
       (ltb taken (x .length) && due (g .clock .0) coming) ≡ true → (admission : Admission)
       → admission ≡ admissionResult (codedAdmit (whole g queues) (asks coming)) → (r : Report)
       → r ≡ arrivalReport (whole g queues) coming (admission .answer)
-      → Going s x steps (admission .state .segment) (admission .state .queues) (set reports made r) (made + 1) (taken + 1) left
+      → Going stands s x steps (admission .state .segment) (admission .state .queues) (set reports made r) (made + 1) (taken + 1) left
   with-arrival e admission f r h =
       record {
         so-far = took x places s steps (whole g queues) reports made taken left (y .so-far) m t l e admission f r h;
-        lent = subst (λ (o : Admission). Lent (o .state)) (sym f) (lent-next (whole g queues) (y .lent) (Engine.admission (asks coming)));
+        sound = subst (λ (o : Admission). Sound stands (o .state)) (sym f) (sound-next stands (whole g queues) (y .sound) (Engine.admission (asks coming)));
         few = omega arith;
         here = omega (arith, row-due x places taken (due (g .clock .0) coming) t e);
       }
@@ -325,11 +381,11 @@ module _ (x : Arrivals) (places : length (x .row) ≡ 64) (s : State) (steps : �
   pub with-step :
       (ltb taken (x .length) && due (g .clock .0) coming) ≡ false → (o : Stepped) → o ≡ stepResult (codedStep (whole g queues)) → (r : Report)
       → r ≡ stepReport (whole g queues) (o .answer)
-      → Going s x steps (o .state .segment) (o .state .queues) (set reports made r) (made + 1) taken (left - 1)
+      → Going stands s x steps (o .state .segment) (o .state .queues) (set reports made r) (made + 1) taken (left - 1)
   with-step e o f r h =
       record {
         so-far = stepped-on x places s steps (whole g queues) reports made taken left (y .so-far) m t l e o f r h;
-        lent = subst (λ (u : Stepped). Lent (u .state)) (sym f) (lent-next (whole g queues) (y .lent) Engine.one-step);
+        sound = subst (λ (u : Stepped). Sound stands (u .state)) (sym f) (sound-next stands (whole g queues) (y .sound) Engine.one-step);
         few = omega arith;
         here = y .here;
       }

@@ -1,4 +1,4 @@
--- One probe of a state: what `probed` (specs/Parts.antt) makes of the segment, with the winner's packet gone from its queue, is the form of
+-- One probe of a state: what `probed` makes of the segment, with the winner's packet gone from its queue, is the form of
 -- what the machine's probe makes of the state's meaning. Assumes nothing.
 use Prim.Native.Nat.{ℕ, zero, suc, _+_, _-_, _≤_, _<_}
 use mathlib.Core.Path.{_≡_, refl, sym, ap, _∙_, subst, subst₂}
@@ -23,15 +23,43 @@ use Rattle.rules.specs.Probe.{contending, contenders, transmits, transmitters, 
 use Rattle.rules.proofs.Laws.{and-true, true-and, count-some, count-le, total-among}
 use Rattle.bus.specs.Types.{Packet, Address, Capability, Listed, Contention, Round, Segment, Queues, State}
 use Rattle.state.specs.State.{Held, noPacket, noContender, noRound, noContention, nobody, queueAt, offerOf, stationWith, stationAt, valuesFrom, stationsOf, lastOf, tieOf, contentionOf, meaning, form, contender-padded, no-station, round-padded, no-window, contention-padded}
-use Rattle.bus.specs.Coded.{Stepped, answerForm, stepResult}
-use Rattle.bus.specs.Parts.{Probed, Heard, Progress, Moved, Sent, stays, queueForm, withQueue, firstPlace, contenderAt, transmitsAt, nextTransmitter, openOf, progressOf, answerAt, splitOf, collidedOn, unheardOn, roundAfter, wonOn, movedBy, segmentWith, probedWith, probed}
+use Rattle.bus.specs.Coded.{Answer, Stepped, answerForm, stepResult}
+use Rattle.bus.specs.Parts.{Heard, Progress, Moved, Sent, stays, queueForm, firstPlace, contenderAt, transmitsAt, nextTransmitter, answerAt, splitOf, collidedOn, unheardOn, roundAfter, wonOn, heardIn, movedBy, segmentWith, withMoved}
 use Rattle.state.specs.Parts.{noContenders}
 use Rattle.state.proofs.Rows.{values-map, values-same, row-length, row-at, among-values}
 use Rattle.bus.proofs.FirstPlace.{first-place-le}
 use Rattle.state.proofs.Form.{Padded, parts-padded, to-form}
-use Rattle.bus.proofs.QueueLaws.{kept-length}
+use Rattle.bus.proofs.QueueLaws.{kept-length, withQueue}
 use Rattle.state.proofs.Stands.{Lent}
 use Rattle.bus.proofs.Changed.{own-address, requeued, requeued-held, requeued-padded, stations-now}
+
+-- the bus as it is probed, with the contention that has begun
+abbrev pub openOf : State → ℕ → Probe.Open
+openOf s drops =
+    record {
+      bus = meaning s;
+      contention = record { window = s .segment .contention .window; tie = tieOf (s .segment .contention) };
+      drops = drops;
+    }
+
+-- ---- one probe of a segment
+
+-- its answer, the segment after it, and the winner's place where one has won
+pub record Probed : Type 0 where
+  pub answer : Answer
+  pub segment : Segment
+  pub winner : ℕ
+
+-- what a probe moves, of a segment
+abbrev pub progressOf : Segment → Progress
+progressOf g = record { clock = g .clock; sent = g .sent; round = g .round; contention = g .contention }
+
+abbrev probedWith : Segment → Moved → ℕ → Probed
+probedWith g m first =
+    record { answer = m .answer; segment = withMoved g m; winner = cond (eqb (m .answer .event) success) first 0 }
+
+abbrev pub probed : Segment → ℕ → Probed
+probed g drops = probedWith g (movedBy (g .settings) (progressOf g) drops (heardIn g)) (heardIn g .first)
 
 -- ---- who transmits
 

@@ -11,14 +11,14 @@ use lib.ListN.{length, getD, take, drop, set, replicate, length-append, length-t
 use lib.ListN.{take-append-drop}
 use lib.Seq.{length-take-le, take-suc, take-at, drop-at, set-at, getD-set-same, getD-set-other, drop-drop}
 use lib.Seq.{take-append-seam, drop-append-seam, take-append-le, drop-append-le, drop-append-add, append-snoc}
+use Rattle.rules.specs.Bus.{places}
 use Rattle.rules.specs.Lists.{kept, keep, each-of}
 use Rattle.rules.proofs.Laws.{and-true, true-and, length-keep, count-le}
 use Rattle.bus.specs.Types.{Queues, Queue, Packet}
 use Rattle.state.specs.State.{noPacket, placesAt, queueAt, no-packet, queue-padded}
 use Rattle.state.specs.Parts.{queueOf, packetsOf}
-use Rattle.state.proofs.Places.{place-at}
 use Rattle.state.proofs.Form.{no-packet-is}
-use Rattle.bus.specs.Parts.{withQueue, queueForm}
+use Rattle.bus.specs.Parts.{queueForm}
 
 -- ---- queues by their packets
 
@@ -52,23 +52,6 @@ pub kept-one :
     → keep f (take (j + 1) ps) ≡ keep f (take j ps) ++ kept (f (getD ps j noPacket)) (getD ps j noPacket) []
 kept-one f ps j h = rw (add-one, take-suc ps j noPacket h) (keep-append f (take j ps) (getD ps j noPacket ∷ []))
 
--- how many are kept of one place more of station i's
-pub kept-count :
-    (f : Packet → Bool) (qs : Queues) (i j : ℕ) → length (placesAt qs i) ≡ 16 → j < 16 → (t : Bool) (n : ℕ)
-    → f (getD (qs .packets) (16 * i + j) noPacket) ≡ t → n ≡ length (keep f (take j (placesAt qs i)))
-    → cond t (n + 1) n ≡ length (keep f (take (j + 1) (placesAt qs i)))
-kept-count f qs i j full h t n e before = go t (ap f (place-at qs i j h) ∙ e)
-  where
-    p : Packet
-    p = getD (placesAt qs i) j noPacket
-
-    one : length (keep f (take (j + 1) (placesAt qs i))) ≡ length (keep f (take j (placesAt qs i))) + length (kept (f p) p [])
-    one = ap length (kept-one f (placesAt qs i) j (omega arith)) ∙ length-append (keep f (take j (placesAt qs i))) (kept (f p) p [])
-
-    go : (u : Bool) → f p ≡ u → cond u (n + 1) n ≡ length (keep f (take (j + 1) (placesAt qs i)))
-    go true k = omega (arith, one, ap (λ u. length (kept u p [])) k)
-    go false k = omega (arith, one, ap (λ u. length (kept u p [])) k)
-
 -- no more are kept than were there
 pub kept-length : (f : Packet → Bool) (ps : List Packet) → length (keep f ps) ≤ length ps
 kept-length f ps = omega (arith, length-keep f ps, count-le f ps)
@@ -84,6 +67,14 @@ pub form-places : (ps : List Packet) → length ps ≤ 16 → length (queueForm 
 form-places ps h = simp (length-append, length-replicate) (omega arith)
 
 -- ---- the row with one queue put back
+
+-- the row with the queue of station i put back
+abbrev pub withQueue : Queues → ℕ → Queue → Queues
+withQueue qs i queue =
+    record {
+      lengths = set (qs .lengths) i (queue .length);
+      packets = take (places * i) (qs .packets) ++ queue .packets ++ drop (places * i + places) (qs .packets);
+    }
 
 -- a part that ends within the first of two lists
 part-front : (xs ys : List Packet) (f m : ℕ) → f + m ≤ length xs → take m (drop f (xs ++ ys)) ≡ take m (drop f xs)

@@ -115,7 +115,7 @@ accepted-stands s c z = go (standing s) refl
     go false e = absurd (not-accepted (reply-refused s e c) z)
 
 module _ (s : State) (held : Held s) (e : standing s ≡ false) where
-  next-same : (c : Call) → Engine.next coded s c ≡ s
+  pub next-same : (c : Call) → Engine.next coded s c ≡ s
   next-same (admission a) =
       ap (λ (o : Admitted × State). o .1) (hands-back-admission s held a (not-accepted (reply-refused s e (admission a))))
   next-same one-step = ap (λ (o : Answer × State). o .1) (hands-back-step s held (not-accepted (reply-refused s e one-step)))

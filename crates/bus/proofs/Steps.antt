@@ -16,11 +16,10 @@ use Rattle.rules.proofs.Keeps.{begin-stands}
 use Rattle.bus.specs.Types.{State}
 use Rattle.state.specs.State.{Held, tieOf, meaning, form, standing}
 use Rattle.bus.specs.Coded.{codedStep, stepResult}
-use Rattle.bus.specs.Parts.{openOf}
 use Rattle.state.proofs.Form.{parts-padded, Fits, standing-fits, meaning-form}
 use Rattle.bus.proofs.Coded.{hands-back-step, step-bears, standing-exactly-step}
-use Rattle.state.proofs.Stands.{form-stands}
 use Rattle.state.proofs.Stands.{Lent}
+use Rattle.bus.proofs.ProbedSlot.{openOf}
 
 -- ---- a refused step gives its number, and the state as lent
 
@@ -78,6 +77,3 @@ module _ (s : State) (r : Lent s) where
   begins e =
       let same = meaning-form (begin (meaning s)) begun-fits in
       ap (opened-by s) e ∙ (λ i. record { bus = sym same i; contention = opening (meaning s); drops = dropsOf (meaning s) })
-
-  pub begun-stands : standing (form (begin (meaning s))) ≡ true
-  begun-stands = form-stands (begin (meaning s)) (begin-stands (meaning s) (r .stands))

@@ -1,10 +1,10 @@
 -- The parts that the calls are made of, as functions: what the contracts of the private functions cite. Assumes nothing.
-use Prim.Native.Nat.{ℕ, zero, suc, _+_, _-_, _*_, _/_, min}
+use Prim.Native.Nat.{ℕ, zero, suc, _+_, _-_, _/_, min}
 use mathlib.Core.Bool.{Bool, true, false, not, _&&_, cond}
 use mathlib.Core.Option.{Option, none, some}
 use mathlib.Core.List.{List, [], _∷_, _++_}
-use lib.Dec.{leb, eqb}
-use lib.ListN.{length, getD, take, drop, set, replicate}
+use lib.Dec.{leb, ltb, eqb}
+use lib.ListN.{length, getD, replicate}
 use Rattle.window.specs.declared.Side.{Side}
 use Rattle.window.specs.declared.Side.the-variants.{Left, Right}
 use Rattle.window.specs.Splitting.{firstWindow, leftHalf, movedRight}
@@ -13,18 +13,18 @@ use Rattle.rules.specs.Bus.{places, most-admitted, Discipline, PRI, RTDG, RTVC,
 use Rattle.rules.specs.SetUp.{disciplineOf}
 use Rattle.rules.specs.Standing.{value-fits, length-fits}
 use Rattle.rules.specs.Begin.{sits-out, choice}
-use Rattle.rules.specs.Admission.{Arrival, withPacket}
+use Rattle.rules.specs.declared.Admitted.{Admitted}
 use Rattle.rules.specs.Probe as Probe
 use Rattle.rules.specs.Probe.{lies-in, able, idle, collision, success, parameter-phase, tie-phase}
-use Rattle.bus.specs.Types.{Slot, Address, Capability, Settings, Listed, Contender, Contention, Round, Segment, Queues, State, Queue, Packet}
+use Rattle.bus.specs.Types.{Slot, Address, Capability, Settings, Listed, Contender, Contention, Round, Segment, Queues, Queue, Packet}
 use Rattle.state.specs.Parts.{noContenders}
-use Rattle.state.specs.State.{noPacket, noContender, noContention, noRound, nobody, lastOf, tieOf, meaning, form}
-use Rattle.bus.specs.Coded.{Admission, Answer}
+use Rattle.state.specs.State.{noPacket, noContender, noContention, noRound, nobody, row, queueAt, lastOf, tieOf}
+use Rattle.bus.specs.Coded.{Answer}
 pub use Rattle.bus.specs.declared.Leaving.{Leaving}
 pub use Rattle.bus.specs.declared.Leaving.the-variants.{Late, Sent}
 pub use Rattle.bus.specs.declared.Chosen.{Chosen}
 pub use Rattle.bus.specs.declared.Begun.{Begun}
-pub use Rattle.bus.specs.declared.Probed.{Probed}
+pub use Rattle.bus.specs.declared.Asked.{Asked}
 pub use Rattle.bus.specs.declared.Heard.{Heard}
 pub use Rattle.bus.specs.declared.Progress.{Progress}
 pub use Rattle.bus.specs.declared.Moved.{Moved}
@@ -42,14 +42,6 @@ parameterFor RTVC g clock capability p = capability .0
 -- the queue that holds these packets
 abbrev pub queueForm : List Packet → Queue
 queueForm packets = record { packets = packets ++ replicate (places - length packets) noPacket; length = length packets }
-
--- the row with the queue of station i put back
-abbrev pub withQueue : Queues → ℕ → Queue → Queues
-withQueue qs i queue =
-    record {
-      lengths = set (qs .lengths) i (queue .length);
-      packets = take (places * i) (qs .packets) ++ queue .packets ++ drop (places * i + places) (qs .packets);
-    }
 
 -- whether a packet stays
 abbrev pub stays : Leaving → Packet → Bool
@@ -69,11 +61,6 @@ firstPlace test i (suc k) = cond (test i) i (firstPlace test (suc i) k)
 
 -- ---- an admission
 
--- the place of the station with an address; N where there is none
-abbrev pub addressPlace : State → Address → ℕ
-addressPlace s address =
-    firstPlace (λ i. eqb (address .0) (getD (s .segment .listed) i nobody .address .0)) 0 (s .segment .settings .n)
-
 -- 11 to 16 of the table for a packet at a station's place, or N where no station has the address, of the numbers that they read
 abbrev pub refusalTests : Settings → Slot → ℕ → List ℕ → ℕ → ℕ → ℕ → List (ℕ × Bool)
 refusalTests g clock admitted lengths place value len =
@@ -89,10 +76,23 @@ refusalTests g clock admitted lengths place value len =
 abbrev pub refusalAt : Settings → Slot → ℕ → List ℕ → ℕ → ℕ → ℕ → ℕ
 refusalAt g clock admitted lengths place value len = firstOf 0 (refusalTests g clock admitted lengths place value len)
 
--- an accepted admission
-abbrev pub accepted : State → Arrival → Admission
-accepted s a =
-    record { answer = record { refusal = 0; number = suc (s .segment .admitted) }; state = form (withPacket (meaning s) a) }
+-- the answer to an admission that is refused with this number, or accepted where that is 0
+abbrev pub answered : ℕ → ℕ → Admitted
+answered refusal admitted = record { refusal = refusal; number = cond (eqb refusal 0) (admitted + 1) 0 }
+
+-- the same and its station's place, of a state that stands
+abbrev pub askedAt : Settings → List Listed → Slot → ℕ → List ℕ → Address → ℕ → ℕ → Asked
+askedAt g listed clock admitted lengths address value len =
+    let place = firstPlace (λ i. eqb (address .0) (getD listed i nobody .address .0)) 0 (g .n) in
+    record { place = place; answer = answered (refusalAt g clock admitted lengths place value len) admitted }
+
+-- and of any other, which is refused with 1
+abbrev pub askedIf : Bool → Settings → List Listed → Slot → ℕ → List ℕ → Address → ℕ → ℕ → Asked
+askedIf stands g listed clock admitted lengths address value len =
+    cond
+    stands
+    (askedAt g listed clock admitted lengths address value len)
+    (record { place = 0; answer = record { refusal = 1; number = 0 } })
 
 -- ---- a contention begins
 
@@ -116,6 +116,32 @@ contenderFor g clock round l queue = contenderOn g clock round l (choice (discip
 -- the contention as it begins: 'the first window of D, start 0, side right'
 abbrev pub openingOf : ℕ → Contention
 openingOf d = record { begun = true; window = firstWindow d; tied = false; tie = 0 }
+
+-- each station's place among the contenders
+abbrev pub offersOf : Segment → Queues → List Contender
+offersOf g queues =
+    row
+    64
+    (λ i.
+    cond
+    (ltb i (g .settings .n))
+    (contenderFor (g .settings) (g .clock) (g .round) (getD (g .listed) i nobody) (queueAt queues i))
+    noContender)
+
+-- the segment as a contention begins, where so many late packets have left the queues
+abbrev pub begunWith : Segment → Queues → ℕ → Segment
+begunWith g queues drops =
+    record {
+      settings = g .settings;
+      listed = g .listed;
+      clock = g .clock;
+      admitted = g .admitted;
+      sent = g .sent;
+      lost = g .lost + drops;
+      round = g .round;
+      contention = openingOf (g .settings .d);
+      contenders = offersOf g queues;
+    }
 
 -- ---- a slot is probed
 
@@ -142,15 +168,6 @@ transmitsAt g i =
 abbrev pub nextTransmitter : Segment → ℕ → ℕ
 nextTransmitter g i = firstPlace (transmitsAt g) i (g .settings .n - i)
 
--- the bus as it is probed, with the contention that has begun
-abbrev pub openOf : State → ℕ → Probe.Open
-openOf s drops =
-    record {
-      bus = meaning s;
-      contention = record { window = s .segment .contention .window; tie = tieOf (s .segment .contention) };
-      drops = drops;
-    }
-
 -- who transmits, by the first that does
 abbrev pub heardBy : Segment → ℕ → Heard
 heardBy g first =
@@ -166,10 +183,6 @@ heardBy g first =
 
 abbrev pub heardIn : Segment → Heard
 heardIn g = heardBy g (nextTransmitter g 0)
-
--- what a probe moves, of a segment
-abbrev pub progressOf : Segment → Progress
-progressOf g = record { clock = g .clock; sent = g .sent; round = g .round; contention = g .contention }
 
 -- an answer to a probe, by the progress so far
 abbrev pub answerAt : Progress → ℕ → ℕ → Address → ℕ → ℕ → Bool → Answer
@@ -284,12 +297,3 @@ withMoved g m =
     (m .progress .round)
     (m .progress .contention)
     (cond (m .answer .ended) noContenders (g .contenders))
-
--- the same with the answer, and the winner's place where one has won
-abbrev pub probedWith : Segment → Moved → ℕ → Probed
-probedWith g m first =
-    record { answer = m .answer; segment = withMoved g m; winner = cond (eqb (m .answer .event) success) first 0 }
-
--- one probe of a segment
-abbrev pub probed : Segment → ℕ → Probed
-probed g drops = probedWith g (movedBy (g .settings) (progressOf g) drops (heardIn g)) (heardIn g .first)

@@ -17,17 +17,16 @@ use state::Settings;
 use state::State;
 use state::standing;
 use state::zeros;
-ghost use Prim.Native.Nat.{ℕ, _<_, _≤_};
+ghost use Prim.Native.Nat.{ℕ, _+_, _-_, _<_, _≤_};
 ghost use mathlib.Core.Path.{_≡_};
 ghost use mathlib.Core.Bool.{true, false, _||_, cond};
-ghost use lib.Dec.{ltb, eqb};
+ghost use lib.Dec.{eqb};
 ghost use lib.ListN.{getD};
-ghost use Rattle.rules.specs.Lists.{keep};
 ghost use Rattle.rules.specs.SetUp.{disciplineOf};
 ghost use Rattle.rules.specs.Begin.{sits-out, begin, dropsOf};
-ghost use Rattle.state.specs.State.{meaning, form, row, nobody, noContender, queueAt, lastOf, standing};
-ghost use Rattle.bus.specs.Parts.{Late, queueForm, stays, contenderFor, openingOf};
-ghost use Rattle.state.specs.Parts.{queueOf, packetsOf};
+ghost use Rattle.state.specs.State.{meaning, form, lastOf, standing, waitingIn};
+ghost use Rattle.bus.specs.Parts.{contenderFor, openingOf, offersOf, begunWith};
+ghost use Rattle.state.specs.Parts.{packetsOf};
 
 // Whether a station has no packet, or sits out.
 fn offers_nothing(discipline: u32, round: Round, capability: Capability, length: usize) -> bool
@@ -66,14 +65,14 @@ fn contender_for(
     }
 }
 
-// Each station's place among the contenders. Only the queues to choose from are taken out, and in the loop itself: a call of `queue_at`
-// copies the whole row.
+// Each station's place among the contenders. Only the queues to choose from are taken out, and in the loop itself: a call that takes one
+// out copies the whole row.
 pub fn offers_of(g: Segment, queues: Queues) -> [Contender; 64]
     requires { ⌜ g .settings .n ≤ 64 ⌝ }
     requires { ⌜ ((i : ℕ) → i < g .settings .n → getD (queues .lengths) i 0 ≤ 16) ⌝ }
     requires { ⌜ 1 ≤ g .settings .q ⌝ }
     requires { ⌜ 1 ≤ g .settings .d ⌝ }
-    ensures { λ r. ⌜ r ≡ row 64 (λ i. cond (ltb i (g .settings .n)) (contenderFor (g .settings) (g .clock) (g .round) (getD (g .listed) i nobody) (queueAt queues i)) noContender) ⌝ }
+    ensures { λ r. ⌜ r ≡ offersOf g queues ⌝ }
 {
     let settings = g.settings;
     let round = g.round;
@@ -100,45 +99,14 @@ pub fn offers_of(g: Segment, queues: Queues) -> [Contender; 64]
     contenders
 }
 
-// The queues without the late packets of station i.
-fn without_late(queues: Queues, i: usize, discipline: u32, clock: Slot) -> Queues
-    requires { ⌜ i < 64 ⌝ }
-    requires { ⌜ ((j : ℕ) → j < 64 → queueOf queues j ≡ queueForm (queueAt queues j)) ⌝ }
-    requires { ⌜ getD (queues .lengths) i 0 ≤ 16 ⌝ }
-    ensures { λ r. ⌜ ((j : ℕ) → j < 64 → queueOf r j ≡ cond (eqb j i) (queueForm (keep (stays (Late discipline clock)) (queueAt queues j))) (queueOf queues j)) ⌝ }
+// 'In RTDG every queued packet with latest start below T is dropped': the number of stations whose late packets are.
+pub fn dropping(discipline: u32, n: usize) -> usize
+    ensures { λ r. ⌜ r ≡ cond (eqb discipline 1) n 0 ⌝ }
 {
-    let leaving = Leaving::Late(discipline, clock);
-    waiting::without(queues, i, leaving)
-}
-
-// 'In RTDG every queued packet with latest start below T is dropped'. The queue of a station all of whose packets are in time is only
-// read.
-fn drop_late(queues: Queues, n: usize, discipline: u32, clock: Slot) -> Queues
-    requires { ⌜ n ≤ 64 ⌝ }
-    requires { ⌜ ((j : ℕ) → j < 64 → queueOf queues j ≡ queueForm (queueAt queues j)) ⌝ }
-    requires { ⌜ ((j : ℕ) → j < 64 → getD (queues .lengths) j 0 ≤ 16) ⌝ }
-    ensures { λ r. ⌜ ((j : ℕ) → j < 64 → queueOf r j ≡ cond (ltb j n) (queueForm (keep (stays (Late discipline clock)) (queueAt queues j))) (queueOf queues j)) ⌝ }
-{
-    if discipline != disciplines::RTDG {
-        return queues;
+    if discipline == disciplines::RTDG {
+        return n;
     }
-    let mut next = queues;
-    for i in 0..n {
-        let length = next.lengths[i];
-        let first = 16 * i;
-        let mut in_time = 0;
-        for j in 0..length {
-            let at = first + j;
-            let p = next.packets[at];
-            if !disciplines::late(discipline, clock, p.value) {
-                in_time += 1;
-            }
-        }
-        if in_time < length {
-            next = without_late(next, i, discipline, clock);
-        }
-    }
-    next
+    0
 }
 
 // A contention's beginning: 'The window is the first window of D, start 0, side right.'
@@ -154,7 +122,35 @@ pub fn opening(d: u32) -> Contention
     }
 }
 
-// 'If no contention is under way, a step first begins one at the present slot T.'
+// How many packets have left the queues of the first n stations, by how many each had and has.
+pub fn dropped(before: [usize; 64], after: [usize; 64], n: usize) -> u64
+    requires { ⌜ waitingIn after n ≤ waitingIn before n ⌝ }
+    ensures { λ r. ⌜ r ≡ waitingIn before n - waitingIn after n ⌝ }
+{
+    (standing::waiting_in(before, n) - standing::waiting_in(after, n)) as u64
+}
+
+// The segment as a contention begins, where so many late packets have left the queues: each station offers one packet.
+pub fn begun(g: Segment, queues: Queues, drops: u64) -> Segment
+    requires { ⌜ g .settings .n ≤ 64 ⌝ }
+    requires { ⌜ ((i : ℕ) → i < g .settings .n → getD (queues .lengths) i 0 ≤ 16) ⌝ }
+    requires { ⌜ 1 ≤ g .settings .q ⌝ }
+    requires { ⌜ 1 ≤ g .settings .d ⌝ }
+    requires { ⌜ g .lost + drops ≤ 18446744073709551615 ⌝ }
+    ensures { λ r. ⌜ r ≡ begunWith g queues drops ⌝ }
+{
+    let settings = g.settings;
+    let contenders = offers_of(g, queues);
+    let contention = opening(settings.d);
+    let mut next = g;
+    next.lost = g.lost + drops;
+    next.contention = contention;
+    next.contenders = contenders;
+    next
+}
+
+// 'If no contention is under way, a step first begins one at the present slot T', of a whole state: so a stretch begins one in RTDG, where the
+// row may change.
 pub fn begin(s: State) -> Begun
     requires { ⌜ standing s ≡ true ⌝ }
     requires { ⌜ s .segment .contention .begun ≡ false ⌝ }
@@ -164,20 +160,16 @@ pub fn begin(s: State) -> Begun
     let queues = s.queues;
     let settings = g.settings;
     let n = settings.n;
-    let rest = drop_late(queues, n, settings.discipline, g.clock);
-    let lengths_before = queues.lengths;
-    let lengths_after = rest.lengths;
-    let before = standing::waiting_in(lengths_before, n);
-    let after = standing::waiting_in(lengths_after, n);
-    let drops = (before - after) as u64;
-    let contenders = offers_of(g, rest);
-    let contention = opening(settings.d);
-    let mut next = g;
-    next.lost = g.lost + drops;
-    next.contention = contention;
-    next.contenders = contenders;
+    let to = dropping(settings.discipline, n);
+    let clock = g.clock;
+    let leaving = Leaving::Late(settings.discipline, clock);
+    let rest = waiting::without(queues, 0, to, leaving);
+    let lengths = queues.lengths;
+    let kept = rest.lengths;
+    let drops = dropped(lengths, kept, n);
+    let segment = begun(g, rest, drops);
     let state = State {
-        segment: next,
+        segment,
         queues: rest,
     };
     Begun { state, drops }

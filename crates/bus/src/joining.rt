@@ -1,24 +1,19 @@
-// Admission: the station with an address, refusals 11 to 16, and a packet that joins its station's queue.
-use crate::Admission;
-use crate::waiting;
+// Admission: the station with an address, refusals 11 to 16, and the answer.
+use crate::Asked;
 use rules::Admitted;
-use rules::Packet;
 use sorts::Address;
 use sorts::Slot;
 use sorts::disciplines;
 use state::Listed;
 use state::Settings;
-use state::State;
 use state::standing;
-ghost use Prim.Native.Nat.{_+_, _<_, _≤_};
+ghost use Prim.Native.Nat.{_<_, _≤_};
 ghost use mathlib.Core.Path.{_≡_};
-ghost use mathlib.Core.Bool.{true, cond};
+ghost use mathlib.Core.Bool.{true};
 ghost use lib.Dec.{eqb};
 ghost use lib.ListN.{getD};
-ghost use Rattle.bus.specs.Types.{Address};
-ghost use Rattle.state.specs.State.{nobody, standing};
-ghost use Rattle.bus.specs.Coded.{arrivalOf};
-ghost use Rattle.bus.specs.Parts.{firstPlace, addressPlace, refusalAt, accepted};
+ghost use Rattle.state.specs.State.{nobody};
+ghost use Rattle.bus.specs.Parts.{firstPlace, refusalAt, askedIf};
 
 // The place of the station with an address; n where there is none.
 pub fn station_of(listed: [Listed; 64], n: usize, address: Address) -> usize
@@ -68,45 +63,39 @@ pub fn refusal(
     0
 }
 
-// The packet joins the queue of the station at a place. 'An accepted packet is numbered 1, 2, 3 and so on; the number is the answer.'
-pub fn join(s: State, place: usize, value: u32, length: u32) -> Admission
-    requires { ⌜ standing s ≡ true ⌝ }
-    requires { ⌜ place < s .segment .settings .n ⌝ }
-    requires { ⌜ getD (s .queues .lengths) place 0 < 16 ⌝ }
-    requires { ⌜ s .segment .admitted < 4294967295 ⌝ }
-    ensures { λ r. ⌜ ((address : Address) → place ≡ addressPlace s address → r ≡ accepted s (arrivalOf address value length)) ⌝ }
+// The answer to an admission: 'Admission tries 1, then 11 to 16'; 'An accepted packet is numbered 1, 2, 3 and so on; the number is the
+// answer.'
+pub fn asked(
+    stands: bool,
+    settings: Settings,
+    listed: [Listed; 64],
+    clock: Slot,
+    admitted: u64,
+    lengths: [usize; 64],
+    address: Address,
+    value: u32,
+    length: u32,
+) -> Asked
+    requires { ⌜ (stands ≡ true → settings .n ≤ 64) ⌝ }
+    requires { ⌜ (stands ≡ true → admitted < 18446744073709551615) ⌝ }
+    ensures { λ r. ⌜ r ≡ askedIf stands settings listed clock admitted lengths address value length ⌝ }
 {
-    let g = s.segment;
-    let queues = s.queues;
-    let number = g.admitted + 1;
-    let packet = Packet {
-        number,
-        value,
-        length,
-    };
-    let queue = waiting::queue_at(queues, place);
-    let longer = waiting::joined(queue, packet);
-    let filled = waiting::with_queue(queues, place, longer);
-    let mut next = g;
-    next.admitted = number;
-    let answer = Admitted { refusal: 0, number };
-    let state = State {
-        segment: next,
-        queues: filled,
-    };
-    Admission { answer, state }
-}
-
-// The answer to an admission: the refusal, or the packet's number.
-pub fn answer(refusal: u32, admitted: u64) -> Admitted
-    requires { ⌜ admitted < 18446744073709551615 ⌝ }
-    ensures { λ r. ⌜ r ≡ record { refusal = refusal; number = cond (eqb refusal 0) (admitted + 1) 0 } ⌝ }
-{
-    if refusal == 0 {
-        return Admitted {
-            refusal: 0,
-            number: admitted + 1,
+    if !stands {
+        let answer = Admitted {
+            refusal: 1,
+            number: 0,
         };
+        return Asked { place: 0, answer };
     }
-    Admitted { refusal, number: 0 }
+    let place = station_of(listed, settings.n, address);
+    let refusal = refusal(settings, clock, admitted, lengths, place, value, length);
+    if refusal != 0 {
+        let answer = Admitted { refusal, number: 0 };
+        return Asked { place, answer };
+    }
+    let answer = Admitted {
+        refusal: 0,
+        number: admitted + 1,
+    };
+    Asked { place, answer }
 }

@@ -1,6 +1,9 @@
 // The engine: the calls on the state of a bus segment. Every call takes any input; bad input gets its number from the table of paper 01,
 // and the state comes back as lent.
 ghost use mathlib.Core.Path.{_≡_};
+ghost use mathlib.Core.Bool.{cond};
+ghost use lib.Dec.{ltb};
+ghost use Rattle.rules.specs.Bus.{last-slot};
 ghost use Rattle.rules.specs.Probe.{refusedAnswer};
 ghost use Rattle.bus.specs.Stretch.{stretchOf, stretchForm};
 ghost use Rattle.bus.specs.Coded.{codedAdmit, codedStep, admissionResult, stepResult, arrivalOf, answerForm, totalsOf};
@@ -12,7 +15,6 @@ use state::Arrival;
 use state::Contention;
 use state::Listed;
 use state::Round;
-use state::Segment;
 use state::State;
 use state::standing;
 
@@ -26,17 +28,20 @@ mod waiting;
 // 'step with the clock above 1,073,737,728'
 const LAST_SLOT: u32 = 1_073_737_728;
 
-// Which packets leave a queue: in a discipline, those whose latest start is below a slot; or the one with a number.
-enum Leaving {
-    Late(u32, Slot),
-    Sent(u64),
-}
-
-// The packet that a station offers, if it has one.
-struct Chosen {
-    pub found: bool,
-    pub packet: Packet,
-}
+// The answer to no step.
+const NO_ANSWER: Answer = Answer {
+    refusal: 0,
+    drops: 0,
+    slot: Slot(0),
+    phase: 0,
+    start: 0,
+    size: 0,
+    event: 0,
+    address: Address(0),
+    number: 0,
+    length: 0,
+    ended: false,
+};
 
 // An admission's answer, and the state.
 pub struct Admission {
@@ -93,6 +98,36 @@ pub struct Stretch {
     pub state: State,
 }
 
+// What a listing closes with; the refusal number, or 0, and zeros where refused.
+pub struct Totals {
+    pub refusal: u32,
+    pub clock: Slot,
+    pub admitted: u64,
+    pub sent: u64,
+    pub lost: u64,
+    pub waiting: u64,
+}
+
+// The types of the private functions stand here, because a type and a function whose names differ in case alone cannot stand in one module.
+
+// Which packets leave a queue: in a discipline, those whose latest start is below a slot; or the one with a number.
+enum Leaving {
+    Late(u32, Slot),
+    Sent(u64),
+}
+
+// The packet that a station offers, if it has one.
+struct Chosen {
+    pub found: bool,
+    pub packet: Packet,
+}
+
+// The answer to an admission, and its station's place where it is accepted.
+struct Asked {
+    pub place: usize,
+    pub answer: Admitted,
+}
+
 // A contention that has begun, and how many packets were dropped.
 struct Begun {
     pub state: State,
@@ -122,87 +157,117 @@ struct Moved {
     pub progress: Progress,
 }
 
-// A probe's answer, the segment after it, and on success the winner's place.
-struct Probed {
-    pub answer: Answer,
-    pub segment: Segment,
-    pub winner: usize,
-}
-
-// What a listing closes with; the refusal number, or 0, and zeros where refused.
-pub struct Totals {
-    pub refusal: u32,
-    pub clock: Slot,
-    pub admitted: u64,
-    pub sent: u64,
-    pub lost: u64,
-    pub waiting: u64,
-}
-
-// 'Admission tries 1, then 11 to 16.'
+// 'Admission tries 1, then 11 to 16'; an accepted packet takes the first free place of its station's queue.
 pub fn admit(s: State, address: Address, value: u32, length: u32) -> Admission
     ensures { λ r. ⌜ r ≡ admissionResult (codedAdmit s (arrivalOf address value length)) ⌝ }
 {
-    if !standing::stands(s) {
-        let answer = Admitted {
-            refusal: 1,
-            number: 0,
-        };
-        return Admission { answer, state: s };
-    }
-    let g = s.segment;
+    let stands = standing::stands(s);
+    let mut g = s.segment;
+    let mut queues = s.queues;
     let settings = g.settings;
     let listed = g.listed;
-    let place = joining::station_of(listed, settings.n, address);
-    let queues = s.queues;
     let lengths = queues.lengths;
-    let refusal = joining::refusal(settings, g.clock, g.admitted, lengths, place, value, length);
-    if refusal != 0 {
-        let answer = Admitted { refusal, number: 0 };
-        return Admission { answer, state: s };
+    let asked = joining::asked(
+        stands,
+        settings,
+        listed,
+        g.clock,
+        g.admitted,
+        lengths,
+        address,
+        value,
+        length,
+    );
+    let answer = asked.answer;
+    if answer.refusal == 0 {
+        let place = asked.place;
+        let waiting = lengths[place];
+        let at = 16 * place + waiting;
+        let packet = Packet {
+            number: answer.number,
+            value,
+            length,
+        };
+        queues.packets[at] = packet;
+        queues.lengths[place] = waiting + 1;
+        g.admitted = answer.number;
     }
-    joining::join(s, place, value, length)
+    let state = State { segment: g, queues };
+    Admission { answer, state }
+}
+
+// 'a step tries 1, then 17': the refusal, or 0.
+fn step_refusal(stands: bool, clock: Slot) -> u32
+    ensures { λ r. ⌜ r ≡ cond stands (cond (ltb last-slot (clock .0)) 17 0) 1 ⌝ }
+{
+    if !stands {
+        return 1;
+    }
+    if sorts::before(Slot(LAST_SLOT), clock) {
+        return 17;
+    }
+    0
 }
 
 // The answer to a refused step: 'zero in the answer's other fields'.
 fn refused(refusal: u32) -> Answer
     ensures { λ r. ⌜ r ≡ answerForm (refusedAnswer refusal) ⌝ }
 {
-    Answer {
-        refusal,
-        drops: 0,
-        slot: Slot(0),
-        phase: 0,
-        start: 0,
-        size: 0,
-        event: 0,
-        address: Address(0),
-        number: 0,
-        length: 0,
-        ended: false,
-    }
+    let mut answer = NO_ANSWER;
+    answer.refusal = refusal;
+    answer
 }
 
-// 'a step tries 1, then 17'; it begins a contention if none is under way, and probes one slot.
-pub fn step(s: State) -> Stepped
+// A step begins a contention if none is under way, and probes one slot.
+pub fn step(mut s: State) -> Stepped
     ensures { λ r. ⌜ r ≡ stepResult (codedStep s) ⌝ }
 {
-    if !standing::stands(s) {
-        let answer = refused(1);
-        return Stepped { answer, state: s };
+    let stands = standing::stands(s);
+    let mut g = s.segment;
+    let refusal = step_refusal(stands, g.clock);
+    let mut answer = refused(refusal);
+    if refusal == 0 {
+        let settings = g.settings;
+        let under_way = g.contention;
+        let mut drops = 0;
+        // 'If no contention is under way, a step first begins one': late packets leave, and each station offers one.
+        if !under_way.begun {
+            let n = settings.n;
+            let to = beginning::dropping(settings.discipline, n);
+            let clock = g.clock;
+            let leaving = Leaving::Late(settings.discipline, clock);
+            let lengths = s.queues.lengths;
+            let rest = waiting::without(s.queues, 0, to, leaving);
+            let kept = rest.lengths;
+            drops = beginning::dropped(lengths, kept, n);
+            g = beginning::begun(g, rest, drops);
+            s.queues = rest;
+        }
+        // 'Every step then probes one slot.'
+        let heard = probing::heard(g);
+        let settings = g.settings;
+        let clock = g.clock;
+        let round = g.round;
+        let contention = g.contention;
+        let progress = Progress {
+            clock,
+            sent: g.sent,
+            round,
+            contention,
+        };
+        let moved = probing::moved(settings, progress, drops, heard);
+        answer = moved.answer;
+        let segment = probing::with_moved(g, moved);
+        s.segment = segment;
+        // 'That packet leaves its queue.'
+        if answer.event == probing::SUCCESS {
+            let place = heard.first;
+            let leaving = Leaving::Sent(answer.number);
+            let rest = waiting::without(s.queues, place, place + 1, leaving);
+            s.queues = rest;
+        }
     }
-    let g = s.segment;
-    if sorts::before(Slot(LAST_SLOT), g.clock) {
-        let answer = refused(17);
-        return Stepped { answer, state: s };
-    }
-    let contention = g.contention;
-    if contention.begun {
-        return probing::probe_slot(s, 0);
-    }
-    let begun = beginning::begin(s);
-    let state = begun.state;
-    probing::probe_slot(state, begun.drops)
+    Stepped { answer, state: s }
 }
 
 // Up to 512 calls, one after the other: 'Before each step it admits, in file order, the arrivals whose time is not above the clock.' It
@@ -211,10 +276,7 @@ pub fn step(s: State) -> Stepped
 pub fn play(s: State, arrivals: Arrivals, steps: u32) -> Stretch
     ensures { λ r. ⌜ r ≡ stretchForm (stretchOf s arrivals steps) ⌝ }
 {
-    if standing::stands(s) {
-        return playing::at_once(s, arrivals, steps);
-    }
-    playing::one_by_one(s, arrivals, steps)
+    playing::calls(s, standing::stands(s), arrivals, steps)
 }
 
 // 'END clock admitted sent lost waiting', of a state that stands; 1 of any other.

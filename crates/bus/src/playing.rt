@@ -1,14 +1,12 @@
 // A stretch of a run: arrivals and steps, one call after the other.
 use crate::Answer;
 use crate::Arrivals;
-use crate::Leaving;
 use crate::Progress;
 use crate::Report;
 use crate::Stretch;
 use crate::beginning;
 use crate::joining;
 use crate::probing;
-use crate::waiting;
 use rules::Admitted;
 use rules::Packet;
 use sorts::Address;
@@ -28,24 +26,10 @@ const MOST_CALLS: usize = 512;
 
 const ROW: usize = 64;
 
-// The answer to no admission, to no step, and no report.
+// The answer to no admission, and no report.
 const NO_ADMITTED: Admitted = Admitted {
     refusal: 0,
     number: 0,
-};
-
-const NO_ANSWER: Answer = Answer {
-    refusal: 0,
-    drops: 0,
-    slot: Slot(0),
-    phase: 0,
-    start: 0,
-    size: 0,
-    event: 0,
-    address: Address(0),
-    number: 0,
-    length: 0,
-    ended: false,
 };
 
 const NO_REPORT: Report = Report {
@@ -53,7 +37,7 @@ const NO_REPORT: Report = Report {
     clock: Slot(0),
     address: Address(0),
     admitted: NO_ADMITTED,
-    answer: NO_ANSWER,
+    answer: crate::NO_ANSWER,
 };
 
 // Whether a stretch goes on: there is room for a report, a place of the row that has not been passed, and a step left.
@@ -88,7 +72,7 @@ fn of_arrival(clock: Slot, address: Address, admitted: Admitted) -> Report
         clock,
         address,
         admitted,
-        answer: NO_ANSWER,
+        answer: crate::NO_ANSWER,
     }
 }
 
@@ -105,41 +89,6 @@ fn of_step(clock: Slot, answer: Answer) -> Report
     }
 }
 
-// A stretch by the single calls, of any state.
-pub fn one_by_one(s: State, arrivals: Arrivals, steps: u32) -> Stretch
-    ensures { λ r. ⌜ r ≡ stretchForm (stretchOf s arrivals steps) ⌝ }
-{
-    let mut state = s;
-    let mut reports = [NO_REPORT; 512];
-    let mut made = 0;
-    let mut taken = 0;
-    let mut left = steps;
-    while goes_on(made, taken, left) {
-        let a = arrivals.row[taken];
-        let g = state.segment;
-        let clock = g.clock;
-        if is_due(taken, arrivals.length, a.time, clock) {
-            let admission = crate::admit(state, a.address, a.value, a.length);
-            reports[made] = of_arrival(clock, a.address, admission.answer);
-            state = admission.state;
-            taken += 1;
-        } else {
-            let stepped = crate::step(state);
-            reports[made] = of_step(clock, stepped.answer);
-            state = stepped.state;
-            left -= 1;
-        }
-        made += 1;
-    }
-    Stretch {
-        reports,
-        made,
-        taken,
-        left,
-        state,
-    }
-}
-
 // Whether a packet waits in some queue: 'admitted = sent + lost + waiting'.
 fn waits(admitted: u64, sent: u64, lost: u64) -> bool
     requires { ⌜ sent + lost ≤ admitted ⌝ }
@@ -148,11 +97,11 @@ fn waits(admitted: u64, sent: u64, lost: u64) -> bool
     sent + lost < admitted
 }
 
-// A stretch of a state that stands, and so stands after each call. The segment and the queues are changed in place, because to hand them on
-// costs more than a probe: what is handed on in a slot is small, or is the segment alone, and the row goes by value only where a
-// contention begins or a packet has been sent.
-pub fn at_once(s: State, arrivals: Arrivals, steps: u32) -> Stretch
-    requires { ⌜ standing s ≡ true ⌝ }
+// The calls of a stretch. A state that does not stand comes back as lent, and each call is refused; one that stands stands after each
+// call. The segment and the queues are changed in place, because to hand them on costs more than a probe: what is handed on in a slot is
+// small, or is the segment alone, and the row goes by value only where a contention begins.
+pub fn calls(s: State, stands: bool, arrivals: Arrivals, steps: u32) -> Stretch
+    requires { ⌜ stands ≡ standing s ⌝ }
     ensures { λ r. ⌜ r ≡ stretchForm (stretchOf s arrivals steps) ⌝ }
 {
     let mut g = s.segment;
@@ -165,27 +114,29 @@ pub fn at_once(s: State, arrivals: Arrivals, steps: u32) -> Stretch
         let a = arrivals.row[taken];
         let settings = g.settings;
         let clock = g.clock;
-        // An arrival that is due: 'Admission tries 1, then 11 to 16', and an accepted packet takes the first free place.
+        // An arrival that is due: an accepted packet takes the first free place.
         if is_due(taken, arrivals.length, a.time, clock) {
             let listed = g.listed;
             let lengths = queues.lengths;
-            let place = joining::station_of(listed, settings.n, a.address);
-            let refusal = joining::refusal(
+            let asked = joining::asked(
+                stands,
                 settings,
+                listed,
                 clock,
                 g.admitted,
                 lengths,
-                place,
+                a.address,
                 a.value,
                 a.length,
             );
-            let admitted = joining::answer(refusal, g.admitted);
+            let admitted = asked.answer;
             reports[made] = of_arrival(clock, a.address, admitted);
             made += 1;
             taken += 1;
-            if refusal != 0 {
+            if admitted.refusal != 0 {
                 continue;
             }
+            let place = asked.place;
             let length = lengths[place];
             let at = 16 * place + length;
             let packet = Packet {
@@ -198,9 +149,9 @@ pub fn at_once(s: State, arrivals: Arrivals, steps: u32) -> Stretch
             g.admitted = admitted.number;
             continue;
         }
-        // 'step with the clock above 1,073,737,728'
-        if sorts::before(Slot(crate::LAST_SLOT), clock) {
-            let answer = crate::refused(17);
+        let refusal = crate::step_refusal(stands, clock);
+        if refusal != 0 {
+            let answer = crate::refused(refusal);
             reports[made] = of_step(clock, answer);
             made += 1;
             left -= 1;
@@ -210,8 +161,8 @@ pub fn at_once(s: State, arrivals: Arrivals, steps: u32) -> Stretch
         let mut drops = 0;
         let under_way = g.contention;
         if !under_way.begun {
-            let opening = beginning::opening(settings.d);
             if !waits(g.admitted, g.sent, g.lost) {
+                let opening = beginning::opening(settings.d);
                 g.contention = opening;
             } else if settings.discipline == disciplines::RTDG {
                 let lent = State { segment: g, queues };
@@ -221,24 +172,22 @@ pub fn at_once(s: State, arrivals: Arrivals, steps: u32) -> Stretch
                 queues = state.queues;
                 drops = begun.drops;
             } else {
-                let contenders = beginning::offers_of(g, queues);
-                g.contenders = contenders;
-                g.contention = opening;
+                g = beginning::begun(g, queues, 0);
             }
         }
         // 'Every step then probes one slot.'
         let heard = probing::heard(g);
-        let present = g.settings;
-        let now = g.clock;
+        let settings = g.settings;
+        let clock = g.clock;
         let round = g.round;
         let contention = g.contention;
         let progress = Progress {
-            clock: now,
+            clock,
             sent: g.sent,
             round,
             contention,
         };
-        let moved = probing::moved(present, progress, drops, heard);
+        let moved = probing::moved(settings, progress, drops, heard);
         let answer = moved.answer;
         reports[made] = of_step(clock, answer);
         made += 1;
@@ -262,14 +211,20 @@ pub fn at_once(s: State, arrivals: Arrivals, steps: u32) -> Stretch
         }
         // 'That packet leaves its queue.'
         let place = heard.first;
-        let leaving = Leaving::Sent(answer.number);
-        let rest = waiting::left(queues, place, leaving);
+        let length = queues.lengths[place];
         let first = 16 * place;
-        for j in 0..16 {
+        let mut filled = 0;
+        for j in 0..length {
             let at = first + j;
-            queues.packets[at] = rest.packets[j];
+            let p = queues.packets[at];
+            queues.packets[at] = zeros::NO_PACKET;
+            if answer.number != p.number {
+                let free = first + filled;
+                queues.packets[free] = p;
+                filled += 1;
+            }
         }
-        queues.lengths[place] = rest.length;
+        queues.lengths[place] = filled;
     }
     let state = State { segment: g, queues };
     Stretch {

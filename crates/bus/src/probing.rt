@@ -1,12 +1,8 @@
-// Probing one slot: who transmits, what is heard, and what becomes of the window, the clock, the round and the winner's queue.
+// Probing one slot: who transmits, what is heard, and what becomes of the window, the clock and the round.
 use crate::Answer;
 use crate::Heard;
-use crate::Leaving;
 use crate::Moved;
-use crate::Probed;
 use crate::Progress;
-use crate::Stepped;
-use crate::waiting;
 use rules::Packet;
 use sorts::Address;
 use sorts::Capability;
@@ -15,26 +11,16 @@ use sorts::disciplines;
 use state::Contender;
 use state::Contention;
 use state::Listed;
-use state::Queues;
 use state::Round;
 use state::Segment;
 use state::Settings;
-use state::State;
 use state::zeros;
 use window::Side;
-use window::Window;
-ghost use Prim.Native.Nat.{ℕ, _+_, _<_, _≤_};
+ghost use Prim.Native.Nat.{_+_, _<_, _≤_};
 ghost use mathlib.Core.Path.{_≡_};
-ghost use mathlib.Core.Bool.{true};
 ghost use lib.Dec.{leb};
-ghost use lib.ListN.{getD};
-ghost use Rattle.window.specs.Splitting.{firstWindow};
-ghost use Rattle.rules.specs.Lists.{keep};
 ghost use Rattle.rules.specs.SetUp.{disciplineOf};
-ghost use Rattle.rules.specs.Probe.{probe};
-ghost use Rattle.state.specs.State.{form, queueAt, standing};
-ghost use Rattle.bus.specs.Coded.{stepResult};
-ghost use Rattle.bus.specs.Parts.{Sent, transmitsOf, transmitsAt, contenderAt, heardIn, answerAt, wentOn, splitOf, collidedOn, unheardOn, wonRound, roundAfter, wonOn, movedBy, withMoved, probed, withQueue, queueForm, stays, openOf};
+ghost use Rattle.bus.specs.Parts.{transmitsOf, heardIn, answerAt, wentOn, splitOf, collidedOn, unheardOn, roundAfter, wonOn, movedBy, withMoved};
 
 // The events as numbers.
 const IDLE: u32 = 0;
@@ -42,13 +28,6 @@ const IDLE: u32 = 0;
 const COLLISION: u32 = 1;
 
 pub const SUCCESS: u32 = 2;
-
-// A contender's parameter: as it was when the contention began, 'fixed for the whole contention'.
-fn parameter_of(c: Contender) -> u64
-    ensures { λ r. ⌜ r ≡ c .parameter ⌝ }
-{
-    c.parameter
-}
 
 // Whether a station transmits: 'its parameter (in the tie phase: its address) lies in the window and, in RTDG, its latest start is
 // not below the slot being probed'.
@@ -62,7 +41,7 @@ fn transmits(discipline: u32, clock: Slot, contention: Contention, l: Listed, c:
     if disciplines::late(discipline, clock, c.packet.value) {
         return false;
     }
-    let parameter = parameter_of(c);
+    let parameter = c.parameter;
     if contention.tied {
         if parameter != contention.tie {
             return false;
@@ -173,13 +152,6 @@ fn went_on(progress: Progress, c: Contention) -> Progress
     }
 }
 
-// The tie phase's first window: 'the first window of A, start 0, side right'.
-fn tie_window(a: u32) -> Window
-    ensures { λ r. ⌜ r ≡ firstWindow a ⌝ }
-{
-    window::first_window(a)
-}
-
 // 'A window of size 2 or more becomes its left half, side left. A window of size 1 starts the tie phase among the contenders of that
 // parameter: the first window of A, start 0, side right.'
 fn split(a: u32, c: Contention) -> Contention
@@ -195,7 +167,7 @@ fn split(a: u32, c: Contention) -> Contention
             tie: c.tie,
         };
     }
-    let first = tie_window(a);
+    let first = window::first_window(a);
     let mut tie = w.start;
     if c.tied {
         tie = c.tie;
@@ -263,16 +235,6 @@ fn unheard(progress: Progress, drops: u64) -> Moved
     }
 }
 
-// A circuit has won in this round.
-fn last_winner(capability: Capability) -> Round
-    ensures { λ r. ⌜ r ≡ wonRound capability ⌝ }
-{
-    Round {
-        won: true,
-        last: capability,
-    }
-}
-
 // 'In RTVC the last winner is set.'
 fn round_after(discipline: u32, capability: Capability) -> Round
     ensures { λ r. ⌜ r ≡ roundAfter (disciplineOf discipline) capability ⌝ }
@@ -280,7 +242,10 @@ fn round_after(discipline: u32, capability: Capability) -> Round
     if discipline < disciplines::RTVC {
         return zeros::NO_ROUND;
     }
-    last_winner(capability)
+    Round {
+        won: true,
+        last: capability,
+    }
 }
 
 // 'One transmits: success. .. The probed slot is its first, so the clock moves on by its length.'
@@ -336,7 +301,7 @@ pub fn moved(settings: Settings, progress: Progress, drops: u64, heard: Heard) -
 }
 
 // What a probe has moved, stored; no contenders where the contention has ended.
-fn with_moved(g: Segment, m: Moved) -> Segment
+pub fn with_moved(g: Segment, m: Moved) -> Segment
     ensures { λ r. ⌜ r ≡ withMoved g m ⌝ }
 {
     let answer = m.answer;
@@ -354,75 +319,4 @@ fn with_moved(g: Segment, m: Moved) -> Segment
         next.contenders = contenders;
     }
     next
-}
-
-// One probe of a segment; the row of packets has no part in it.
-fn probe(g: Segment, drops: u64) -> Probed
-    requires { ⌜ g .settings .n ≤ 64 ⌝ }
-    requires { ⌜ g .clock .0 ≤ 1073741824 ⌝ }
-    requires { ⌜ ((i : ℕ) → i < g .settings .n → transmitsAt g i ≡ true → contenderAt g i .packet .length ≤ 4096) ⌝ }
-    requires { ⌜ ((i : ℕ) → i < g .settings .n → transmitsAt g i ≡ true → g .sent < 4294967295) ⌝ }
-    ensures { λ r. ⌜ r ≡ probed g drops ⌝ }
-{
-    let settings = g.settings;
-    let clock = g.clock;
-    let round = g.round;
-    let contention = g.contention;
-    let progress = Progress {
-        clock,
-        sent: g.sent,
-        round,
-        contention,
-    };
-    let who = heard(g);
-    let m = moved(settings, progress, drops, who);
-    let segment = with_moved(g, m);
-    let answer = m.answer;
-    let mut winner = 0;
-    if answer.event == SUCCESS {
-        winner = who.first;
-    }
-    Probed {
-        answer,
-        segment,
-        winner,
-    }
-}
-
-// 'That packet leaves its queue'
-fn without_sent(queues: Queues, i: usize, number: u64) -> Queues
-    requires { ⌜ i < 64 ⌝ }
-    requires { ⌜ getD (queues .lengths) i 0 ≤ 16 ⌝ }
-    ensures { λ r. ⌜ r ≡ withQueue queues i (queueForm (keep (stays (Sent number)) (queueAt queues i))) ⌝ }
-{
-    let leaving = Leaving::Sent(number);
-    waiting::without(queues, i, leaving)
-}
-
-// 'Every step then probes one slot.'
-pub fn probe_slot(s: State, drops: u64) -> Stepped
-    requires { ⌜ standing s ≡ true ⌝ }
-    requires { ⌜ s .segment .contention .begun ≡ true ⌝ }
-    requires { ⌜ s .segment .clock .0 ≤ 1073737728 ⌝ }
-    ensures { λ r. ⌜ r ≡ stepResult (probe (openOf s drops) .0, form (probe (openOf s drops) .1)) ⌝ }
-{
-    let g = s.segment;
-    let queues = s.queues;
-    let probed = probe(g, drops);
-    let answer = probed.answer;
-    let segment = probed.segment;
-    if answer.event != SUCCESS {
-        return Stepped {
-            answer,
-            state: State { segment, queues },
-        };
-    }
-    let rest = without_sent(queues, probed.winner, answer.number);
-    Stepped {
-        answer,
-        state: State {
-            segment,
-            queues: rest,
-        },
-    }
 }

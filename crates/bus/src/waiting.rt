@@ -1,4 +1,4 @@
-// One station's queue: taken out of the row and put back; packets leave it and join it, and one is chosen to be offered.
+// Packets that wait: they leave the row of queues, and of a station's queue one is chosen to be offered.
 use crate::Chosen;
 use crate::Leaving;
 use crate::offering;
@@ -7,50 +7,17 @@ use sorts::disciplines;
 use state::Queue;
 use state::Queues;
 use state::zeros;
-ghost use Prim.Native.Nat.{_<_, _≤_};
+ghost use Prim.Native.Nat.{ℕ, _<_, _≤_};
 ghost use mathlib.Core.Path.{_≡_};
-ghost use mathlib.Core.Bool.{cond};
-ghost use mathlib.Core.List.{[], _∷_, _++_};
+ghost use mathlib.Core.Bool.{_&&_, cond};
+ghost use lib.Dec.{leb, ltb};
 ghost use lib.ListN.{getD};
 ghost use Rattle.rules.specs.Lists.{keep};
 ghost use Rattle.rules.specs.SetUp.{disciplineOf};
 ghost use Rattle.rules.specs.Begin.{goes-before, choice};
 ghost use Rattle.state.specs.State.{queueAt};
 ghost use Rattle.state.specs.Parts.{queueOf, packetsOf};
-ghost use Rattle.bus.specs.Parts.{withQueue, queueForm, stays, chosenForm};
-
-// The queue of station i, taken out of the row.
-pub fn queue_at(qs: Queues, i: usize) -> Queue
-    requires { ⌜ i < 64 ⌝ }
-    ensures { λ r. ⌜ r ≡ queueOf qs i ⌝ }
-{
-    let mut places = [zeros::NO_PACKET; 16];
-    let first = 16 * i;
-    for j in 0..16 {
-        let at = first + j;
-        places[j] = qs.packets[at];
-    }
-    let length = qs.lengths[i];
-    Queue {
-        packets: places,
-        length,
-    }
-}
-
-// The row with the queue of station i put back.
-pub fn with_queue(qs: Queues, i: usize, queue: Queue) -> Queues
-    requires { ⌜ i < 64 ⌝ }
-    ensures { λ r. ⌜ r ≡ withQueue qs i queue ⌝ }
-{
-    let mut next = qs;
-    let first = 16 * i;
-    for k in 0..16 {
-        let at = first + k;
-        next.packets[at] = queue.packets[k];
-    }
-    next.lengths[i] = queue.length;
-    next
-}
+ghost use Rattle.bus.specs.Parts.{queueForm, stays, chosenForm};
 
 // Whether a packet stays in its queue.
 fn stays(leaving: Leaving, p: Packet) -> bool
@@ -62,58 +29,31 @@ fn stays(leaving: Leaving, p: Packet) -> bool
     }
 }
 
-// The queue without the packets that leave; those that stay close up, and freed places are cleared.
-fn kept(queue: Queue, leaving: Leaving) -> Queue
-    requires { ⌜ queue .length ≤ 16 ⌝ }
-    ensures { λ r. ⌜ r ≡ queueForm (keep (stays leaving) (packetsOf queue)) ⌝ }
+// The row without the packets of stations `from` up to `to` that leave: those that stay close up, and freed places are cleared. Each packet is
+// taken out, and one that stays is put back in the first free place.
+pub fn without(mut queues: Queues, from: usize, to: usize, leaving: Leaving) -> Queues
+    requires { ⌜ to ≤ 64 ⌝ }
+    requires { ⌜ ((j : ℕ) → j < 64 → queueOf queues j ≡ queueForm (queueAt queues j)) ⌝ }
+    requires { ⌜ ((j : ℕ) → j < 64 → getD (queues .lengths) j 0 ≤ 16) ⌝ }
+    ensures { λ r. ⌜ ((j : ℕ) → j < 64 → queueOf r j ≡ cond (leb from j && ltb j to) (queueForm (keep (stays leaving) (queueAt queues j))) (queueOf queues j)) ⌝ }
 {
-    let mut packets = [zeros::NO_PACKET; 16];
-    let mut filled = 0;
-    let length = queue.length;
-    for j in 0..length {
-        let p = queue.packets[j];
-        if stays(leaving, p) {
-            packets[filled] = p;
-            filled += 1;
+    for i in from..to {
+        let length = queues.lengths[i];
+        let first = 16 * i;
+        let mut filled = 0;
+        for j in 0..length {
+            let at = first + j;
+            let p = queues.packets[at];
+            queues.packets[at] = zeros::NO_PACKET;
+            if stays(leaving, p) {
+                let free = first + filled;
+                queues.packets[free] = p;
+                filled += 1;
+            }
         }
+        queues.lengths[i] = filled;
     }
-    Queue {
-        packets,
-        length: filled,
-    }
-}
-
-// The queue of station i without the packets that leave.
-pub fn left(queues: Queues, i: usize, leaving: Leaving) -> Queue
-    requires { ⌜ i < 64 ⌝ }
-    requires { ⌜ getD (queues .lengths) i 0 ≤ 16 ⌝ }
-    ensures { λ r. ⌜ r ≡ queueForm (keep (stays leaving) (queueAt queues i)) ⌝ }
-{
-    let queue = queue_at(queues, i);
-    kept(queue, leaving)
-}
-
-// The row without the packets of station i that leave.
-pub fn without(queues: Queues, i: usize, leaving: Leaving) -> Queues
-    requires { ⌜ i < 64 ⌝ }
-    requires { ⌜ getD (queues .lengths) i 0 ≤ 16 ⌝ }
-    ensures { λ r. ⌜ r ≡ withQueue queues i (queueForm (keep (stays leaving) (queueAt queues i))) ⌝ }
-{
-    let rest = left(queues, i, leaving);
-    with_queue(queues, i, rest)
-}
-
-// The queue with one packet more.
-pub fn joined(queue: Queue, p: Packet) -> Queue
-    requires { ⌜ queue .length < 16 ⌝ }
-    requires { ⌜ queue ≡ queueForm (packetsOf queue) ⌝ }
-    ensures { λ r. ⌜ r ≡ queueForm (packetsOf queue ++ (p ∷ [])) ⌝ }
-{
-    let mut next = queue;
-    let length = queue.length;
-    next.packets[length] = p;
-    next.length = length + 1;
-    next
+    queues
 }
 
 // Of a packet and the one chosen among those after it, the one that is offered.

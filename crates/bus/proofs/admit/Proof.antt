@@ -1,90 +1,95 @@
 -- `admit` meets its contract: it tries 1, then 11 to 16; a packet that is not refused joins its station's queue. Assumes nothing.
-use mathlib.Core.Path.{_≡_, sym, _∙_}
+use mathlib.Core.Path.{sym, _∙_}
+use native.Mathlib.Omega.{arith}
 use borrow.Author.Needs.{needs}
-use Rattle.rules.specs.Admission.{admissionRefusal}
-use Rattle.state.specs.State.{meaning}
-use Rattle.bus.specs.Coded.{arrivalOf}
-use Rattle.state.proofs.Tested.{denied, granted}
-use Rattle.state.proofs.Stands.{Lent, lent}
+use Rattle.state.proofs.Stands.{lent}
 use Rattle.state.proofs.StandingParts.{state-held}
-use Rattle.bus.proofs.Admitting.{at-station, refusal-is, gives-1, gives-refusal, takes-in, room-at, count-left}
+use Rattle.bus.proofs.InPlace.{Sound, sound-of, Taken, asked-away, asked-in}
 use Rattle.bus.proofs.admit.Statement.{statement}
 use Rattle.bus.proofs.admit.Tie as tie
 
 stands-requires : tie.Need-stands-requires
 stands-requires c κs = search needs
 
+sound! : (c : tie.After-stands) → Sound (c .stands .result) (c .before .args .s)
+sound! c =
+    let start = c .before in
+    sound-of (start .args .s) (c .stands .result) (state-held (start .args .s) _ (start .good .0)) (lent (start .args .s) _ (start .good .0)) (c .stands .ensures)
+
+asked-requires : tie.Need-asked-requires
+asked-requires c κs =
+    let tested = c .before .before .before .before .before in
+    let start = tested .before in (
+      λ e. lent (start .args .s) _ (start .good .0) (sym (tested .stands .ensures) ∙ e) .few,
+      λ e. omega (arith, lent (start .args .s) _ (start .good .0) (sym (tested .stands .ensures) ∙ e) .stands .admitted-in),
+    )
+
+-- the packet's place
+taken! :
+    (c : tie.Then1)
+    → Taken
+    (c .before .before .before .before .before .before .before .before .before .before .args .s)
+    (c .before .before .before .before .before .before .before .before .before .before .args .address)
+    (c .before .before .before .before .before .before .before .before .before .before .args .value)
+    (c .before .before .before .before .before .before .before .before .before .before .args .length)
+    (c .before .before .before .asked .result)
+taken! c =
+    let told = c .before .before .before in
+    let tested = told .before .before .before .before .before .before in
+    let args = tested .before .args in
+    asked-in (args .s) (args .address) (args .value) (args .length) (tested .stands .result) (sound! tested) (told .asked .result) (told .asked .ensures) (c .if1 .taken)
+
+mul-waiting : tie.Need-mul-waiting
+mul-waiting c = let h = taken! c .in-row in search needs
+
+array-read-waiting : tie.Need-array-read-waiting
+array-read-waiting c = taken! c .in-row
+
+mul-at : tie.Need-mul-at
+mul-at c = let h = taken! c .in-row in search needs
+
+add-at : tie.Need-add-at
+add-at c = let h = taken! c .in-row in let k = taken! c .room in search needs
+
+mul-packet : tie.Need-mul-packet
+mul-packet c = let h = taken! c .in-row in let k = taken! c .room in search needs
+
+element-set-from-packet : tie.Need-element-set-from-packet
+element-set-from-packet c = let h = taken! c .in-row in let k = taken! c .room in search needs
+
+add-queues : tie.Need-add-queues
+add-queues c = let h = taken! c .in-row in let k = taken! c .room in search needs
+
+mul-queues : tie.Need-mul-queues
+mul-queues c = let h = taken! c .in-row in search needs
+
+element-write-queues : tie.Need-element-write-queues
+element-write-queues c = taken! c .in-row
+
 returns : tie.Need-returns
-returns c =
-    let start = c .before .before in
-    let args = start .args in
-    gives-1
-    (args .s)
-    (state-held (args .s) _ (start .good .0))
-    (arrivalOf (args .address) (args .value) (args .length))
-    (denied (c .before .stands .ensures) (c .if1 .taken))
-
--- past the first test the state stands
-stood! : (c : tie.Else1) → Lent (c .before .before .args .s)
-stood! c =
-    let start = c .before .before in lent (start .args .s) _ (start .good .0) (granted (c .before .stands .ensures) (c .if1 .left))
-
-station-of-requires : tie.Need-station-of-requires
-station-of-requires c κs = stood! (c .before .before .before) .few
-
-refusal-requires : tie.Need-refusal-requires
-refusal-requires c κs = stood! (c .before .before .before .before .before .before) .few
-
--- `After-refusal` is where a refusal has been given, or 0
-abbrev tested : tie.After-refusal → tie.Else1
-tested c = c .before .before .before .before .before .before .before
-
--- it is that of the rules
-refused :
-    (c : tie.After-refusal)
-    → c .refusal .result
-    ≡ admissionRefusal
-    (meaning (tested c .before .before .args .s))
-    (arrivalOf (tested c .before .before .args .address) (tested c .before .before .args .value) (tested c .before .before .args .length))
-refused c =
-    let args = tested c .before .before .args in
-    let found = c .before .before .before .station-of in
-    c .refusal .ensures
-    ∙ refusal-is (args .s) (stood! (tested c)) (found .result) (args .address) (found .ensures) (args .value) (args .length)
+returns c = taken! c .is
 
 returns-2 : tie.Need-returns-2
 returns-2 c =
-    let args = tested (c .before) .before .before .args in
-    gives-refusal
-    (args .s)
-    (stood! (tested (c .before)))
-    (arrivalOf (args .address) (args .value) (args .length))
-    (c .before .refusal .result)
-    (refused (c .before))
-    (c .if2 .taken)
-
-join-requires : tie.Need-join-requires
-join-requires c κs =
-    let past = tested (c .before) in
-    let args = past .before .before .args in
-    let s = args .s in
-    let r = stood! past in
-    let found = c .before .before .before .before .station-of in
-    let none! = sym (refused (c .before)) ∙ c .if2 .left in
-    let here = at-station s r (found .result) (args .address) (found .ensures) (args .value) (args .length) none! in
-    let room = room-at s r (found .result) (args .address) (found .ensures) (args .value) (args .length) none! in
-    let left = count-left s r (found .result) (args .address) (found .ensures) (args .value) (args .length) none! in
-    (granted (past .before .stands .ensures) (past .if1 .left), (here, (room, left)))
-
-returns-3 : tie.Need-returns-3
-returns-3 c =
-    let args = tested (c .before .before) .before .before .args in
-    c .join .ensures (args .address) (c .before .before .before .before .before .station-of .ensures)
-    ∙ takes-in
-    (args .s)
-    (stood! (tested (c .before .before)))
-    (arrivalOf (args .address) (args .value) (args .length))
-    (sym (refused (c .before .before)) ∙ c .before .if2 .left)
+    let told = c .before .before .before in
+    let tested = told .before .before .before .before .before .before in
+    let args = tested .before .args in
+    asked-away (args .s) (args .address) (args .value) (args .length) (tested .stands .result) (sound! tested) (told .asked .result) (told .asked .ensures) (c .if1 .left)
 
 pub admit-spec : {M : Type 1} → statement M
-admit-spec = tie.close (tie.spec stands-requires returns station-of-requires refusal-requires returns-2 join-requires returns-3)
+admit-spec =
+    tie.close
+    (tie.spec
+    stands-requires
+    asked-requires
+    mul-waiting
+    array-read-waiting
+    mul-at
+    add-at
+    mul-packet
+    element-set-from-packet
+    add-queues
+    mul-queues
+    element-write-queues
+    returns
+    returns-2)

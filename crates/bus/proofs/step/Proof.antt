@@ -1,116 +1,247 @@
 -- `step` meets its contract: it tries 1, then 17, begins a contention if none is under way, and probes one slot. Assumes nothing.
-use mathlib.Core.Path.{sym, ap, _∙_}
+use Prim.Native.Nat.{ℕ, _<_}
+use mathlib.Core.Path.{_≡_, refl, ap, _∙_, subst}
+use mathlib.Core.Logic.{⊎-elim}
+use mathlib.Core.Bool.{false}
 use native.Mathlib.Omega.{arith}
+use lib.Dec.{ltb}
+use lib.ListN.{length}
 use borrow.Author.Needs.{needs}
-use borrow.Author.Tests.{ltb-false}
 use Rattle.rules.specs.Bus.{last-slot}
-use Rattle.rules.specs.Begin.{begin, dropsOf}
-use Rattle.rules.specs.Probe.{probe}
-use Rattle.bus.specs.Types.{State}
-use Rattle.state.specs.State.{meaning, form, standing}
-use Rattle.bus.specs.Coded.{Stepped, Answer, stepResult}
-use Rattle.bus.specs.Parts.{Begun, openOf}
+use Rattle.rules.specs.Begin.{dropsOf}
+use Rattle.rules.specs.Probe.{success}
+use Rattle.rules.proofs.Standing.{set-up-stands}
+use Rattle.bus.specs.Types.{Segment, Queues, State}
+use Rattle.state.specs.State.{meaning}
+use Rattle.bus.specs.Coded.{Answer, codedStep, stepResult}
+use Rattle.bus.specs.Parts.{Heard, Moved, heardIn, movedBy, Sent, stays}
+use Rattle.state.proofs.Places.{queues-arrays}
 use Rattle.state.proofs.Tested.{denied, granted}
-use Rattle.state.proofs.Stands.{lent}
+use Rattle.state.proofs.Stands.{Lent, lent, few-packets}
 use Rattle.state.proofs.StandingParts.{state-held}
-use Rattle.bus.proofs.Steps.{gives-1, gives-17, probes, goes-on, begins, begun-stands}
+use Rattle.bus.proofs.ClosingUp.{LeftIn, left-one}
+use Rattle.bus.proofs.BeginningLaws.{inTimeAt, droppingTo, dropping-few, left-late, all-formed, room-left, late-counted, lost-counted}
+use Rattle.bus.proofs.HeardLaws.{heard-short, heard-counted}
+use Rattle.bus.proofs.InPlace.{whole, Sound, sound-of, step-away, step-on, Opened, was-open, opened-as, begun-open, none-sent, one-sent, winner-in}
 use Rattle.bus.proofs.step.Statement.{statement}
 use Rattle.bus.proofs.step.Tie as tie
+use Rattle.bus.proofs.ProbedSlot.{progressOf}
 
 stands-requires : tie.Need-stands-requires
 stands-requires c κs = search needs
 
+sound! : (c : tie.After-stands) → Sound (c .stands .result) (c .before .args .s)
+sound! c =
+    let start = c .before in
+    sound-of (start .args .s) (c .stands .result) (state-held (start .args .s) _ (start .good .0)) (lent (start .args .s) _ (start .good .0)) (c .stands .ensures)
+
+step-refusal-requires : tie.Need-step-refusal-requires
+step-refusal-requires c κs = search needs
+
 refused-requires : tie.Need-refused-requires
 refused-requires c κs = search needs
 
--- the result with this answer and this state
-abbrev given : Answer → State → Stepped
-given answer state = record { answer = answer; state = state }
+-- ---- a step that is not refused
+
+module _ (t : tie.Then1) where
+  abbrev s : State
+  s = t .before .before .before .before .before .args .s
+
+  ready : (Lent s) × (ltb last-slot (s .segment .clock .0) ≡ false)
+  ready =
+      let tested = t .before .before in
+      step-on (tested .before .before .stands .result) s (sound! (tested .before .before)) (tested .step-refusal .result) (tested .step-refusal .ensures) (t .if1 .taken)
+
+  -- late packets have left the queues
+  left :
+      (to : ℕ) → to ≡ droppingTo (s .segment .settings .discipline) (s .segment .settings .n) → (rest : Queues)
+      → LeftIn (inTimeAt s) (s .queues) 0 to rest → LeftIn (inTimeAt s) (s .queues) 0 (s .segment .settings .n) rest
+  left to e rest gone =
+      left-late (s .segment .settings .discipline) (s .segment .clock) (s .queues) (s .segment .settings .n) rest (all-formed s (ready .0))
+      (subst (λ (k : ℕ). LeftIn (inTimeAt s) (s .queues) 0 k rest) e gone)
+
+dropping-requires : tie.Need-dropping-requires
+dropping-requires c κs = search needs
+
+without-requires : tie.Need-without-requires
+without-requires c κs =
+    let t = c .before .before .before .before .before .before .before in
+    let r = ready t .0 in
+    let few = dropping-few (s t .segment .settings .discipline) (s t .segment .settings .n) in
+    (omega (arith, c .before .before .dropping .ensures, few, r .few), (all-formed (s t) r, few-packets (s t) r))
+
+-- the packets that are left
+module _ (c : tie.After-without) where
+  abbrev turn : tie.Then1
+  turn = c .before .before .before .before .before .before .before .before
+
+  kept : LeftIn (inTimeAt (s turn)) (s turn .queues) 0 (s turn .segment .settings .n) (c .without .result)
+  kept = left turn (c .before .before .before .dropping .result) (c .before .before .before .dropping .ensures) (c .without .result) (c .without .ensures)
+
+  arrays : (length (c .without .result .lengths) ≡ 64) × (length (c .without .result .packets) ≡ 1024)
+  arrays = queues-arrays (c .without .result) _ (c .without .ok)
+
+dropped-requires : tie.Need-dropped-requires
+dropped-requires c κs =
+    let past = c .before in
+    omega (arith, late-counted (s (turn past)) (ready (turn past) .0) (past .without .result) (kept past) (arrays past .0))
+
+-- so many have been dropped
+drops! : (c : tie.After-dropped) → c .dropped .result ≡ dropsOf (meaning (s (turn (c .before .before))))
+drops! c =
+    let past = c .before .before in
+    omega (arith, c .dropped .ensures, late-counted (s (turn past)) (ready (turn past) .0) (past .without .result) (kept past) (arrays past .0))
+
+begun-requires : tie.Need-begun-requires
+begun-requires c κs =
+    let past = c .before .before in
+    let r = ready (turn past) .0 in
+    let spaces = set-up-stands (meaning (s (turn past))) (r .stands) in
+    let count = lost-counted (s (turn past)) r in
+    let dropped! = drops! c in
+    (r .few, (room-left (s (turn past)) r (past .without .result) (kept past), (spaces .q-least, (omega (arith, spaces .D-least), omega arith))))
+
+-- the contention is under way, or has just begun
+module _ (c : tie.Joined2) where
+  abbrev at : tie.Then1
+  at = c .before .before .before .before
+
+  opened! : Opened (s at) (c .if2 .g) (c .if2 .s .queues) (c .if2 .drops)
+  opened! =
+      let r = ready at .0 in
+      ⊎-elim
+      (λ w.
+      let past : tie.After-without =
+      record {
+        before =
+            record {
+              before = record { before = record { before = record { before = c .before; if2 = w .0 }; dropping = w .1 }; clock = w .2 };
+              lengths = w .3;
+            };
+        without = w .4;
+      } in
+      opened-as (w .9) (ap (λ (x : State). x .queues) (w .8)) (w .10)
+      (begun-open (s at) r (denied refl (w .0 .taken)) (w .4 .result) (kept past) (arrays past .0) (arrays past .1) (w .6 .result)
+      (drops! (record { before = record { before = past; kept = w .5 }; dropped = w .6 }))
+      (w .7 .result)
+      (w .7 .ensures)))
+      (λ w. opened-as (w .2) (ap (λ (x : State). x .queues) (w .1)) (w .3) (was-open (s at) r (granted refl (w .0 .left))))
+      (c .if2 .came)
+
+heard-requires : tie.Need-heard-requires
+heard-requires c κs = opened! c .ready .few
+
+moved-requires : tie.Need-moved-requires
+moved-requires c κs =
+    let joined = c .before .before .before .before .before in
+    let o = opened! joined in
+    let here = whole (joined .if2 .g) (joined .if2 .s .queues) in
+    let h = c .before .before .before .before .heard .ensures in (
+      o .ready .stands .clock-in,
+      (
+        omega (arith, ap (λ (x : Heard). x .packet .length) h, heard-short here (o .ready) (o .begun)),
+        λ n. heard-counted here (o .ready) (o .begun) (λ e. n (ap (λ (x : Heard). x .first) h ∙ e)),
+      ),
+    )
+
+with-moved-requires : tie.Need-with-moved-requires
+with-moved-requires c κs = search needs
+
+-- ---- a probe
+
+module _ (c : tie.After-with-moved) where
+  abbrev moved : tie.After-moved
+  moved = c .before .before
+
+  abbrev joined : tie.Joined2
+  joined = moved .before .before .before .before .before .before
+
+  abbrev t : tie.Then1
+  t = at joined
+
+  abbrev heard-now : Heard
+  heard-now = moved .before .before .before .before .before .heard .result
+
+  abbrev here : State
+  here = whole (joined .if2 .g) (joined .if2 .s .queues)
+
+  abbrev m : Moved
+  m = moved .moved .result
+
+  m! : m ≡ movedBy (joined .if2 .g .settings) (progressOf (joined .if2 .g)) (joined .if2 .drops) heard-now
+  m! = moved .moved .ensures
+
+  heard! : heard-now ≡ heardIn (joined .if2 .g)
+  heard! = moved .before .before .before .before .before .heard .ensures
+
+  no-winner! : ¬ (m .answer .event ≡ success) → record { answer = m .answer; state = whole (c .with-moved .result) (joined .if2 .s .queues) } ≡ stepResult (codedStep (s t))
+  no-winner! n =
+      ap (λ (g : Segment). record { answer = m .answer; state = whole g (joined .if2 .s .queues) }) (c .with-moved .ensures)
+      ∙ none-sent (s t) (ready t .0) (ready t .1) (joined .if2 .g) (joined .if2 .s .queues) (joined .if2 .drops) (opened! joined) heard-now heard! m m! n
+
+  winner! : m .answer .event ≡ success → heard-now .first < 64
+  winner! = winner-in (s t) (ready t .0) (ready t .1) (joined .if2 .g) (joined .if2 .s .queues) (joined .if2 .drops) (opened! joined) heard-now heard! m m!
+
+-- ---- the winner's packet leaves its queue
+
+place! : (c : tie.Then3) → heard-now (c .before .before) .first < 64
+place! c = winner! (c .before .before) (c .if3 .taken)
+
+add-without : tie.Need-add-without
+add-without c = let h = place! c in search needs
+
+without-requires-2 : tie.Need-without-requires-2
+without-requires-2 c κs =
+    let told = c .before .before in
+    let r = opened! (joined told) .ready in
+    (omega (arith, place! c), (all-formed (here told) r, few-packets (here told) r))
 
 returns : tie.Need-returns
 returns c =
-    let start = c .before .before .before in
-    let s = start .args .s in
-    ap (λ answer. given answer s) (c .refused .ensures)
-    ∙ gives-1 s (state-held s _ (start .good .0)) (denied (c .before .before .stands .ensures) (c .before .if1 .taken))
-
-before-requires : tie.Need-before-requires
-before-requires c κs = search needs
-
-refused-requires-2 : tie.Need-refused-requires-2
-refused-requires-2 c κs = search needs
+    let won = c .before in
+    let told = won .before .before in
+    let o = opened! (joined told) in
+    let rest = c .without2 .result in
+    let n = queues-arrays rest _ (c .without2 .ok) in
+    let i = heard-now told .first in
+    ap (λ (g : Segment). record { answer = m told .answer; state = whole g rest }) (told .with-moved .ensures)
+    ∙ one-sent (s (t told)) (ready (t told) .0) (ready (t told) .1) (joined told .if2 .g) (joined told .if2 .s .queues) (joined told .if2 .drops) o (heard-now told) (heard! told)
+    (m told)
+    (m! told)
+    (won .if3 .taken)
+    rest
+    (left-one (stays (Sent (m told .answer .number))) (here told .queues) rest i (place! won) (o .ready .held .lengths) (o .ready .held .packets) (n .0) (n .1)
+    (few-packets (here told) (o .ready) i (place! won))
+    (c .without2 .ensures))
 
 returns-2 : tie.Need-returns-2
-returns-2 c =
-    let tested = c .before .before .before .before in
-    let start = tested .before .before in
-    let s = start .args .s in
-    let r = lent s _ (start .good .0) (granted (tested .before .stands .ensures) (tested .if1 .left)) in
-    ap (λ answer. given answer s) (c .refused2 .ensures) ∙ gives-17 s r (sym (c .before .before .before2 .ensures) ∙ c .before .if2 .taken)
-
-probe-slot-requires : tie.Need-probe-slot-requires
-probe-slot-requires c κs =
-    let in-time = c .before .before in
-    let tested = in-time .before .before .before in
-    let clock = tested .before .before .args .s .segment .clock .0 in (
-      granted (tested .before .stands .ensures) (tested .if1 .left),
-      (c .if3 .taken, ltb-false last-slot clock (sym (in-time .before .before2 .ensures) ∙ in-time .if2 .left)),
-    )
+returns-2 c = no-winner! (c .before .before) (c .if3 .left)
 
 returns-3 : tie.Need-returns-3
 returns-3 c =
-    let in-time = c .before .before .before in
-    let tested = in-time .before .before .before in
-    let start = tested .before .before in
-    let s = start .args .s in
-    let r = lent s _ (start .good .0) (granted (tested .before .stands .ensures) (tested .if1 .left)) in
-    c .probe-slot .ensures
-    ∙ probes s r (sym (in-time .before .before2 .ensures) ∙ in-time .if2 .left) (openOf s 0) (goes-on s (c .before .if3 .taken))
-
-begin-requires : tie.Need-begin-requires
-begin-requires c κs =
-    let tested = c .before .before .before .before .before in (granted (tested .before .stands .ensures) (tested .if1 .left), c .if3 .left)
-
-probe-slot-requires-2 : tie.Need-probe-slot-requires-2
-probe-slot-requires-2 c κs =
-    let in-time = c .before .before .before .before in
-    let tested = in-time .before .before .before in
-    let start = tested .before .before in
-    let s = start .args .s in
-    let r = lent s _ (start .good .0) (granted (tested .before .stands .ensures) (tested .if1 .left)) in
-    let slot = ltb-false last-slot (s .segment .clock .0) (sym (in-time .before .before2 .ensures) ∙ in-time .if2 .left) in
-    let is = ap (λ (begun : Begun). begun .state) (c .before .begin .ensures) in (
-      ap standing is ∙ begun-stands s r,
-      (ap (λ (state : State). state .segment .contention .begun) is, omega (arith, ap (λ (state : State). state .segment .clock .0) is)),
-    )
-
-returns-4 : tie.Need-returns-4
-returns-4 c =
-    let in-time = c .before .before .before .before .before in
-    let tested = in-time .before .before .before in
-    let start = tested .before .before in
-    let s = start .args .s in
-    let r = lent s _ (start .good .0) (granted (tested .before .stands .ensures) (tested .if1 .left)) in
-    let o = openOf (form (begin (meaning s))) (dropsOf (meaning s)) in
-    c .probe-slot2 .ensures
-    ∙ ap
-    (λ (begun : Begun).
-    stepResult (probe (openOf (begun .state) (begun .drops)) .0, form (probe (openOf (begun .state) (begun .drops)) .1)))
-    (c .before .before .begin .ensures)
-    ∙ probes s r (sym (in-time .before .before2 .ensures) ∙ in-time .if2 .left) o (begins s r (c .before .before .before .if3 .left))
+    let told = c .before in
+    let tested = told .before in
+    let s = tested .before .before .before .args .s in
+    ap (λ (answer : Answer). record { answer = answer; state = s }) (told .refused .ensures)
+    ∙ step-away (tested .before .before .stands .result) s (sound! (tested .before .before)) (tested .step-refusal .result) (tested .step-refusal .ensures)
+    (c .if1 .left)
 
 pub step-spec : {M : Type 1} → statement M
 step-spec =
     tie.close
     (tie.spec
     stands-requires
+    step-refusal-requires
     refused-requires
+    dropping-requires
+    without-requires
+    dropped-requires
+    begun-requires
+    heard-requires
+    moved-requires
+    with-moved-requires
+    add-without
+    without-requires-2
     returns
-    before-requires
-    refused-requires-2
     returns-2
-    probe-slot-requires
-    returns-3
-    begin-requires
-    probe-slot-requires-2
-    returns-4)
+    returns-3)

@@ -1,8 +1,7 @@
 -- `round_after` meets its contract: below 2 the discipline is not RTVC, from 2 on it is. Assumes nothing.
 use Prim.Native.Nat.{ℕ, zero, suc, _≤_, _<_}
-use mathlib.Core.Path.{_≡_, refl, _∙_}
+use mathlib.Core.Path.{_≡_, refl}
 use native.Mathlib.Omega.{arith}
-use borrow.Author.Needs.{needs}
 use Rattle.rules.specs.SetUp.{disciplineOf}
 use Rattle.bus.specs.Types.{Capability}
 use Rattle.state.specs.State.{noRound}
@@ -24,12 +23,8 @@ circuit (suc (suc n)) capability h = refl
 returns : tie.Need-returns
 returns c = no-circuit (c .before .args .discipline) (c .before .args .capability) (c .if1 .taken)
 
-last-winner-requires : tie.Need-last-winner-requires
-last-winner-requires c κs = search needs
-
 returns-2 : tie.Need-returns-2
-returns-2 c =
-    let args = c .before .before .args in c .last-winner .ensures ∙ circuit (args .discipline) (args .capability) (c .before .if1 .left)
+returns-2 c = circuit (c .before .args .discipline) (c .before .args .capability) (c .if1 .left)
 
 pub round-after-spec : {M : Type 1} → statement M
-round-after-spec = tie.close (tie.spec returns last-winner-requires returns-2)
+round-after-spec = tie.close (tie.spec returns returns-2)

@@ -23,11 +23,11 @@ returns c =
     let now = c .before .before .before .before .args .c in
     simp (le-leb 2 (now .window .size) (c .before .if1 .taken)) (ap (under-way (now .tied) (now .tie)) (c .left-half .ensures))
 
-tie-window-requires : tie.Need-tie-window-requires
-tie-window-requires c κs = search needs
+first-window-requires : tie.Need-first-window-requires
+first-window-requires c κs = search needs
 
 -- the tie phase begins, with the tie value that there is, or with the window's parameter
-module _ (first : tie.After-tie-window) where
+module _ (first : tie.After-first-window) where
   abbrev start : tie.Start
   start = first .before .before .before .before
 
@@ -39,9 +39,9 @@ module _ (first : tie.After-tie-window) where
 
   opens :
       {tied : Bool} → now .tied ≡ tied
-      → opening tied (first .tie-window .result) ≡ splitOf (start .args .a) now (leb 2 (now .window .size)) (now .tied)
+      → opening tied (first .first-window .result) ≡ splitOf (start .args .a) now (leb 2 (now .window .size)) (now .tied)
   opens {tied} e =
-      ap (opening tied) (first .tie-window .ensures)
+      ap (opening tied) (first .first-window .ensures)
       ∙ sym (ap₂ (splitOf (start .args .a) now) (lt-leb 2 (now .window .size) (first .before .if1 .left)) e)
 
 returns-2 : tie.Need-returns-2
@@ -52,4 +52,4 @@ returns-3 c = opens (c .before) (c .if2 .left)
 
 pub split-spec : {M : Type 1} → statement M
 split-spec =
-    tie.close (tie.spec left-half-requires returns tie-window-requires returns-2 returns-3)
+    tie.close (tie.spec left-half-requires returns first-window-requires returns-2 returns-3)

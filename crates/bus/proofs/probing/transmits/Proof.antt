@@ -45,10 +45,10 @@ module _ (discipline : ℕ) (clock : Slot) (contention : Contention) (l : Listed
   in-time : (tied : Bool) → c .contends ≡ true → too-late ≡ false → contention .tied ≡ tied → lies tied ≡ it
   in-time tied a b c = sym (and-true (lies tied)) ∙ by-tests true false tied a b c
 
--- where the parameter has been read, the station contends and is in time
-module _ (c : tie.After-parameter-of) where
+-- past the second test the station contends and is in time
+module _ (c : tie.Else2) where
   abbrev tried : tie.After-late
-  tried = c .before .before
+  tried = c .before
 
   abbrev start : tie.Start
   start = tried .before .before .before .before
@@ -63,16 +63,16 @@ module _ (c : tie.After-parameter-of) where
   by-window tied =
       in-time (start .args .discipline) (start .args .clock) now (start .args .l) (start .args .c) tied
       (not-false (start .args .c .contends) (tried .before .if1 .left))
-      (sym (tried .late .ensures) ∙ c .before .if2 .left)
+      (sym (tried .late .ensures) ∙ c .if2 .left)
 
   -- in the tie phase its parameter is the tied one, or not
   by-tie :
-      {same : Bool} → now .tied ≡ true → eqb (c .parameter-of .result) (now .tie) ≡ same
+      {same : Bool} → now .tied ≡ true → eqb (start .args .c .parameter) (now .tie) ≡ same
       → (same && inWindow (now .window) (start .args .l .address .0)) ≡ its
   by-tie tied e =
       ap
       (λ (t : Bool). t && inWindow (now .window) (start .args .l .address .0))
-      (sym e ∙ ap (λ n. eqb n (now .tie)) (c .parameter-of .ensures))
+      (sym e)
       ∙ by-window true tied
 
 returns : tie.Need-returns
@@ -90,16 +90,13 @@ returns-2 c =
     out-of-time (args .discipline) (args .clock) (args .contention) (args .l) (args .c)
     (sym (c .before .late .ensures) ∙ c .if2 .taken)
 
-parameter-of-requires : tie.Need-parameter-of-requires
-parameter-of-requires c κs = search needs
-
 returns-3 : tie.Need-returns-3
 returns-3 c =
     let tied = c .before .before in
     by-tie
     (tied .before)
     (tied .if3 .taken)
-    (ne-eqb (tied .before .parameter-of .result) (now (tied .before) .tie) (c .if4 .taken))
+    (ne-eqb (start (tied .before) .args .c .parameter) (now (tied .before) .tie) (c .if4 .taken))
 
 address-number-requires : tie.Need-address-number-requires
 address-number-requires c κs = search needs
@@ -116,7 +113,7 @@ returns-4 c =
     ∙ by-tie
     (tied .before)
     (tied .if3 .taken)
-    (eq-eqb (tied .before .parameter-of .result) (now (tied .before) .tie) (same .if4 .left))
+    (eq-eqb (start (tied .before) .args .c .parameter) (now (tied .before) .tie) (same .if4 .left))
 
 in-window-requires-2 : tie.Need-in-window-requires-2
 in-window-requires-2 c κs = search needs
@@ -125,7 +122,6 @@ returns-5 : tie.Need-returns-5
 returns-5 c =
     let untied = c .before in
     c .in-window2 .ensures
-    ∙ ap (inWindow (now (untied .before) .window)) (untied .before .parameter-of .ensures)
     ∙ by-window (untied .before) false (untied .if3 .left)
 
 pub transmits-spec : {M : Type 1} → statement M
@@ -135,7 +131,6 @@ transmits-spec =
     returns
     late-requires
     returns-2
-    parameter-of-requires
     returns-3
     address-number-requires
     in-window-requires

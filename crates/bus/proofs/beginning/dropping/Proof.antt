@@ -1,0 +1,13 @@
+-- `beginning::dropping` meets its contract. Assumes nothing.
+use borrow.Author.Tests.{eq-eqb, ne-eqb}
+use Rattle.bus.proofs.beginning.dropping.Statement.{statement}
+use Rattle.bus.proofs.beginning.dropping.Tie as tie
+
+returns : tie.Need-returns
+returns c = rw (eq-eqb _ _ (c .if1 .taken))
+
+returns-2 : tie.Need-returns-2
+returns-2 c = rw (ne-eqb _ _ (c .if1 .left))
+
+pub dropping-spec : {M : Type 1} → statement M
+dropping-spec = tie.close (tie.spec returns returns-2)
