@@ -151,3 +151,19 @@ fn scripts_fit_and_edit_every_field() {
     let edits = |field: u64| text.iter().any(|text| text.contains(&format!("\nE {field} ")));
     assert!((1..=28).all(edits));
 }
+
+#[test]
+fn stretches_of_every_sort_are_drawn() {
+    let made = cases(&script::classes(), SCRIPTS);
+    let text: Vec<u8> = made.into_iter().flat_map(|made| made.input).collect();
+    let text = String::from_utf8_lossy(&text).replace('\n', " ");
+    let drawn = |start: String| text.contains(&format!(" R {start} "));
+    let steps = [0, 1, 2, 5, 20, 512, 600, 4_294_967_295_u64];
+    assert!(steps.iter().all(|steps| drawn(steps.to_string())));
+    let past = format!("{} 66", u64::MAX);
+    for row in [
+        "0 0", "64 0", "0 1", "1 1", "6 5", "65 20", "32 64", "64 64", "67 66", &past,
+    ] {
+        assert!(steps.iter().any(|steps| drawn(format!("{steps} {row}"))), "{row}");
+    }
+}

@@ -1,6 +1,6 @@
 //! What the blocks of a script have in common: each works on a state of its own.
 
-use super::fields::{ADDRESS, LAST_SLOT};
+use super::fields::{ADDRESS, LAST_NUMBER, LAST_SLOT};
 use super::lent::Lent;
 use super::text::Script;
 use crate::case::Made;
@@ -47,9 +47,32 @@ pub fn tried(numbers: &mut Numbers, script: &mut Script, admission: &Admission) 
     script.step();
     script.state();
     script.totals();
-    if numbers.once_in(3) {
-        script.steps(2);
+    match numbers.below(3) {
+        0 => script.steps(2),
+        1 => stretch(numbers, script, 0, |_| *admission),
+        _ => {}
     }
+}
+
+/// A stretch of drawn admissions, due at once, about now or later, in a row as long as they are, shorter or longer; no steps, some, or more than
+/// it has calls.
+pub fn stretch(numbers: &mut Numbers, script: &mut Script, clock: u64, draw: impl Fn(&mut Numbers) -> Admission) {
+    let many = numbers.pick(&[0, 0, 1, 2, 5, 20, 64, 66]);
+    let (from, span) = (numbers.pick(&[0, clock]), numbers.pick(&[1, 10, 100]));
+    let four = |_| {
+        let (address, value, length) = draw(numbers);
+        [from + numbers.below(span), address, value, length]
+    };
+    let fours: Vec<[u64; 4]> = (0..many).map(four).collect();
+    let length = match numbers.below(4) {
+        0 => numbers.pick(&[many / 2, many + 1, 64, 65, u64::MAX]),
+        _ => many,
+    };
+    let steps = match numbers.below(24) {
+        0 => numbers.pick(&[512, 600, LAST_NUMBER]),
+        _ => numbers.pick(&[0, 1, 1, 2, 5, 20]),
+    };
+    script.stretch(steps, length, &fours);
 }
 
 /// An admission that a lent state takes, if its queue has a place.

@@ -1,6 +1,6 @@
 //! Scripts that go up to the last step and the last packet number, and past them.
 
-use super::blocks::{admit_lent, blocks, refused, several_faults};
+use super::blocks::{blocks, lent_admission, refused, several_faults, stretch};
 use super::fields::*;
 use super::lent::{Lent, Phase, Wish};
 use super::text::Script;
@@ -31,7 +31,7 @@ fn last_steps(numbers: &mut Numbers, script: &mut Script) {
     script.steps(6);
     script.state();
     script.totals();
-    admit_lent(numbers, script, &lent);
+    stretch(numbers, script, LAST_STEP, |numbers| lent_admission(numbers, &lent));
     script.edit(CLOCK, 0, numbers.pick(&[LAST_STEP + 1, LAST_SLOT - 1, LAST_SLOT]));
     script.step();
     script.admit(lent.get(ADDRESS, 0), LAST_SLOT, 1);
@@ -59,7 +59,7 @@ fn last_numbers(numbers: &mut Numbers, script: &mut Script) {
     }
     several_faults(numbers, script, lent.get(ADDRESS, 0));
     script.state();
-    script.steps(4);
+    stretch(numbers, script, 10, |_| (lent.get(ADDRESS, 0), value, 1));
     script.totals();
     script.edit(ADMITTED, 0, LAST_NUMBER + 1);
     script.totals();

@@ -1,6 +1,6 @@
 //! Scripts that lend states made by edits: states that stand, and states with one field or more edited after that.
 
-use super::blocks::{admit_lent, blocks, lent_admission, refused, tried};
+use super::blocks::{admit_lent, blocks, lent_admission, refused, stretch, tried};
 use super::edits::{drawn, drawn_of, meaningless, Edit};
 use super::fields::*;
 use super::lent::{Lent, Phase, Wish};
@@ -94,8 +94,11 @@ fn lent(numbers: &mut Numbers, discipline: u8, phase: Phase) -> Made {
         lent.write(&mut script);
         script.totals();
         for _ in 0..numbers.between(6, 16) {
-            match numbers.below(4) {
-                0 => admit_lent(numbers, &mut script, &lent),
+            match numbers.below(8) {
+                0..=1 => admit_lent(numbers, &mut script, &lent),
+                2 => stretch(numbers, &mut script, lent.one(CLOCK), |numbers| {
+                    lent_admission(numbers, &lent)
+                }),
                 _ => script.step(),
             }
         }

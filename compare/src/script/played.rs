@@ -1,6 +1,6 @@
 //! Scripts that begin with a set-up and go on by calls: play, refused set-ups, rows, full queues.
 
-use super::blocks::{blocks, refused, several_faults, small_bus, tried, Admission};
+use super::blocks::{blocks, refused, several_faults, small_bus, stretch, tried, Admission};
 use super::fields::*;
 use super::text::{set_up_of, Script};
 use crate::case::{Class, Made};
@@ -53,12 +53,16 @@ fn play(numbers: &mut Numbers, script: &mut Script, discipline: u8) {
     calls(numbers, script, &scenario, many);
 }
 
-/// Admissions, most of which pass, steps, and now and then the closing numbers or the state.
+/// Admissions, most of which pass, steps, stretches, and now and then the closing numbers or the state.
 fn calls(numbers: &mut Numbers, script: &mut Script, scenario: &Scenario, many: u64) {
     for slot in 0..many {
         match numbers.below(10) {
-            0..=3 => admission(numbers, script, scenario, slot),
-            4..=8 => script.step(),
+            0..=3 => {
+                let (address, value, length) = admission(numbers, scenario, slot);
+                script.admit(address, value, length);
+            }
+            4..=7 => script.step(),
+            8 => stretch(numbers, script, slot, |numbers| admission(numbers, scenario, slot)),
             _ if numbers.once_in(2) => script.totals(),
             _ => script.state(),
         }
@@ -66,15 +70,15 @@ fn calls(numbers: &mut Numbers, script: &mut Script, scenario: &Scenario, many: 
 }
 
 /// An admission; one in eight has a number that is refused.
-fn admission(numbers: &mut Numbers, script: &mut Script, scenario: &Scenario, slot: u64) {
+fn admission(numbers: &mut Numbers, scenario: &Scenario, slot: u64) -> Admission {
     let address = u64::from(scenario.stations[numbers.place(scenario.stations.len())].address);
     let value = u64::from(scenario.value(numbers, slot as u32));
     let length = numbers.pick(&[1, 1, 2, 3, 7]);
     match numbers.below(24) {
-        0 => script.admit(address ^ numbers.pick(&[1, 0x0100, 0x1_0000]), value, length),
-        1 => script.admit(address, numbers.pick(&[u64::MAX, LAST_SLOT + 1, 65_536, 0]), length),
-        2 => script.admit(address, value, numbers.pick(&[0, 4_096, 4_097, 1 << 31])),
-        _ => script.admit(address, value, length),
+        0 => (address ^ numbers.pick(&[1, 0x0100, 0x1_0000]), value, length),
+        1 => (address, numbers.pick(&[u64::MAX, LAST_SLOT + 1, 65_536, 0]), length),
+        2 => (address, value, numbers.pick(&[0, 4_096, 4_097, 1 << 31])),
+        _ => (address, value, length),
     }
 }
 
@@ -179,26 +183,35 @@ fn full_queues(numbers: &mut Numbers, script: &mut Script) {
     several_faults(numbers, script, address);
 }
 
-/// All 1,024 places filled, steps, and edits of a full state.
+/// All 1,024 places filled, by stretches and by single calls, steps, a whole stretch of them, and edits.
 fn all_full(numbers: &mut Numbers, turn: usize) -> Made {
     let mut script = Script::default();
     let spaces = Spaces::drawn(numbers, discipline(turn), &[64, 256]);
     let scenario = bus(numbers, spaces, 64);
     script.bus(&scenario);
-    for _ in 0..QUEUE_PLACES {
-        for station in &scenario.stations {
-            script.admit(station.address.into(), scenario.value(numbers, 60).into(), 1);
+    let mut packet = |place: usize| {
+        let address = scenario.stations[place].address.into();
+        [0, address, scenario.value(numbers, 60).into(), 1]
+    };
+    for round in 0..QUEUE_PLACES {
+        let packets: Vec<[u64; 4]> = (0..64).map(&mut packet).collect();
+        match round % 2 {
+            0 => script.stretch(1, 64, &packets),
+            _ => packets
+                .iter()
+                .for_each(|[_, address, value, length]| script.admit(*address, *value, *length)),
         }
     }
-    script.admit(
-        scenario.stations[63].address.into(),
-        scenario.value(numbers, 60).into(),
-        1,
-    );
+    script.stretch(1, 1, &[packet(63)]);
     script.steps(10);
+    script.stretch(600, 0, &[]);
     script.totals();
     let place = 16 * numbers.place(64) + numbers.place(12);
     script.edit(NUMBER, place, numbers.between(1, 1_024));
     script.totals();
     Made::plain(script.bytes())
+        .showing("a stretch that a full row ends", |words| {
+            words == ["R", "64", "64", "1"]
+        })
+        .showing("a stretch of 512 calls", |words| words == ["R", "512", "0", "88"])
 }

@@ -47,6 +47,13 @@ impl Script {
         (0..many).for_each(|_| self.step());
     }
 
+    /// A stretch with a row of a length and some fours.
+    pub fn stretch(&mut self, steps: u64, length: u64, fours: &[[u64; 4]]) {
+        let listed: String = fours.iter().flatten().map(|number| format!(" {number}")).collect();
+        let k = fours.len();
+        self.put(format_args!("R {steps} {length} {k}{listed}"));
+    }
+
     pub fn totals(&mut self) {
         self.put(format_args!("T"));
     }

@@ -2,19 +2,19 @@
 use crate::commands::Command;
 use crate::edits;
 use crate::lines;
+use crate::rows;
 use crate::show;
+use crate::stretch;
 use crate::words;
 use bus::Answer;
 use rules::Verdict;
 use sorts::Address;
-use state::Row;
 use state::SetUp;
 use state::Settings;
 use state::State;
 
-// The set-up that `U` asks for, with its row of 64 places. A length above 64 is lent as it is.
-fn set_up(c: Command) -> SetUp {
-    let numbers = c.numbers;
+// The set-up that `U` asks for.
+fn set_up(numbers: [u64; 259]) -> SetUp {
     let settings = Settings {
         discipline: words::low(numbers[0]),
         d: words::low(numbers[1]),
@@ -22,10 +22,7 @@ fn set_up(c: Command) -> SetUp {
         q: words::low(numbers[3]),
         n: numbers[4] as usize,
     };
-    let stations = c.stations;
-    let length = numbers[5] as usize;
-    let row = Row { stations, length };
-    state::set_up(settings, row)
+    state::set_up(settings, rows::stations(numbers))
 }
 
 // 'U refusal station'
@@ -90,7 +87,7 @@ pub fn obey(s: State, c: Command) -> State {
     let letter = c.letter;
     let n = c.numbers;
     if letter == b'U' {
-        let r = set_up(c);
+        let r = set_up(n);
         verdict(r.verdict);
         return r.state;
     }
@@ -99,6 +96,12 @@ pub fn obey(s: State, c: Command) -> State {
     }
     if letter == b'S' {
         return step(s);
+    }
+    if letter == b'R' {
+        let r = bus::play(s, rows::arrivals(n), words::low(n[0]));
+        let reports = r.reports;
+        stretch::write(reports, r.made, r.taken, r.left);
+        return r.state;
     }
     if letter == b'E' {
         return edits::edited(s, n[0], n[1], n[2]);

@@ -1,44 +1,23 @@
 // A command of a script: its letter and its numbers.
 ghost use Prim.Native.Nat.{_≤_};
 use crate::words;
-use sorts::Address;
-use sorts::Capability;
-use state::Listed;
-use state::zeros;
 
-// A letter, its numbers in their order, the stations of `U`, and the place after all of them. What a command does not have is zero.
+// A letter, its numbers in their order, those of pairs and fours after the others, and the place after them. What a command does not have is
+// zero.
 pub struct Command {
     pub letter: u8,
-    pub numbers: [u64; 7],
-    pub stations: [Listed; 64],
+    pub numbers: [u64; 259],
     pub at: usize,
 }
 
-// The numbers of a command, and the place after them.
-struct Numbers {
-    pub values: [u64; 7],
-    pub at: usize,
-}
-
-// The stations of a set-up, and the place after them.
-struct Stations {
-    pub listed: [Listed; 64],
-    pub at: usize,
-}
-
-// One station, and the place after its pair.
-struct Pair {
-    pub listed: Listed,
-    pub at: usize,
-}
-
-// How many numbers come after a letter: 'discipline* D* A* q* n length k', before the pairs; 'address* value* length*'; 'field index value'.
+// How many numbers come after a letter: 'discipline* D* A* q* n length k', before the pairs; 'address* value* length*'; 'steps* length k',
+// before the fours; 'field index value'.
 fn count_of(letter: u8) -> usize
     ensures { λ r. ⌜ r ≤ 7 ⌝ }
 {
     match letter {
         b'U' => 7,
-        b'A' | b'E' => 3,
+        b'A' | b'R' | b'E' => 3,
         _ => 0,
     }
 }
@@ -53,64 +32,40 @@ fn at_most_64(n: u64) -> usize
     n as usize
 }
 
-// 'After a letter come that command's numbers'
-fn read_numbers(script: &[u8], from: usize, count: usize) -> Numbers
-    requires { ⌜ count ≤ 7 ⌝ }
-    ensures { λ r. ⌜ from ≤ r .at ⌝ }
+// How many numbers a command has whose last one before the pairs or fours is k: 'then k pairs', 'then k fours'. Any other that has numbers
+// has three.
+fn count_with(letter: u8, k: u64) -> usize
+    ensures { λ r. ⌜ r ≤ 259 ⌝ }
 {
-    let mut values = [0; 7];
-    let mut at = from;
-    for i in 0..count {
-        let n = words::number(script, at);
-        values[i] = n.value;
-        at = n.at;
+    let many = at_most_64(k);
+    match letter {
+        b'U' => 7 + 2 * many,
+        b'R' => 3 + 4 * many,
+        _ => 3,
     }
-    Numbers { values, at }
 }
 
-// A pair 'address* capability*'.
-fn read_pair(script: &[u8], from: usize) -> Pair
-    ensures { λ r. ⌜ from ≤ r .at ⌝ }
-{
-    let x = words::number(script, from);
-    let y = words::number(script, x.at);
-    let address = words::low(x.value);
-    let capability = words::low(y.value);
-    let listed = Listed {
-        address: Address(address),
-        capability: Capability(capability),
-    };
-    Pair { listed, at: y.at }
-}
-
-// 'the pairs stand in its first places, the others are zero'
-fn read_stations(script: &[u8], from: usize, pairs: usize) -> Stations
-    requires { ⌜ pairs ≤ 64 ⌝ }
-    ensures { λ r. ⌜ from ≤ r .at ⌝ }
-{
-    let mut listed = [zeros::NOBODY; 64];
-    let mut at = from;
-    for i in 0..pairs {
-        let p = read_pair(script, at);
-        let l = p.listed;
-        listed[i] = l;
-        at = p.at;
-    }
-    Stations { listed, at }
-}
-
-// The command with this letter, whose numbers start from a place; only `U` has pairs, since the seventh number of any other is 0.
+// The command with this letter, whose numbers start from a place: 'After a letter come that command's numbers'.
 pub fn read(script: &[u8], letter: u8, from: usize) -> Command
     ensures { λ r. ⌜ from ≤ r .at ⌝ }
 {
-    let n = read_numbers(script, from, count_of(letter));
-    let numbers = n.values;
-    let s = read_stations(script, n.at, at_most_64(numbers[6]));
-    let stations = s.listed;
+    let first = count_of(letter);
+    let mut count = first;
+    let mut numbers = [0; 259];
+    let mut at = from;
+    let mut i = 0;
+    while i < count {
+        let n = words::number(script, at);
+        numbers[i] = n.value;
+        at = n.at;
+        i += 1;
+        if i == first {
+            count = count_with(letter, n.value);
+        }
+    }
     Command {
         letter,
         numbers,
-        stations,
-        at: s.at,
+        at,
     }
 }

@@ -3,7 +3,9 @@ mod calls;
 mod commands;
 mod edits;
 mod lines;
+mod rows;
 mod show;
+mod stretch;
 mod words;
 
 // 'The state is all-zero before the first command'; 'At the script's end the state is written once more'.
