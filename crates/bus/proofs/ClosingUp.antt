@@ -222,7 +222,7 @@ range-out from to j out =
 abbrev pub queueIf : Bool → (Packet → Bool) → Queues → ℕ → Queue
 queueIf t f qs j = cond t (queueForm (keep f (queueAt qs j))) (queueOf qs j)
 
--- `next` has the queues of `qs`, of stations `from` up to `to` without the packets that leave
+-- `next` has the queues of `qs`, of the stations from `from` on and before `to` without the packets that leave
 abbrev pub LeftIn : (Packet → Bool) → Queues → ℕ → ℕ → Queues → Type 0
 LeftIn f qs from to next = (j : ℕ) → j < 64 → queueOf next j ≡ queueIf (inRange from to j) f qs j
 

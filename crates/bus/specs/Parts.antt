@@ -80,18 +80,13 @@ refusalAt g clock admitted lengths place value len = firstOf 0 (refusalTests g c
 abbrev pub answered : ℕ → ℕ → Admitted
 answered refusal admitted = record { refusal = refusal; number = cond (eqb refusal 0) (admitted + 1) 0 }
 
--- the same and its station's place, of a state that stands
-abbrev pub askedAt : Settings → List Listed → Slot → ℕ → List ℕ → Address → ℕ → ℕ → Asked
-askedAt g listed clock admitted lengths address value len =
-    let place = firstPlace (λ i. eqb (address .0) (getD listed i nobody .address .0)) 0 (g .n) in
-    record { place = place; answer = answered (refusalAt g clock admitted lengths place value len) admitted }
-
--- and of any other, which is refused with 1
+-- the same and its station's place; of a state that does not stand, 1
 abbrev pub askedIf : Bool → Settings → List Listed → Slot → ℕ → List ℕ → Address → ℕ → ℕ → Asked
 askedIf stands g listed clock admitted lengths address value len =
+    let place = firstPlace (λ i. eqb (address .0) (getD listed i nobody .address .0)) 0 (g .n) in
     cond
     stands
-    (askedAt g listed clock admitted lengths address value len)
+    (record { place = place; answer = answered (refusalAt g clock admitted lengths place value len) admitted })
     (record { place = 0; answer = record { refusal = 1; number = 0 } })
 
 -- ---- a contention begins
@@ -237,15 +232,11 @@ unheardOn p drops Right =
       progress = record { clock = record { 0 = p .clock .0 + 1 }; sent = p .sent; round = noRound; contention = noContention };
     }
 
--- a round in which a circuit has won
-abbrev pub wonRound : Capability → Round
-wonRound c = record { won = true; last = c }
-
 -- the round after a success: 'In RTVC the last winner is set.'
 abbrev pub roundAfter : Discipline → Capability → Round
 roundAfter PRI c = noRound
 roundAfter RTDG c = noRound
-roundAfter RTVC c = wonRound c
+roundAfter RTVC c = record { won = true; last = c }
 
 -- one transmits, this station with this packet
 abbrev pub wonOn : Discipline → Progress → ℕ → Listed → Packet → Moved

@@ -67,7 +67,7 @@ fn contender_for(
 
 // Each station's place among the contenders. Only the queues to choose from are taken out, and in the loop itself: a call that takes one
 // out copies the whole row.
-pub fn offers_of(g: Segment, queues: Queues) -> [Contender; 64]
+fn offers_of(g: Segment, queues: Queues) -> [Contender; 64]
     requires { ⌜ g .settings .n ≤ 64 ⌝ }
     requires { ⌜ ((i : ℕ) → i < g .settings .n → getD (queues .lengths) i 0 ≤ 16) ⌝ }
     requires { ⌜ 1 ≤ g .settings .q ⌝ }
@@ -99,7 +99,7 @@ pub fn offers_of(g: Segment, queues: Queues) -> [Contender; 64]
     contenders
 }
 
-// 'In RTDG every queued packet with latest start below T is dropped': the number of stations whose late packets are.
+// 'In RTDG every queued packet with latest start below T is dropped': of how many stations late packets are looked for. Otherwise none is late.
 pub fn dropping(discipline: u32, n: usize) -> usize
     ensures { λ r. ⌜ r ≡ cond (eqb discipline 1) n 0 ⌝ }
 {

@@ -16,7 +16,7 @@ ghost use Rattle.state.specs.State.{nobody};
 ghost use Rattle.bus.specs.Parts.{firstPlace, refusalAt, askedIf};
 
 // The place of the station with an address; n where there is none.
-pub fn station_of(listed: [Listed; 64], n: usize, address: Address) -> usize
+fn station_of(listed: [Listed; 64], n: usize, address: Address) -> usize
     requires { ⌜ n ≤ 64 ⌝ }
     ensures { λ r. ⌜ r ≡ firstPlace (λ i. eqb (address .0) (getD listed i nobody .address .0)) 0 n ⌝ }
 {
@@ -30,7 +30,7 @@ pub fn station_of(listed: [Listed; 64], n: usize, address: Address) -> usize
 }
 
 // The first of 11 to 16 that holds, or 0, for a station's place, or N where no station has the address.
-pub fn refusal(
+fn refusal(
     settings: Settings,
     clock: Slot,
     admitted: u64,

@@ -108,7 +108,8 @@ pub struct Totals {
     pub waiting: u64,
 }
 
-// The types of the private functions stand here, because a type and a function whose names differ in case alone cannot stand in one module.
+// The types of the private functions: several modules name them, and a type and a function whose names differ in case alone cannot stand in
+// one module.
 
 // Which packets leave a queue: in a discipline, those whose latest start is below a slot; or the one with a number.
 enum Leaving {
@@ -209,7 +210,7 @@ fn step_refusal(stands: bool, clock: Slot) -> u32
     0
 }
 
-// The answer to a refused step: 'zero in the answer's other fields'.
+// The answer to a refused step: 'zero in the answer's other fields'; with 0, that to no step.
 fn refused(refusal: u32) -> Answer
     ensures { λ r. ⌜ r ≡ answerForm (refusedAnswer refusal) ⌝ }
 {

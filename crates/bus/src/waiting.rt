@@ -29,8 +29,8 @@ fn stays(leaving: Leaving, p: Packet) -> bool
     }
 }
 
-// The row without the packets of stations `from` up to `to` that leave: those that stay close up, and freed places are cleared. Each packet is
-// taken out, and one that stays is put back in the first free place.
+// The row without the packets that leave of the stations from `from` on and before `to`: those that stay close up, and freed places are
+// cleared. Each packet is taken out, and one that stays is put back in the first free place.
 pub fn without(mut queues: Queues, from: usize, to: usize, leaving: Leaving) -> Queues
     requires { ⌜ to ≤ 64 ⌝ }
     requires { ⌜ ((j : ℕ) → j < 64 → queueOf queues j ≡ queueForm (queueAt queues j)) ⌝ }

@@ -350,9 +350,11 @@ fn contention_stands(settings: Settings, c: Contention) -> bool
 }
 
 // Each of the 64 places, 'admitted = sent + lost + waiting', and 'none twice over all queues'. The queues and their numbers are taken out in
-// the loop itself: a call copies the whole row. Numbers are held in 32 bits: where a place stands, none is above the admitted count.
+// the loop itself: a call copies the whole row. Those of places past a queue's end are written over by the next station's. Numbers are held
+// in 32 bits: where a place stands, none is above the admitted count.
 fn queues_stand(g: Segment, queues: Queues) -> bool
-    requires { ⌜ (g .settings .n ≤ 64) × (g .admitted ≤ most-admitted) ⌝ }
+    requires { ⌜ g .settings .n ≤ 64 ⌝ }
+    requires { ⌜ g .admitted ≤ most-admitted ⌝ }
     ensures { λ r. ⌜ r ≡ queuesSound g queues ⌝ }
 {
     let settings = g.settings;

@@ -1,11 +1,12 @@
 -- `round_after` meets its contract: below 2 the discipline is not RTVC, from 2 on it is. Assumes nothing.
 use Prim.Native.Nat.{ℕ, zero, suc, _≤_, _<_}
 use mathlib.Core.Path.{_≡_, refl}
+use mathlib.Core.Bool.{true}
 use native.Mathlib.Omega.{arith}
 use Rattle.rules.specs.SetUp.{disciplineOf}
 use Rattle.bus.specs.Types.{Capability}
 use Rattle.state.specs.State.{noRound}
-use Rattle.bus.specs.Parts.{wonRound, roundAfter}
+use Rattle.bus.specs.Parts.{roundAfter}
 use Rattle.bus.proofs.probing.round_after.Statement.{statement}
 use Rattle.bus.proofs.probing.round_after.Tie as tie
 
@@ -15,7 +16,7 @@ no-circuit (suc zero) capability h = refl
 no-circuit (suc (suc n)) capability h = absurd (omega arith)
 
 circuit :
-    (discipline : ℕ) (capability : Capability) → 2 ≤ discipline → wonRound capability ≡ roundAfter (disciplineOf discipline) capability
+    (discipline : ℕ) (capability : Capability) → 2 ≤ discipline → record { won = true; last = capability } ≡ roundAfter (disciplineOf discipline) capability
 circuit zero capability h = absurd (omega arith)
 circuit (suc zero) capability h = absurd (omega arith)
 circuit (suc (suc n)) capability h = refl

@@ -1,4 +1,4 @@
--- `waiting::without` meets its contract. The loop's invariant: packets have left the queues of stations `from` up to i. That of the loop in
+-- `waiting::without` meets its contract. The loop's invariant: packets have left the queues of the stations from `from` on and before i. That of the loop in
 -- it: the first j places of station i's are gone through. Assumes nothing.
 use Prim.Native.Nat.{_≤_, _<_, _+_, _*_, _-_}
 use mathlib.Core.Path.{_≡_, refl, sym, ap, _∙_, subst}
