@@ -271,7 +271,7 @@ fn stretch(state: &mut State, row: &[Arrival], steps: u32) -> Stretch {
     stretch
 }
 
-/// "if an arrival comes next in the row and its time is not above the clock".
+/// "if an arrival comes next among the first `length` of the row and its time is not above the clock".
 fn next_arrival<'a>(state: &State, rest: &'a [Arrival]) -> Option<&'a Arrival> {
     rest.first().filter(|arrival| arrival.time <= state.clock)
 }

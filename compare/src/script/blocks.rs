@@ -49,7 +49,10 @@ pub fn tried(numbers: &mut Numbers, script: &mut Script, admission: &Admission) 
     script.totals();
     match numbers.below(3) {
         0 => script.steps(2),
-        1 => stretch(numbers, script, 0, |_| *admission),
+        1 => {
+            stretch(numbers, script, 0, |_| *admission);
+            script.state();
+        }
         _ => {}
     }
 }

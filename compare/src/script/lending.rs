@@ -230,4 +230,5 @@ fn random_edits(numbers: &mut Numbers, script: &mut Script) {
         script.totals();
         script.step();
     }
+    stretch(numbers, script, 0, |numbers| (numbers.below(8), numbers.below(4), 1));
 }
