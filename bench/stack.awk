@@ -82,6 +82,10 @@ $3 ~ /, %rsp$/ && $2 !~ /^(addq|cmpq|testq)$/ {
     if (!page_by_page) frame[here] += substr($3, 2) + 0
 }
 
+$2 == "addq" && $3 ~ /^[$]-[0-9]+, %rsp$/ { fail(here " moves the stack by '" $2 " " $3 "'") }
+
+$2 == "cmpq" && $3 == "%r11, %rsp" && !page_by_page { fail(here " takes its frame in a loop that is not read") }
+
 $2 == "jne" { page_by_page = 0 }
 
 # What calls nothing may use 128 bytes below its frame.
