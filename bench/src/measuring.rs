@@ -74,6 +74,7 @@ pub fn notes(pair: &Pair, counter: Option<Counter>) -> Vec<String> {
 #[cfg(test)]
 mod tests {
     use super::*;
+    use std::fs;
 
     fn pair(first: &str, second: &str) -> Pair {
         Pair {
@@ -90,13 +91,29 @@ mod tests {
     }
 
     #[test]
-    fn a_row_for_each_scenario() {
-        let room = Room::new("rows").unwrap();
-        let rows = rows(&pair("cat", "cat"), None, &room).unwrap();
-        assert_eq!(rows.len(), scenarios::all().len());
-        assert!(rows.iter().all(|row| row.slots == 65_535 && row.counts == [None, None]));
-        assert!(rows
-            .iter()
-            .all(|row| row.times.iter().all(|time| *time < Duration::MAX)));
+    fn the_programs_are_timed_on_the_scenario() {
+        let room = Room::new("scenario").unwrap();
+        let fixed = &scenarios::all()[0];
+        row(fixed, &pair("cat", "cat"), None, &room).unwrap();
+        assert_eq!(fs::read(room.output()).unwrap(), fixed.scenario.bytes());
+    }
+
+    #[test]
+    fn the_first_time_is_that_of_the_first_program() {
+        let room = Room::new("order").unwrap();
+        room::write(&room.input(), b"sleep 0.1").unwrap();
+        let [slow, quick] = best(&pair("sh", "cat"), &room).unwrap();
+        assert!(slow > quick);
+    }
+
+    /// In the first and in the last round the program sleeps.
+    #[test]
+    fn the_best_of_the_rounds_counts() {
+        let room = Room::new("best").unwrap();
+        let rounds = room.told().display().to_string();
+        let words = format!("echo >>'{rounds}'; case $(wc -l <'{rounds}') in 1 | {ROUNDS}) sleep 0.5 ;; esac");
+        room::write(&room.input(), words.as_bytes()).unwrap();
+        let [best, _] = best(&pair("sh", "cat"), &room).unwrap();
+        assert!(best < Duration::from_millis(500));
     }
 }

@@ -31,8 +31,15 @@ mod tests {
         let (input, output) = (room.input(), room.output());
         write(&input, b"some words").unwrap();
         write(&output, b"more words that were there before").unwrap();
-        assert!(time("cat", &input, &output).unwrap() > Duration::ZERO);
+        time("cat", &input, &output).unwrap();
         assert_eq!(fs::read(&output).unwrap(), b"some words");
+    }
+
+    #[test]
+    fn the_time_lasts_to_the_end_of_the_program() {
+        let room = Room::new("lasts").unwrap();
+        write(&room.input(), b"sleep 0.1").unwrap();
+        assert!(time("sh", &room.input(), &room.output()).unwrap() >= Duration::from_millis(100));
     }
 
     #[test]

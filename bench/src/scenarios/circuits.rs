@@ -44,25 +44,20 @@ mod tests {
     use crate::shown::shown;
 
     #[test]
-    fn full_segment_of_circuits() {
-        let scenario = scenario();
-        assert_eq!(scenario.set_up.discipline, RTVC);
-        assert_eq!(scenario.set_up.parameters, 65_536);
-        assert_eq!(scenario.stations.len(), 64);
-    }
-
-    #[test]
     fn every_circuit_is_busy_to_the_end() {
         let shown = shown(&scenario());
         assert!(shown.contentions.iter().all(|contention| contention.busy == 64));
         assert!(shown.end.waiting > 64);
     }
 
+    /// The run ends within its last contention.
     #[test]
-    fn only_ends_of_rounds_are_idle() {
-        let shown = shown(&scenario());
-        let without = shown.count(|contention| !contention.sent);
-        assert!(without as u64 <= 1 + shown.end.sent / 64);
+    fn a_round_sends_a_packet_of_each_circuit_and_ends_idle() {
+        let contentions = shown(&scenario()).contentions;
+        let (_, whole) = contentions.split_last().unwrap();
+        for (place, contention) in whole.iter().enumerate() {
+            assert_eq!(contention.sent, place % 65 < 64, "contention {place}");
+        }
     }
 
     #[test]

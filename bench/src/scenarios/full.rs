@@ -62,14 +62,6 @@ mod tests {
     use crate::shown::shown;
 
     #[test]
-    fn full_segment_by_laxity() {
-        let scenario = scenario();
-        assert_eq!(scenario.set_up.discipline, RTDG);
-        assert_eq!(scenario.set_up.laxity_step, 10);
-        assert_eq!(scenario.stations.len(), 64);
-    }
-
-    #[test]
     fn the_queues_stay_full() {
         let shown = shown(&scenario());
         assert_eq!(shown.contentions[0].waiting, 1_024);

@@ -44,13 +44,6 @@ mod tests {
     use crate::shown::shown;
 
     #[test]
-    fn eight_stations_by_priority() {
-        let scenario = scenario();
-        assert_eq!(scenario.set_up.discipline, PRI);
-        assert_eq!(scenario.stations.len(), 8);
-    }
-
-    #[test]
     fn most_contentions_are_idle() {
         let shown = shown(&scenario());
         let idle = shown.count(|contention| contention.waiting == 0);

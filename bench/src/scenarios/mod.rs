@@ -74,6 +74,13 @@ fn none(_: u32) -> u16 {
 mod tests {
     use super::*;
     use crate::shown::shown;
+    use compare::records::{PRI, RTDG, RTVC};
+
+    /// The number that words name by a letter: 65536 of 'A 65,536'.
+    fn named(words: &str, letter: &str) -> Option<u32> {
+        let mut numbers = words.split(", ").filter_map(|part| part.strip_prefix(letter));
+        numbers.find_map(|number| number.replace([' ', ','], "").parse().ok())
+    }
 
     #[test]
     fn each_is_as_long_as_a_scenario_can_be() {
@@ -90,8 +97,29 @@ mod tests {
     }
 
     #[test]
-    fn each_has_its_letter() {
-        let letters: String = all().iter().map(|fixed| fixed.letter).collect();
-        assert_eq!(letters, "abcd");
+    fn the_words_begin_with_the_stations_and_the_discipline() {
+        for fixed in all() {
+            let discipline = match fixed.scenario.set_up.discipline {
+                PRI => "PRI",
+                RTDG => "RTDG",
+                RTVC => "RTVC",
+                other => panic!("discipline {other}"),
+            };
+            let begin = format!("{} stations, {discipline}, ", fixed.scenario.stations.len());
+            assert!(fixed.words.starts_with(&begin), "{}", fixed.words);
+        }
+    }
+
+    #[test]
+    fn numbers_that_the_words_name_are_those_of_the_set_up() {
+        for Fixed { words, scenario, .. } in all() {
+            let set_up = scenario.set_up;
+            let numbers = [set_up.parameters, set_up.addresses, set_up.laxity_step.into()];
+            for (letter, number) in ["D", "A", "q"].into_iter().zip(numbers) {
+                if let Some(named) = named(words, letter) {
+                    assert_eq!(named, number, "{letter} of {words}");
+                }
+            }
+        }
     }
 }

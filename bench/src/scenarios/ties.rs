@@ -58,20 +58,6 @@ mod tests {
     use crate::shown::shown;
 
     #[test]
-    fn full_segment_of_two_priorities() {
-        let scenario = scenario();
-        assert_eq!(scenario.set_up.discipline, PRI);
-        assert_eq!(scenario.set_up.parameters, 2);
-        assert_eq!(scenario.set_up.addresses, 65_536);
-        assert_eq!(scenario.stations.len(), 64);
-    }
-
-    #[test]
-    fn all_have_one_priority() {
-        assert!(scenario().arrivals.iter().all(|arrival| arrival.value == PRIORITY));
-    }
-
-    #[test]
     fn every_contention_is_a_tie_of_many() {
         let shown = shown(&scenario());
         assert!(shown.contentions.iter().all(|contention| contention.tie_probes > 0));
