@@ -4,21 +4,53 @@ use std::process::Command;
 use std::{fs, thread};
 
 /// One line for each.
-pub fn lines() -> Vec<String> {
+pub fn lines(load: &Load) -> Vec<String> {
     vec![
         format!(
             "machine: {}, {} cores, {}",
             processor(),
-            cores(),
+            load.cores,
             said("uname", &["-m"])
         ),
-        load_line(load(), cores()),
+        load.line(),
         format!("the second engine is built with {}", said("rustc", &["--version"])),
         format!("busrun is built with {}", said("rt", &["version"])),
     ]
 }
 
 const UNKNOWN: &str = "not known";
+
+/// What the machine has to do as the measurement begins.
+pub struct Load {
+    /// How many programs wanted a core in the minute before.
+    programs: Option<f64>,
+    cores: usize,
+}
+
+impl Load {
+    pub fn now() -> Load {
+        Load {
+            programs: programs(),
+            cores: cores(),
+        }
+    }
+
+    /// Whether times are to be trusted: not where the load is above the number of cores, as two programs then do not
+    /// get the same share.
+    pub fn trusted(&self) -> bool {
+        self.programs.is_none_or(|programs| programs <= self.cores as f64)
+    }
+
+    fn line(&self) -> String {
+        let load = self.programs.map_or(UNKNOWN.to_string(), |load| load.to_string());
+        let warning = if self.trusted() {
+            ""
+        } else {
+            ", above the number of cores: the times are not to be trusted"
+        };
+        format!("load as it begins: {load}{warning}")
+    }
+}
 
 fn processor() -> String {
     let text = fs::read_to_string("/proc/cpuinfo").unwrap_or_default();
@@ -31,21 +63,9 @@ fn model(text: &str) -> Option<&str> {
     line.split_once(": ").map(|(_, name)| name.trim())
 }
 
-/// How many programs wanted a core in the minute before.
-fn load() -> Option<f64> {
+fn programs() -> Option<f64> {
     let text = fs::read_to_string("/proc/loadavg").ok()?;
     text.split_whitespace().next()?.parse().ok()
-}
-
-/// The load, and a warning where it is above the number of cores: two programs then do not get the same share.
-fn load_line(load: Option<f64>, cores: usize) -> String {
-    match load {
-        None => format!("load as it begins: {UNKNOWN}"),
-        Some(load) if load > cores as f64 => {
-            format!("load as it begins: {load}, above the number of cores: the times are not to be trusted")
-        }
-        Some(load) => format!("load as it begins: {load}"),
-    }
 }
 
 fn cores() -> usize {
@@ -73,11 +93,24 @@ mod tests {
         assert_eq!(model("processor\t: 0\n"), None);
     }
 
+    fn of_two_cores(programs: Option<f64>) -> Load {
+        Load { programs, cores: 2 }
+    }
+
+    #[test]
+    fn times_are_trusted_up_to_a_program_a_core() {
+        let trusted = [None, Some(0.5), Some(2.0), Some(2.01)].map(|programs| of_two_cores(programs).trusted());
+        assert_eq!(trusted, [true, true, true, false]);
+    }
+
     #[test]
     fn a_busy_machine_is_told() {
-        assert_eq!(load_line(Some(0.5), 2), "load as it begins: 0.5");
-        assert!(load_line(Some(2.5), 2).ends_with("not to be trusted"));
-        assert_eq!(load_line(None, 2), "load as it begins: not known");
+        assert_eq!(of_two_cores(Some(0.5)).line(), "load as it begins: 0.5");
+        assert_eq!(of_two_cores(None).line(), "load as it begins: not known");
+        assert_eq!(
+            of_two_cores(Some(2.5)).line(),
+            "load as it begins: 2.5, above the number of cores: the times are not to be trusted"
+        );
     }
 
     #[test]

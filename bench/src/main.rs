@@ -12,6 +12,7 @@ mod timing;
 
 use compare::comparing::Pair;
 use counting::Counter;
+use machine::Load;
 use room::Room;
 use std::path::Path;
 use std::process::ExitCode;
@@ -52,11 +53,13 @@ fn bench(busrun: &str, second: &str) -> Result<(), String> {
         first: busrun.to_string(),
         second: second.to_string(),
     };
-    let machine = machine::lines();
+    let load = Load::now();
+    let machine = machine::lines(&load);
     let room = Room::new("run")?;
     let counter = Counter::found(&room)?;
     let rows = measuring::rows(&pair, counter, &room)?;
-    print!("{}", page(&machine, &rows, &measuring::notes(&pair, counter)));
+    let notes = measuring::notes(&pair, counter);
+    print!("{}", page(&machine, &rows, &notes, load.trusted()));
     Ok(())
 }
 

@@ -13,6 +13,9 @@ const HEAD: &str = "\
 |---|--:|--:|--:|--:|--:|--:|--:|
 ";
 
+/// The last line where times are not to be trusted.
+const UNTRUSTED: &str = "nothing is said of the target, because the times are not to be trusted";
+
 /// What was measured on one scenario; of two numbers the first is busrun's.
 pub struct Row {
     pub letter: char,
@@ -22,11 +25,13 @@ pub struct Row {
     pub counts: [Option<u64>; 2],
 }
 
-pub fn page(machine: &[String], rows: &[Row], notes: &[String]) -> String {
+/// The page, of times that are to be trusted or not.
+pub fn page(machine: &[String], rows: &[Row], notes: &[String], trusted: bool) -> String {
     let machine: String = machine.iter().map(|line| format!("- {line}\n")).collect();
     let table: String = rows.iter().map(Row::line).collect();
     let notes: String = notes.iter().map(|note| format!("{note}\n")).collect();
-    format!("{TITLE}\n\n{machine}\n{HEAD}{table}\n{notes}\n{}\n", verdict(rows))
+    let last = if trusted { verdict(rows) } else { UNTRUSTED.to_string() };
+    format!("{TITLE}\n\n{machine}\n{HEAD}{table}\n{notes}\n{last}\n")
 }
 
 impl Row {
@@ -71,7 +76,7 @@ fn grouped(number: &str) -> String {
     parts.collect::<Vec<_>>().join(",") + rest
 }
 
-/// The last line.
+/// The last line where times are to be trusted.
 fn verdict(rows: &[Row]) -> String {
     let above: Vec<String> = rows
         .iter()
@@ -135,15 +140,24 @@ mod tests {
         );
     }
 
+    fn small_page(trusted: bool) -> String {
+        let row = row('a', 1, 1, [None; 2]);
+        page(&["machine: m".to_string()], &[row], &["A note.".to_string()], trusted)
+    }
+
     #[test]
     fn the_page_is_closed_by_the_verdict() {
-        let page = page(
-            &["machine: m".to_string()],
-            &[row('a', 1, 1, [None; 2])],
-            &["A note.".to_string()],
-        );
+        let page = small_page(true);
         assert!(page.starts_with("# How quick"));
         assert!(page.contains("\n\n- machine: m\n\n| scenario |"));
-        assert!(page.ends_with(" |\n\nA note.\n\ntarget met: the time is at most 3 times the second engine's in each of the four\n"));
+        let (_, last) = page.split_once(" |\n\nA note.\n\n").unwrap();
+        assert!(last.starts_with("target met: ") && last.lines().count() == 1);
+    }
+
+    #[test]
+    fn times_that_are_not_to_be_trusted_have_no_verdict() {
+        let page = small_page(false);
+        assert!(!page.contains("target met") && !page.contains("target not met"));
+        assert!(page.ends_with("\n\nnothing is said of the target, because the times are not to be trusted\n"));
     }
 }
