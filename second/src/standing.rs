@@ -103,7 +103,7 @@ fn window_stands(window: &Window, first: u64) -> bool {
     window.size.is_power_of_two()
         && window.size <= first
         && window.start < first
-        && window.start % window.size == 0
+        && window.start.is_multiple_of(window.size)
         && window.side == side_of(window, first)
 }
 
