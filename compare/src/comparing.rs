@@ -1,188 +1,194 @@
 //! Playing cases through two programs, comparing what they write, and counting.
 
-use crate::case::{case, class_of, missing, Class, Shows};
+use crate::case::{Case, Kind, Shows};
 use crate::running::output_of;
-use std::path::{Path, PathBuf};
+use crate::sets::Set;
+use std::borrow::Cow;
+use std::ops::Range;
 use std::sync::atomic::{AtomicUsize, Ordering};
 use std::sync::Mutex;
 use std::{env, fs, process, thread};
 
-/// The two programs.
+/// Two programs.
 pub struct Pair {
     pub first: String,
     pub second: String,
 }
 
-/// A run of seeded cases. The kind names the files of cases that differ.
-pub struct Seeded<'a> {
-    pub kind: &'static str,
-    pub classes: &'a [&'a Class],
-    pub seed: u64,
-    pub count: usize,
+/// The two that play scenarios, and the two that play scripts.
+pub struct Programs(pub [Pair; 2]);
+
+impl Programs {
+    fn of(&self, set: &Set) -> &Pair {
+        &self.0[usize::from(set.kind == Kind::Script)]
+    }
 }
+
+/// What comes between two scripts that are played as one: the state is written, as at a script's end, and a refused set-up makes it all zero.
+const BETWEEN: &[u8] = b"\nP U 3 0 0 0 0 0 0\n";
+const BETWEEN_SHOWS: &[u8] = b"U 2 0\n";
+
+/// Text up to which scripts are joined.
+const ROOM: usize = 60_000;
 
 impl Pair {
     /// Nothing where both write the same and it shows what it should; otherwise a sentence.
     pub fn fault(&self, input: &[u8], shows: &[Shows]) -> Option<String> {
         let both = output_of(&self.first, input).and_then(|first| Ok((first, output_of(&self.second, input)?)));
-        match both {
-            Err(sentence) => Some(sentence),
-            Ok((first, second)) if first != second => Some(difference(&first, &second)),
-            Ok((first, _)) => {
-                missing(&first, shows).map(|what| format!("both write the same, but it does not show {what}"))
-            }
+        both.map_or_else(Some, |(first, second)| difference(&first, &second, shows))
+    }
+
+    /// The faults of some cases. The first program plays scripts that join as one, and only where that shows a difference one by one.
+    fn faults(&self, cases: &[Cow<Case>]) -> Vec<Option<String>> {
+        if cases.len() > 1 && self.is_same_joined(cases) == Ok(true) {
+            return vec![None; cases.len()];
         }
+        cases.iter().map(|case| self.fault(&case.input, &case.shows)).collect()
+    }
+
+    /// Whether the first program writes for the joined scripts what the second writes for each, and that shows what it should.
+    fn is_same_joined(&self, cases: &[Cow<Case>]) -> Result<bool, String> {
+        let (mut script, mut expected, mut shown) = (Vec::new(), Vec::new(), true);
+        for case in cases {
+            let output = output_of(&self.second, &case.input)?;
+            shown &= missing(&case.shows, &output).is_none();
+            script.extend([&case.input, BETWEEN].concat());
+            expected.extend([&output, BETWEEN_SHOWS].concat());
+        }
+        expected.extend(output_of(&self.second, b" ")?);
+        Ok(shown && output_of(&self.first, &script)? == expected)
     }
 }
 
-/// The first line in which two outputs differ.
-fn difference(first: &[u8], second: &[u8]) -> String {
+/// What is missing in an output, if something is.
+fn missing<'a>(shows: &'a [Shows], output: &[u8]) -> Option<&'a Shows> {
+    let text = String::from_utf8_lossy(output);
+    shows.iter().find(|shown| !shown.is_in(&text))
+}
+
+/// Nothing where two outputs are the same and show what they should; otherwise a sentence, with the first line in which they differ.
+fn difference(first: &[u8], second: &[u8], shows: &[Shows]) -> Option<String> {
+    if first == second {
+        return missing(shows, first).map(|what| format!("both write the same, but it does not show {what:?}"));
+    }
+    let lines =
+        |output: &[u8]| output.split_inclusive(|byte| *byte == b'\n').map(|line| line.to_vec()).collect::<Vec<_>>();
     let (first, second) = (lines(first), lines(second));
-    let at = first
-        .iter()
-        .zip(&second)
-        .take_while(|(one, other)| one == other)
-        .count();
-    format!(
-        "line {}: first {}, second {}",
-        at + 1,
-        shown(first.get(at)),
-        shown(second.get(at))
-    )
+    let at = first.iter().zip(&second).take_while(|(one, other)| one == other).count();
+    let shown = |line: Option<&Vec<u8>>| {
+        line.map_or("has ended".to_string(), |line| format!("{:?}", String::from_utf8_lossy(line)))
+    };
+    Some(format!("line {}: first {:.120}, second {:.120}", at + 1, shown(first.get(at)), shown(second.get(at))))
 }
 
-/// The lines of an output, each with the newline that closes it.
-fn lines(output: &[u8]) -> Vec<String> {
-    output
-        .split_inclusive(|byte| *byte == b'\n')
-        .map(|line| String::from_utf8_lossy(line).into_owned())
-        .collect()
+/// How many failed cases are told, and of how many the input is kept.
+const TOLD: usize = 20;
+const KEPT: usize = 3;
+
+/// Plays all cases and prints what differs, how many of each set were played, and the counts. Yes if none failed.
+pub fn play(sets: &[Set], programs: &Programs) -> bool {
+    let (batches, failed) = (batches(sets), Mutex::new(Vec::new()));
+    each(batches.len(), |at| {
+        let (set, numbers) = batches[at].clone();
+        let cases: Vec<Cow<Case>> = numbers.clone().map(|number| sets[set].case(number)).collect();
+        let faults = numbers.zip(programs.of(&sets[set]).faults(&cases));
+        let faults = faults.filter_map(|(number, fault)| Some((set, number, fault?)));
+        failed.lock().expect("no worker stops").extend(faults);
+    });
+    let mut failed = failed.into_inner().expect("no worker stops");
+    failed.sort();
+    for (at, (set, number, sentence)) in failed.iter().take(TOLD).enumerate() {
+        let kept = if at < KEPT { keep(&sets[*set].case(*number).input, at) } else { String::new() };
+        println!("{}: {sentence}{kept}", told(&sets[*set], *number));
+    }
+    if failed.len() > TOLD {
+        println!("and {} more", failed.len() - TOLD);
+    }
+    sets.iter().for_each(|set| println!("{} played: {}", set.count(), set.name));
+    println!("{} passed, {} failed", places(sets).len() - failed.len(), failed.len());
+    failed.is_empty()
 }
 
-fn shown(line: Option<&String>) -> String {
-    match line {
-        None => "has ended".to_string(),
-        Some(line) if line.chars().count() > 120 => format!("{:?}..", line.chars().take(120).collect::<String>()),
-        Some(line) => format!("{line:?}"),
-    }
+/// A stride that takes cases which are far apart one after the other; a prime, so that it meets them all.
+const STRIDE: usize = 7_919;
+
+/// Plays cases until one differs, seeded ones last, and prints that. Yes if one does.
+pub fn differs(sets: &[Set], programs: &Programs) -> bool {
+    let (seeded, listed): (Vec<_>, Vec<_>) = places(sets).into_iter().partition(|(set, _)| sets[*set].is_drawn());
+    let strided = |places: Vec<(usize, usize)>| (0..places.len()).map(move |at| places[at * STRIDE % places.len()]);
+    let seen = strided(listed).chain(strided(seeded)).find_map(|(set, number)| {
+        let case = sets[set].case(number);
+        let sentence = programs.of(&sets[set]).fault(&case.input, &case.shows)?;
+        Some(format!("{}: {sentence}", told(&sets[set], number)))
+    });
+    println!("{}", seen.as_deref().unwrap_or("no case differs"));
+    seen.is_some()
 }
 
-impl Seeded<'_> {
-    /// Plays all cases and prints what differs, how many of each class were played, and the counts. Yes if none failed.
-    pub fn play(&self, pair: &Pair) -> bool {
-        let failed = self.faults(pair);
-        for (number, sentence) in &failed {
-            let kept = self.keep(*number);
-            println!(
-                "{} {number} ({}): {sentence}; {kept}",
-                self.kind,
-                class_of(self.classes, *number).name
-            );
-        }
-        for (place, class) in self.classes.iter().enumerate() {
-            println!("{} played: {}", self.played(place), class.name);
-        }
-        closing(self.count - failed.len(), failed.len())
-    }
+fn told(set: &Set, number: usize) -> String {
+    format!("{} {number} ({})", set.name, set.case(number).name)
+}
 
-    /// How many cases the class at a place gets.
-    fn played(&self, place: usize) -> usize {
-        (self.count + self.classes.len() - 1 - place) / self.classes.len()
-    }
+/// The cases of all sets: which set, and which number.
+fn places(sets: &[Set]) -> Vec<(usize, usize)> {
+    sets.iter().enumerate().flat_map(|(set, cases)| (0..cases.count()).map(move |number| (set, number))).collect()
+}
 
-    /// The cases that failed, in order, each with its sentence. Several are played at a time.
-    fn faults(&self, pair: &Pair) -> Vec<(usize, String)> {
-        let next = AtomicUsize::new(0);
-        let found = Mutex::new(Vec::new());
-        thread::scope(|scope| {
-            for _ in 0..workers() {
-                scope.spawn(|| loop {
-                    let number = next.fetch_add(1, Ordering::Relaxed);
-                    if number >= self.count {
-                        break;
-                    }
-                    let made = case(self.classes, self.seed, number);
-                    if let Some(sentence) = pair.fault(&made.input, &made.shows) {
-                        found.lock().expect("no worker stops halfway").push((number, sentence));
-                    }
-                });
+/// Which cases are played together: the set, and the numbers. What does not join is by itself.
+fn batches(sets: &[Set]) -> Vec<(usize, Range<usize>)> {
+    let mut batches: Vec<(usize, Range<usize>)> = Vec::new();
+    let mut room = 0;
+    for (set, number) in places(sets) {
+        let length = if sets[set].joins { sets[set].case(number).input.len() + BETWEEN.len() } else { ROOM };
+        match batches.last_mut() {
+            Some((last, numbers)) if *last == set && length <= room => numbers.end += 1,
+            _ => {
+                batches.push((set, number..number + 1));
+                room = ROOM;
             }
-        });
-        let mut found = found.into_inner().expect("no worker stops halfway");
-        found.sort();
-        found
-    }
-
-    /// Writes a case's input to the system's folder for temporary files, and says where it is.
-    fn keep(&self, number: usize) -> String {
-        let path: PathBuf = env::temp_dir().join(format!(
-            "compare-{}-{}-{number}-{}",
-            self.kind,
-            self.seed,
-            process::id()
-        ));
-        match fs::write(&path, case(self.classes, self.seed, number).input) {
-            Ok(()) => format!("input in {}", path.display()),
-            Err(fault) => format!("input not kept: {}: {fault}", path.display()),
         }
+        room = room.saturating_sub(length);
     }
+    batches
 }
 
-/// How many cases are played at a time: one for each processor.
-fn workers() -> usize {
-    thread::available_parallelism().map_or(1, |processors| processors.get())
+/// Does something for each number below a count, for as many at a time as there are processors.
+fn each(count: usize, act: impl Fn(usize) + Sync) {
+    let next = AtomicUsize::new(0);
+    let numbers = || std::iter::from_fn(|| Some(next.fetch_add(1, Ordering::Relaxed)).filter(|number| *number < count));
+    let workers = thread::available_parallelism().map_or(1, |processors| processors.get());
+    thread::scope(|scope| (0..workers).for_each(|_| drop(scope.spawn(|| numbers().for_each(&act)))));
 }
 
-/// Plays files, prints what differs and the counts. Yes if none failed.
-pub fn play_files(pair: &Pair, files: &[&str]) -> bool {
-    let mut failed = 0;
-    for file in files {
-        let fault = match fs::read(Path::new(file)) {
-            Err(fault) => Some(format!("cannot be read: {fault}")),
-            Ok(input) => pair.fault(&input, &[]),
-        };
-        if let Some(sentence) = fault {
-            println!("{file}: {sentence}");
-            failed += 1;
-        }
+/// Writes an input to the system's folder for temporary files, and says where it is.
+fn keep(input: &[u8], at: usize) -> String {
+    let path = env::temp_dir().join(format!("compare-{}-{at}", process::id()));
+    match fs::write(&path, input) {
+        Ok(()) => format!("; input in {}", path.display()),
+        Err(fault) => format!("; input not kept: {}: {fault}", path.display()),
     }
-    closing(files.len() - failed, failed)
-}
-
-/// The last line. Yes if none failed.
-fn closing(passed: usize, failed: usize) -> bool {
-    println!("{passed} passed, {failed} failed");
-    failed == 0
 }
 
 #[cfg(test)]
 mod tests {
     use super::*;
 
+    fn fault(second: &str, shows: &[Shows]) -> Option<String> {
+        Pair { first: "cat".to_string(), second: second.to_string() }.fault(b"a\n", shows)
+    }
+
     #[test]
     fn the_first_difference_is_named() {
-        assert_eq!(
-            difference(b"a\nb\nc\n", b"a\nx\nc\n"),
-            "line 2: first \"b\\n\", second \"x\\n\""
-        );
-        assert_eq!(
-            difference(b"a\n", b"a\nb\n"),
-            "line 2: first has ended, second \"b\\n\""
-        );
-        assert_eq!(difference(b"a\n", b"a"), "line 1: first \"a\\n\", second \"a\"");
+        let told = |first: &str, second: &str| difference(first.as_bytes(), second.as_bytes(), &[]).unwrap();
+        assert_eq!(told("a\nb\nc\n", "a\nx\nc\n"), "line 2: first \"b\\n\", second \"x\\n\"");
+        assert_eq!(told("a\n", "a\nb\n"), "line 2: first has ended, second \"b\\n\"");
+        assert_eq!(told("a\n", "a"), "line 1: first \"a\\n\", second \"a\"");
     }
 
     #[test]
     fn equal_outputs_have_no_fault() {
-        let pair = |second: &str| Pair {
-            first: "cat".to_string(),
-            second: second.to_string(),
-        };
-        assert_eq!(pair("cat").fault(b"a\n", &[]), None);
-        assert!(pair("wc").fault(b"a\n", &[]).is_some());
-        assert!(pair("cat")
-            .fault(b"a\n", &[Shows::Whole("b\n".to_string())])
-            .unwrap()
-            .contains("does not show"));
+        assert_eq!(fault("cat", &[]), None);
+        assert!(fault("wc", &[]).is_some());
+        assert!(fault("cat", &[Shows::End]).unwrap().contains("does not show End"));
     }
 }

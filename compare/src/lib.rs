@@ -1,21 +1,11 @@
-//! The parts of the comparison: the records of a scenario, the cases by class, and playing two programs side by side.
+//! The parts of the comparison: the records of a scenario, the cases, and playing two programs side by side.
 
 pub mod case;
 pub mod comparing;
-#[cfg(test)]
-mod coverage;
-mod damage;
-mod draft;
-pub mod pack;
-mod playing;
+mod edges;
 pub mod records;
 mod running;
-pub mod script;
+mod scenario;
+mod script;
 mod seeded;
-
-use case::Class;
-
-/// All classes of scenarios.
-pub fn scenario_classes() -> Vec<&'static Class> {
-    [playing::classes(), damage::classes()].concat()
-}
+pub mod sets;

@@ -1,74 +1,62 @@
-//! compare: plays seeded or given inputs through two programs and compares what they write; packs hexadecimal text.
+//! compare: plays cases through two programs and compares what they write.
 
-use compare::case::Class;
-use compare::comparing::{play_files, Pair, Seeded};
-use compare::{pack, scenario_classes, script};
-use std::io::{Read, Write};
+use compare::comparing::{differs, play, Pair, Programs};
+use compare::sets::{files, seeded, tables, Set, SCENARIOS, SCRIPTS, SEED};
 use std::process::ExitCode;
 
-const USAGE: &str = "compare: plays inputs through two programs and compares what they write to standard output
+const USAGE: &str = "compare: plays cases through pairs of programs and compares what they write to standard output
 
-  compare scenarios SEED COUNT FIRST SECOND   seeded scenarios
-  compare scripts SEED COUNT FIRST SECOND     seeded scripts of calls
-  compare files FIRST SECOND FILE..           the given inputs
-  compare pack < HEX > BYTES                  hexadecimal text to bytes; '#' passes over the rest of its line
+  compare all PARTS BUSRUN SECOND DRIVE REPLAY FILE..      the tables, the files, and one of so many parts of the seeded cases
+  compare differs BUSRUN SECOND DRIVE REPLAY FILE..        the same, all of them, until the first that differs
+  compare seeded SEED COUNT BUSRUN SECOND DRIVE REPLAY     so many seeded scenarios and so many seeded scripts
 
-FIRST and SECOND are paths of programs that take the input on standard input. The last line is 'N passed, M failed'.
-Exit status: 0 no case failed; 1 a case failed or the text is no hexadecimal; 2 bad usage.
+BUSRUN and SECOND are paths of programs that take a scenario on standard input, DRIVE and REPLAY take a script; a FILE that ends in '.script'
+is a script, any other a scenario. The last line of 'all' and 'seeded' is 'N passed, M failed'.
+Exit status: 0 no case failed, or with 'differs' one did; 1 the opposite, or a file cannot be read; 2 bad usage.
 ";
 
 fn main() -> ExitCode {
     let words: Vec<String> = std::env::args().skip(1).collect();
     let words: Vec<&str> = words.iter().map(String::as_str).collect();
-    let passed = match words.as_slice() {
-        ["scenarios", seed, count, first, second] => {
-            seeded("scenario", &scenario_classes(), seed, count, first, second)
-        }
-        ["scripts", seed, count, first, second] => seeded("script", &script::classes(), seed, count, first, second),
-        ["files", first, second, files @ ..] => Some(play_files(&pair(first, second), files)),
-        ["pack"] => Some(pack()),
-        _ => None,
-    };
-    match passed {
-        Some(true) => ExitCode::SUCCESS,
-        Some(false) => ExitCode::from(1),
+    match done(&words) {
+        Some(Ok(true)) => return ExitCode::SUCCESS,
+        Some(Ok(false)) => {}
+        Some(Err(sentence)) => eprintln!("compare: {sentence}"),
         None => {
             eprint!("{USAGE}");
-            ExitCode::from(2)
+            return ExitCode::from(2);
         }
     }
+    ExitCode::from(1)
 }
 
-fn pair(first: &str, second: &str) -> Pair {
-    Pair {
-        first: first.to_string(),
-        second: second.to_string(),
-    }
-}
-
-/// Plays seeded cases; none where the seed or the count is no number.
-fn seeded(kind: &'static str, classes: &[&Class], seed: &str, count: &str, first: &str, second: &str) -> Option<bool> {
-    let run = Seeded {
-        kind,
-        classes,
-        seed: seed.parse().ok()?,
-        count: count.parse().ok()?,
-    };
-    Some(run.play(&pair(first, second)))
-}
-
-/// Standard input, packed, to standard output. Yes if that went well.
-fn pack() -> bool {
-    let mut text = String::new();
-    let read = std::io::stdin()
-        .read_to_string(&mut text)
-        .map_err(|fault| fault.to_string());
-    let packed = read.and_then(|_| pack::packed(&text));
-    match packed.and_then(|bytes| std::io::stdout().write_all(&bytes).map_err(|fault| fault.to_string())) {
-        Ok(()) => true,
-        Err(sentence) => {
-            eprintln!("compare pack: {sentence}");
-            false
+/// Does what the words say; nothing for words that say nothing.
+fn done(words: &[&str]) -> Option<Result<bool, String>> {
+    Some(match words {
+        ["all", parts, programs @ ..] => {
+            let (programs, paths) = taken(programs)?;
+            all(parts.parse().ok().filter(|parts| *parts > 0)?, paths).map(|sets| play(&sets, &programs))
         }
-    }
+        ["differs", programs @ ..] => {
+            let (programs, paths) = taken(programs)?;
+            all(1, paths).map(|sets| differs(&sets, &programs))
+        }
+        ["seeded", seed, count, programs @ ..] => {
+            let count = count.parse().ok()?;
+            Ok(play(&seeded(seed.parse().ok()?, count, count), &taken(programs)?.0))
+        }
+        _ => return None,
+    })
+}
+
+/// What the gate plays, with one of so many parts of the seeded cases.
+fn all(parts: usize, paths: &[&str]) -> Result<Vec<Set>, String> {
+    Ok([tables(), files(paths)?, seeded(SEED, SCENARIOS / parts, SCRIPTS / parts)].into_iter().flatten().collect())
+}
+
+/// The four programs, and the words after them.
+fn taken<'a, 'b>(words: &'a [&'b str]) -> Option<(Programs, &'a [&'b str])> {
+    let [busrun, second, drive, replay, rest @ ..] = words else { return None };
+    let pair = |first: &str, second: &str| Pair { first: first.to_string(), second: second.to_string() };
+    Some((Programs([pair(busrun, second), pair(drive, replay)]), rest))
 }

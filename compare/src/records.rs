@@ -5,14 +5,19 @@ pub const PRI: u8 = 0;
 pub const RTDG: u8 = 1;
 pub const RTVC: u8 = 2;
 
-/// The kinds' numbers.
-pub const SET_UP: u16 = 1;
-pub const STATION: u16 = 2;
-pub const ARRIVAL: u16 = 3;
-pub const RUN: u16 = 4;
-
 /// The longest scenario, in bytes.
 pub const LONGEST: usize = 65_536;
+/// The last slot of the clock, which is the highest latest start too.
+pub const LAST_SLOT: u32 = 1_073_741_824;
+/// The last slot in which a step is taken.
+pub const LAST_STEP: u32 = 1_073_737_728;
+/// The most packets that are admitted, which is the highest number of one.
+pub const LAST_NUMBER: u64 = 4_294_967_295;
+/// The longest packet.
+pub const LONGEST_PACKET: u16 = 4_096;
+/// The places of a station's queue, and the stations of a full segment.
+pub const QUEUE_PLACES: usize = 16;
+pub const STATIONS: usize = 64;
 
 /// The body of a set-up record: the parameter space is D, the address space A, the laxity step q.
 #[derive(Clone, Debug)]
@@ -50,46 +55,35 @@ pub struct Scenario {
 }
 
 /// A record of a kind with a body; the length is that of kind and body.
-pub fn record(kind: u16, body: &[u8]) -> Vec<u8> {
+fn record(kind: u16, body: &[&[u8]]) -> Vec<u8> {
+    let body = body.concat();
     let length = (2 + body.len()) as u16;
-    let mut bytes = length.to_le_bytes().to_vec();
-    bytes.extend(kind.to_le_bytes());
-    bytes.extend(body);
-    bytes
+    [&length.to_le_bytes(), &kind.to_le_bytes(), body.as_slice()].concat()
 }
 
 impl SetUp {
     pub fn record(&self) -> Vec<u8> {
-        let mut body = vec![self.discipline];
-        body.extend(self.parameters.to_le_bytes());
-        body.extend(self.addresses.to_le_bytes());
-        body.extend(self.laxity_step.to_le_bytes());
-        body.push(self.stations);
-        record(SET_UP, &body)
+        let (parameters, addresses) = (self.parameters.to_le_bytes(), self.addresses.to_le_bytes());
+        record(1, &[&[self.discipline], &parameters, &addresses, &self.laxity_step.to_le_bytes(), &[self.stations]])
     }
 }
 
 impl Station {
     pub fn record(&self) -> Vec<u8> {
-        let mut body = self.address.to_le_bytes().to_vec();
-        body.extend(self.capability.to_le_bytes());
-        record(STATION, &body)
+        record(2, &[&self.address.to_le_bytes(), &self.capability.to_le_bytes()])
     }
 }
 
 impl Arrival {
     pub fn record(&self) -> Vec<u8> {
-        let mut body = self.time.to_le_bytes().to_vec();
-        body.extend(self.address.to_le_bytes());
-        body.extend(self.value.to_le_bytes());
-        body.extend(self.length.to_le_bytes());
-        record(ARRIVAL, &body)
+        let (time, value) = (self.time.to_le_bytes(), self.value.to_le_bytes());
+        record(3, &[&time, &self.address.to_le_bytes(), &value, &self.length.to_le_bytes()])
     }
 }
 
 /// The run record.
 pub fn run(steps: u16) -> Vec<u8> {
-    record(RUN, &steps.to_le_bytes())
+    record(4, &[&steps.to_le_bytes()])
 }
 
 impl Scenario {
@@ -120,58 +114,27 @@ mod tests {
     /// The worked example of the rules.
     const WORKED: &[u8] = include_bytes!("../../examples/worked.scenario");
 
-    fn worked() -> Scenario {
-        let station = |address| Station { address, capability: 0 };
-        let arrival = |address, value, length| Arrival {
-            time: 0,
-            address,
-            value,
-            length,
-        };
-        Scenario {
-            set_up: SetUp {
-                discipline: PRI,
-                parameters: 4,
-                addresses: 8,
-                laxity_step: 1,
-                stations: 3,
-            },
-            stations: vec![station(1), station(5), station(6)],
-            arrivals: vec![arrival(5, 2, 3), arrival(6, 2, 1), arrival(1, 3, 2)],
-            steps: 14,
-        }
-    }
-
     #[test]
     fn worked_example() {
-        assert_eq!(worked().bytes(), WORKED);
-    }
-
-    #[test]
-    fn offsets() {
-        let records = worked().records();
-        assert_eq!(offset(&records, 0), 0);
-        assert_eq!(offset(&records, 1), 16);
-        assert_eq!(offset(&records, 4), 40);
-        assert_eq!(offset(&records, records.len()), worked().bytes().len());
+        let arrival = |address, value, length| Arrival { time: 0, address, value, length };
+        let scenario = Scenario {
+            set_up: SetUp { discipline: PRI, parameters: 4, addresses: 8, laxity_step: 1, stations: 3 },
+            stations: [1, 5, 6].map(|address| Station { address, capability: 0 }).to_vec(),
+            arrivals: vec![arrival(5, 2, 3), arrival(6, 2, 1), arrival(1, 3, 2)],
+            steps: 14,
+        };
+        assert_eq!(scenario.bytes(), WORKED);
+        assert_eq!([0, 1, 4, 8].map(|place| offset(&scenario.records(), place)), [0, 16, 40, WORKED.len()]);
     }
 
     #[test]
     fn every_byte_of_a_field_is_written() {
-        let arrival = Arrival {
-            time: 0x0403_0201,
-            address: 0x0605,
-            value: 0x0A09_0807,
-            length: 0x0C0B,
-        };
-        assert_eq!(arrival.record()[4..], [1, 2, 3, 4, 5, 6, 7, 8, 9, 10, 11, 12]);
-        let set_up = SetUp {
-            discipline: 1,
-            parameters: 0x0504_0302,
-            addresses: 0x0908_0706,
-            laxity_step: 0x0B0A,
-            stations: 12,
-        };
-        assert_eq!(set_up.record()[4..], [1, 2, 3, 4, 5, 6, 7, 8, 9, 10, 11, 12]);
+        let bytes = [1, 2, 3, 4, 5, 6, 7, 8, 9, 10, 11, 12];
+        let arrival = Arrival { time: 0x0403_0201, address: 0x0605, value: 0x0A09_0807, length: 0x0C0B };
+        assert_eq!(arrival.record()[4..], bytes);
+        let (parameters, addresses) = (0x0504_0302, 0x0908_0706);
+        let set_up = SetUp { discipline: 1, parameters, addresses, laxity_step: 0x0B0A, stations: 12 };
+        assert_eq!(set_up.record()[4..], bytes);
+        assert_eq!(Station { address: 0x0201, capability: 0x0403 }.record()[4..], bytes[..4]);
     }
 }

@@ -1,61 +1,45 @@
 //! Running a program on an input.
 
 use std::io::{Read, Write};
-use std::process::{Child, Command, Stdio};
+use std::process::{Command, Stdio};
 use std::sync::mpsc;
 use std::thread;
 use std::time::Duration;
 
-/// How long a program may take for one input.
-const LIMIT: Duration = Duration::from_secs(300);
+/// How long a program may take for one input, and how much it may write.
+const LIMIT: Duration = Duration::from_secs(60);
+const MOST: u64 = 1 << 26;
 
 /// What a program writes to standard output for an input, or a sentence that says how it failed.
 pub fn output_of(program: &str, input: &[u8]) -> Result<Vec<u8>, String> {
-    let mut child = started(program)?;
-    lend(&mut child, input.to_vec());
-    let output = collected(&mut child).ok_or_else(|| format!("{program} was not done after {LIMIT:?}"));
-    if output.is_err() {
-        let _ = child.kill();
-    }
-    let status = child.wait().map_err(|fault| format!("{program}: {fault}"))?;
-    let output = output?;
-    if !status.success() {
-        return Err(format!("{program} ended with {status}"));
-    }
-    if output.is_empty() {
-        return Err(format!("{program} wrote nothing ({status})"));
-    }
-    Ok(output)
+    output_within(LIMIT, program, input)
 }
 
-fn started(program: &str) -> Result<Child, String> {
-    Command::new(program)
-        .stdin(Stdio::piped())
-        .stdout(Stdio::piped())
-        .spawn()
-        .map_err(|fault| format!("{program} does not start: {fault}"))
-}
-
-/// Writes the input from a thread of its own. A program may end before it has read all: that is no fault.
-fn lend(child: &mut Child, input: Vec<u8>) {
-    if let Some(mut pipe) = child.stdin.take() {
-        thread::spawn(move || {
-            let _ = pipe.write_all(&input);
-        });
-    }
-}
-
-/// All that the program writes, unless it takes too long.
-fn collected(child: &mut Child) -> Option<Vec<u8>> {
-    let mut pipe = child.stdout.take()?;
-    let (sender, receiver) = mpsc::channel();
+/// The input is written and the output read by threads of their own. A program may end before it has read all: that is no fault.
+fn output_within(limit: Duration, program: &str, input: &[u8]) -> Result<Vec<u8>, String> {
+    let told = |fault: std::io::Error| format!("{program} does not start: {fault}");
+    let mut command = Command::new(program);
+    command.stdin(Stdio::piped()).stdout(Stdio::piped()).stderr(Stdio::null());
+    let mut child = command.spawn().map_err(told)?;
+    let (mut lent, written) = (child.stdin.take().expect("piped"), child.stdout.take().expect("piped"));
+    let (input, (sender, receiver)) = (input.to_vec(), mpsc::channel());
+    thread::spawn(move || drop(lent.write_all(&input)));
     thread::spawn(move || {
         let mut output = Vec::new();
-        if pipe.read_to_end(&mut output).is_ok() {
-            let _ = sender.send(output);
-        }
+        let read = written.take(MOST).read_to_end(&mut output);
+        sender.send(read.map(|_| output))
     });
-    receiver.recv_timeout(LIMIT).ok()
+    let output = receiver.recv_timeout(limit).ok().and_then(Result::ok).filter(|output| (output.len() as u64) < MOST);
+    if output.is_none() {
+        let _ = child.kill();
+    }
+    let status = child.wait().map_err(told)?;
+    match output {
+        None => Err(format!("{program} was not done after {limit:?}, or wrote {MOST} bytes")),
+        Some(_) if !status.success() => Err(format!("{program} ended with {status}")),
+        Some(output) if output.is_empty() => Err(format!("{program} wrote nothing")),
+        Some(output) => Ok(output),
+    }
 }
 
 #[cfg(test)]
@@ -70,9 +54,11 @@ mod tests {
 
     #[test]
     fn failures_are_told() {
-        assert!(output_of("/nowhere/at/all", b"")
-            .unwrap_err()
-            .contains("does not start"));
-        assert!(output_of("true", b"").unwrap_err().contains("wrote nothing"));
+        let fault =
+            |program, input: &str| output_within(Duration::from_millis(200), program, input.as_bytes()).unwrap_err();
+        assert!(fault("/nowhere/at/all", "").contains("does not start"));
+        assert!(fault("true", "").contains("wrote nothing"));
+        assert!(fault("sh", "echo x; exit 3").contains("ended with"));
+        assert!(fault("sh", "exec sleep 60").contains("not done after"));
     }
 }

@@ -31,7 +31,7 @@ impl Numbers {
     }
 
     /// A number from low to high, both among them.
-    pub fn between(&mut self, low: u64, high: u64) -> u64 {
+    pub fn between(&mut self, (low, high): (u64, u64)) -> u64 {
         low + self.below(high - low + 1)
     }
 
@@ -50,22 +50,10 @@ impl Numbers {
         row[self.place(row.len())]
     }
 
-    /// The row in another order.
-    pub fn shuffle<T>(&mut self, row: &mut [T]) {
-        for end in (1..row.len()).rev() {
-            row.swap(end, self.place(end + 1));
-        }
-    }
-
-    /// So many distinct numbers below the bound, in no order.
+    /// So many distinct numbers below the bound, in no order; all of them where there are no more.
     pub fn distinct(&mut self, many: usize, bound: u64) -> Vec<u64> {
-        let mut row: Vec<u64> = Vec::new();
-        if bound <= 2 * many as u64 {
-            row.extend(0..bound);
-            self.shuffle(&mut row);
-            row.truncate(many);
-        }
-        while row.len() < many {
+        let mut row = Vec::new();
+        while row.len() < many.min(bound as usize) {
             let number = self.below(bound);
             if !row.contains(&number) {
                 row.push(number);
@@ -78,6 +66,7 @@ impl Numbers {
 #[cfg(test)]
 mod tests {
     use super::*;
+    use std::collections::BTreeSet;
 
     #[test]
     fn splitmix64_as_published() {
@@ -88,12 +77,9 @@ mod tests {
 
     #[test]
     fn distinct_numbers_are_distinct() {
-        let mut numbers = Numbers::of(1, 1);
-        for (many, bound) in [(64, 64), (2, 2), (5, 65_536), (64, 65)] {
-            let mut row = numbers.distinct(many, bound);
-            row.sort_unstable();
-            row.dedup();
-            assert_eq!(row.len(), many);
+        for (many, bound, drawn) in [(64, 64, 64), (2, 2, 2), (5, 65_536, 5), (64, 65, 64), (5, 3, 3)] {
+            let row: BTreeSet<u64> = Numbers::of(1, 1).distinct(many, bound).into_iter().collect();
+            assert_eq!(row.len(), drawn);
             assert!(row.iter().all(|number| *number < bound));
         }
     }

@@ -1,57 +1,65 @@
 //! States to be lent: made so that they stand, whether a history leads to them or not.
 
-use super::fields::*;
-use super::text::{set_up_of, Script};
-use crate::draft::{bus, Spaces};
-use crate::records::{PRI, RTDG, RTVC};
+use super::text::{set_up_of, Admission, Script};
+use crate::edges::{edges, Ranges};
+use crate::records::{LAST_NUMBER, LAST_SLOT, LAST_STEP, LONGEST_PACKET, PRI, QUEUE_PLACES, RTDG, RTVC, STATIONS};
+use crate::scenario::{bus, LAXITY_STEPS};
 use crate::seeded::Numbers;
-use std::collections::BTreeMap;
+use std::collections::{BTreeMap, BTreeSet};
+use std::ops::Range;
 
-/// A state: the value of each field and place that is not zero.
-pub struct Lent {
-    values: BTreeMap<(u64, usize), u64>,
+/// The fields of a state, by the numbers that edits call them by.
+#[rustfmt::skip]
+mod field {
+    pub const DISCIPLINE: u64 = 1; pub const PARAMETERS: u64 = 2; pub const ADDRESSES: u64 = 3;
+    pub const LAXITY_STEP: u64 = 4; pub const LISTED: u64 = 5; pub const ADDRESS: u64 = 6;
+    pub const CAPABILITY: u64 = 7; pub const CLOCK: u64 = 8; pub const ADMITTED: u64 = 9; pub const SENT: u64 = 10;
+    pub const LOST: u64 = 11; pub const WON: u64 = 12; pub const LAST_WINNER: u64 = 13; pub const BEGUN: u64 = 14;
+    pub const START: u64 = 15; pub const SIZE: u64 = 16; pub const SIDE: u64 = 17; pub const TIED: u64 = 18;
+    pub const TIE_VALUE: u64 = 19; pub const CONTENDS: u64 = 20; pub const PARAMETER: u64 = 21;
+    pub const OFFERED_NUMBER: u64 = 22; pub const OFFERED_VALUE: u64 = 23; pub const OFFERED_LENGTH: u64 = 24;
+    pub const QUEUE: u64 = 25; pub const NUMBER: u64 = 26; pub const VALUE: u64 = 27; pub const LENGTH: u64 = 28;
+}
+pub use field::*;
+
+/// How many of a field a state has.
+pub fn places(field: u64) -> usize {
+    match field {
+        ADDRESS | CAPABILITY | CONTENDS..=QUEUE => STATIONS,
+        NUMBER..=LENGTH => STATIONS * QUEUE_PLACES,
+        _ => 1,
+    }
+}
+
+/// How many bits a field has.
+pub fn bits(field: u64) -> u32 {
+    match field {
+        WON | BEGUN | SIDE | TIED | CONTENDS => 1,
+        LISTED | ADMITTED | SENT | LOST | START | SIZE | TIE_VALUE | PARAMETER | OFFERED_NUMBER | QUEUE | NUMBER => 64,
+        _ => 32,
+    }
 }
 
 /// Where a lent state is in a contention.
-#[derive(Clone, Copy, PartialEq)]
+#[derive(Clone, Copy, Debug, PartialEq)]
 pub enum Phase {
     Between,
     Parameters,
     Ties,
 }
 
-/// What a lent state is to be like.
-#[derive(Clone, Copy)]
-pub struct Wish {
-    pub discipline: u8,
-    pub phase: Phase,
-    pub stations: usize,
-    pub clock: u64,
-    /// Packets that have been sent.
-    pub sent: u64,
-}
+/// A discipline and a phase.
+pub type State = (u8, Phase);
 
-impl Wish {
-    /// A wish with drawn numbers.
-    pub fn drawn(numbers: &mut Numbers, discipline: u8, phase: Phase) -> Wish {
-        let far = numbers.below(LAST_STEP);
-        Wish {
-            discipline,
-            phase,
-            stations: numbers.pick(&[1, 2, 3, 3, 4, 6]),
-            clock: numbers.pick(&[0, 1, 100, 5_000, far, LAST_STEP - 50]),
-            sent: numbers.pick(&[0, 1, 20, 70_000]),
-        }
-    }
-}
+pub const PHASES: [Phase; 3] = [Phase::Between, Phase::Parameters, Phase::Ties];
+
+/// A state: the value of each field and place that is not zero.
+#[derive(Default)]
+pub struct Lent(BTreeMap<(u64, usize), u64>);
 
 impl Lent {
     pub fn get(&self, field: u64, place: usize) -> u64 {
-        self.values.get(&(field, place)).copied().unwrap_or(0)
-    }
-
-    pub fn set(&mut self, field: u64, place: usize, value: u64) {
-        self.values.insert((field, place), value);
+        self.0.get(&(field, place)).copied().unwrap_or(0)
     }
 
     /// A field that stands once.
@@ -59,160 +67,158 @@ impl Lent {
         self.get(field, 0)
     }
 
+    /// Sets some fields from one on, at a place.
+    fn set(&mut self, from: u64, place: usize, values: &[u64]) {
+        self.0.extend((from..).zip(values).map(|(field, value)| ((field, place), *value)));
+    }
+
     /// How many stations are listed.
     pub fn stations(&self) -> usize {
-        self.one(STATIONS) as usize
+        self.one(LISTED) as usize
     }
 
     /// The places of a station's queue that have a packet.
-    pub fn filled(&self, station: usize) -> std::ops::Range<usize> {
+    pub fn filled(&self, station: usize) -> Range<usize> {
         let first = QUEUE_PLACES * station;
         first..first + self.get(QUEUE, station) as usize
     }
 
     /// The set-up and an edit for every other field that is not zero.
     pub fn write(&self, script: &mut Script) {
-        let row: Vec<(u64, u64)> = (0..self.stations())
-            .map(|place| (self.get(ADDRESS, place), self.get(CAPABILITY, place)))
-            .collect();
+        let station = |place| [ADDRESS, CAPABILITY].map(|field| self.get(field, place));
+        let row: Vec<[u64; 2]> = (0..self.stations()).map(station).collect();
         let numbers = [DISCIPLINE, PARAMETERS, ADDRESSES, LAXITY_STEP].map(|field| self.one(field));
         script.set_up(numbers, row.len() as u64, row.len() as u64, &row);
-        let rest = self
-            .values
-            .iter()
-            .filter(|((field, _), value)| *field >= CLOCK && **value != 0);
+        let rest = self.0.iter().filter(|((field, _), value)| *field >= CLOCK && **value != 0);
         rest.for_each(|((field, place), value)| script.edit(*field, *place, *value));
     }
 
-    /// A state that stands.
-    pub fn made(numbers: &mut Numbers, wish: Wish) -> Lent {
-        let mut lent = Lent {
-            values: BTreeMap::new(),
-        };
-        lent.list(numbers, wish);
-        lent.set(CLOCK, 0, wish.clock);
-        lent.queue_up(numbers, wish);
-        if wish.discipline == RTVC && numbers.once_in(2) {
-            let winner = numbers.place(lent.stations());
-            lent.set(WON, 0, 1);
-            lent.set(LAST_WINNER, 0, lent.get(CAPABILITY, winner));
+    /// A state that stands, of a discipline and phase, with so many stations where there is room, and queues of drawn lengths.
+    pub fn made(numbers: &mut Numbers, (discipline, phase): State, stations: u64, clock: u64, lengths: &[u64]) -> Lent {
+        let mut lent = Lent::default();
+        let spaces: &[u32] = if stations > 8 { &[64, 257, 65_536] } else { &[2, 3, 4, 5, 7, 8, 16, 257, 65_536] };
+        let (fields, row) = set_up_of(&bus(numbers, discipline, spaces, LAXITY_STEPS, stations));
+        lent.set(DISCIPLINE, 0, &fields);
+        lent.set(LISTED, 0, &[row.len() as u64]);
+        row.iter().enumerate().for_each(|(place, station)| lent.set(ADDRESS, place, station));
+        lent.set(CLOCK, 0, &[clock]);
+        lent.queue_up(numbers, lengths);
+        if discipline == RTVC && numbers.once_in(2) {
+            lent.set(WON, 0, &[1, numbers.pick(&row)[1]]);
         }
-        if wish.phase != Phase::Between {
-            lent.contend(numbers);
-            lent.split(numbers, wish.phase);
+        if phase != Phase::Between {
+            (0..row.len()).for_each(|station| lent.contend(numbers, station));
+            lent.split(numbers, phase);
         }
         lent
     }
 
-    fn list(&mut self, numbers: &mut Numbers, wish: Wish) {
-        let row = if wish.stations > 8 {
-            vec![64, 257, 65_536]
-        } else {
-            vec![2, 3, 4, 5, 7, 8, 16, 257, 65_536]
-        };
-        let spaces = Spaces::drawn(numbers, wish.discipline, &row);
-        let (fields, stations) = set_up_of(&bus(numbers, spaces, wish.stations));
-        for (field, value) in (DISCIPLINE..).zip(fields) {
-            self.set(field, 0, value);
-        }
-        self.set(STATIONS, 0, stations.len() as u64);
-        for (place, (address, capability)) in stations.into_iter().enumerate() {
-            self.set(ADDRESS, place, address);
-            self.set(CAPABILITY, place, capability);
-        }
-    }
-
     /// Queues with packets, and the counts that go with them.
-    fn queue_up(&mut self, numbers: &mut Numbers, wish: Wish) {
-        let lengths: Vec<usize> = (0..self.stations())
-            .map(|_| numbers.pick(&[0, 1, 1, 2, 3, 5]))
-            .collect();
-        let waiting: usize = lengths.iter().sum();
-        let lost = numbers.pick(&[0, 0, 1, 9]);
-        let admitted = waiting as u64 + wish.sent + lost;
-        self.set(ADMITTED, 0, admitted);
-        self.set(SENT, 0, wish.sent);
-        self.set(LOST, 0, lost);
-        let mut packets = numbers.distinct(waiting, admitted.max(1));
+    fn queue_up(&mut self, numbers: &mut Numbers, lengths: &[u64]) {
+        let lengths: Vec<u64> = (0..self.stations()).map(|_| numbers.pick(lengths)).collect();
+        let waiting: u64 = lengths.iter().sum();
+        let (sent, lost) = (numbers.pick(&[0, 1, 20, 70_000]), numbers.pick(&[0, 0, 1, 9]));
+        let admitted = waiting + sent + lost;
+        self.set(ADMITTED, 0, &[admitted, sent, lost]);
+        let mut packets = numbers.distinct(waiting as usize, admitted.max(1));
         for (station, length) in lengths.into_iter().enumerate() {
-            let mut own: Vec<u64> = packets.drain(..length).collect();
+            let mut own: Vec<u64> = packets.drain(..length as usize).collect();
             own.sort_unstable();
-            self.set(QUEUE, station, length as u64);
+            self.set(QUEUE, station, &[length]);
             for (place, number) in (QUEUE_PLACES * station..).zip(own) {
-                self.set(NUMBER, place, number + 1);
-                let value = self.value(numbers);
-                self.set(VALUE, place, value);
-                self.set(LENGTH, place, numbers.pick(&[1, 1, 2, 5, 4_096]));
+                self.set(NUMBER, place, &[number + 1, self.value(numbers), numbers.pick(&[1, 1, 2, 5, 4_096])]);
             }
         }
     }
 
     /// A value that a packet may have. In RTDG it is near the clock, on either side.
-    pub fn value(&self, numbers: &mut Numbers) -> u64 {
+    fn value(&self, numbers: &mut Numbers) -> u64 {
         match self.one(DISCIPLINE) as u8 {
             PRI => numbers.below(self.one(PARAMETERS)),
-            RTDG => (self.one(CLOCK) + numbers.below(40)).saturating_sub(5).min(LAST_SLOT),
+            RTDG => (self.one(CLOCK) + numbers.below(40)).saturating_sub(5).min(LAST_SLOT.into()),
             _ => 0,
         }
     }
 
-    /// Some stations that have a packet contend with one of theirs.
-    fn contend(&mut self, numbers: &mut Numbers) {
-        for station in 0..self.stations() {
-            let places = self.filled(station);
-            if places.is_empty() || numbers.once_in(5) {
-                continue;
-            }
-            let place = places.start + numbers.place(places.len());
-            let space = self.one(PARAMETERS);
-            let parameter = match self.one(DISCIPLINE) as u8 {
-                PRI => self.get(VALUE, place),
-                RTVC => self.get(CAPABILITY, station),
-                _ => numbers.pick(&[0, 1, space - 1, shared_parameter(station, space)]),
-            };
-            self.set(CONTENDS, station, 1);
-            self.set(PARAMETER, station, parameter);
-            self.set(OFFERED_NUMBER, station, self.get(NUMBER, place));
-            self.set(OFFERED_VALUE, station, self.get(VALUE, place));
-            self.set(OFFERED_LENGTH, station, self.get(LENGTH, place));
+    /// A station that has a packet mostly contends with one of its own.
+    fn contend(&mut self, numbers: &mut Numbers, station: usize) {
+        let (filled, space) = (self.filled(station), self.one(PARAMETERS));
+        if filled.is_empty() || numbers.once_in(5) {
+            return;
         }
+        let place = filled.start + numbers.place(filled.len());
+        let [number, value, length] = [NUMBER, VALUE, LENGTH].map(|field| self.get(field, place));
+        let parameter = match self.one(DISCIPLINE) as u8 {
+            PRI => value,
+            RTVC => self.get(CAPABILITY, station),
+            _ => numbers.pick(&[0, 1, space - 1, station as u64 / 2 % space]),
+        };
+        self.set(CONTENDS, station, &[1, parameter, number, value, length]);
     }
 
-    /// A window that stands, often one that a contender is in.
+    /// A window that stands, often one that a contender is in, and in a tie often that contender's parameter.
     fn split(&mut self, numbers: &mut Numbers, phase: Phase) {
         let contender = numbers.place(self.stations());
-        let (space, inside) = match phase {
-            Phase::Ties => (self.one(ADDRESSES), self.get(ADDRESS, contender)),
-            _ => (self.one(PARAMETERS), self.get(PARAMETER, contender)),
-        };
-        let first = space.next_power_of_two();
+        let parameter = self.get(PARAMETER, contender);
+        let tied = phase == Phase::Ties;
+        let (space, inside) = if tied { (ADDRESSES, self.get(ADDRESS, contender)) } else { (PARAMETERS, parameter) };
+        let first = self.one(space).next_power_of_two();
         let size = first >> numbers.below(u64::from(first.trailing_zeros()) + 1);
-        let multiple = if numbers.once_in(4) {
-            numbers.below(first / size)
-        } else {
-            inside / size
-        };
-        self.set(BEGUN, 0, 1);
-        self.set(START, 0, multiple * size);
-        self.set(SIZE, 0, size);
-        self.set(SIDE, 0, if size == first { 1 } else { multiple % 2 });
-        if phase == Phase::Ties {
+        let multiple = if numbers.once_in(4) { numbers.below(first / size) } else { inside / size };
+        let side = if size == first { 1 } else { multiple % 2 };
+        self.set(BEGUN, 0, &[1, multiple * size, size, side]);
+        if tied {
             let any = numbers.below(self.one(PARAMETERS));
-            self.set(TIED, 0, 1);
-            self.set(
-                TIE_VALUE,
-                0,
-                if numbers.once_in(4) {
-                    any
-                } else {
-                    self.get(PARAMETER, contender)
-                },
-            );
+            self.set(TIED, 0, &[1, if numbers.once_in(4) { any } else { parameter }]);
         }
     }
-}
 
-/// A parameter that depends on the station alone, so that several stations share one.
-fn shared_parameter(station: usize, space: u64) -> u64 {
-    (station as u64 / 2) % space
+    /// An admission that the state takes, if the queue has a place.
+    pub fn admission(&self, numbers: &mut Numbers) -> Admission {
+        let station = numbers.place(self.stations());
+        [self.get(ADDRESS, station), self.value(numbers), 1]
+    }
+
+    /// The places that a field is tried at: some that have a meaning, and some that have none.
+    pub fn spots(&self, field: u64) -> Vec<usize> {
+        let last = self.stations() - 1;
+        let around =
+            |queue: Range<usize>| [queue.start, queue.end.max(1) - 1, queue.end, queue.start + QUEUE_PLACES - 1];
+        match places(field) {
+            1 => vec![0],
+            STATIONS => vec![0, last, (last + 1) % STATIONS, STATIONS - 1],
+            all => {
+                [around(self.filled(0)), around(self.filled(last)), [QUEUE_PLACES * (last + 1) % all, all - 1, 1, 2]]
+                    .concat()
+            }
+        }
+    }
+
+    /// The values that a field at a place is tried with: at the edges of what it may be, in this state or in another, at those of others of
+    /// its kind, and at its bits.
+    pub fn tried(&self, field: u64, place: usize) -> BTreeSet<u64> {
+        let (parameters, addresses, admitted) = (self.one(PARAMETERS), self.one(ADDRESSES), self.one(ADMITTED));
+        let one = |field, place| (self.get(field, place), self.get(field, place));
+        let others = |field, places: Range<usize>| places.map(move |place| one(field, place));
+        let stations = 0..self.stations();
+        let (start, size) = (self.one(START), self.one(SIZE));
+        let ranges: Ranges = match field {
+            DISCIPLINE => vec![(0, 2)],
+            PARAMETERS | ADDRESSES => vec![(2, 65_536)],
+            LAXITY_STEP => vec![(1, 65_535)],
+            LISTED => vec![(1, STATIONS as u64)],
+            ADDRESS => others(ADDRESS, stations).chain([(0, addresses - 1)]).collect(),
+            CAPABILITY | LAST_WINNER => others(CAPABILITY, stations).chain([(0, parameters - 1)]).collect(),
+            CLOCK => vec![(0, LAST_SLOT.into()), (0, LAST_STEP.into())],
+            ADMITTED | SENT | LOST => vec![(0, LAST_NUMBER)],
+            START | SIZE => vec![(start, start + size), (size / 2, 2 * size), (parameters, addresses)],
+            TIE_VALUE | PARAMETER => others(PARAMETER, stations).chain([(0, parameters - 1)]).collect(),
+            OFFERED_NUMBER | NUMBER => others(NUMBER, self.filled(0)).chain([(1, admitted)]).collect(),
+            OFFERED_VALUE | VALUE => vec![(0, parameters - 1), (self.one(CLOCK), LAST_SLOT.into())],
+            OFFERED_LENGTH | LENGTH => vec![(1, LONGEST_PACKET.into())],
+            QUEUE => vec![(0, QUEUE_PLACES as u64)],
+            _ => Vec::new(),
+        };
+        edges(bits(field), self.get(field, place), &ranges)
+    }
 }

@@ -1,21 +1,11 @@
-//! Scripts of calls, by class (docs/DRIVE.md says how a script reads).
+//! Scripts of calls (docs/DRIVE.md says how a script reads): the tables of calls and of lent states, and the seeded ones.
 
-mod blocks;
-mod edits;
-mod ends;
-mod fields;
-mod lending;
+mod calls;
+mod drawn;
 mod lent;
-mod odd;
-mod played;
+mod states;
 mod text;
 
-use crate::case::Class;
-
-/// All classes of scripts.
-pub fn classes() -> Vec<&'static Class> {
-    [played::CLASSES, lending::CLASSES, ends::CLASSES, odd::CLASSES]
-        .into_iter()
-        .flatten()
-        .collect()
-}
+pub use calls::{admissions, asked, odd_texts, set_ups};
+pub use drawn::drawn;
+pub use states::{listed, swept};

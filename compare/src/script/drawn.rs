@@ -1,0 +1,124 @@
+//! Seeded scripts, for what no table foresees. A class is a line; the classes go in rotation.
+
+use super::lent::{Lent, CLOCK, DISCIPLINE, LENGTH, PHASES};
+use super::text::{set_up_of, Admission, Script};
+use crate::case::{Case, Shows};
+use crate::records::{Scenario, LAST_NUMBER, LAST_SLOT, LAST_STEP};
+use crate::scenario::{bus, value, LARGE, LAXITY_STEPS, SMALL};
+use crate::seeded::Numbers;
+
+/// A class: how many blocks a script of it has at most, what a block is, and what the script shows. A block works on a state of its own.
+struct Class(&'static str, u64, fn(&mut Numbers, &mut Script), &'static [Shows]);
+
+#[rustfmt::skip]
+const CLASSES: &[Class] = &[
+    Class("played", 3, played, &[]),
+    Class("lent",   4, lent,   &[Shows::AllStand]),
+    Class("edited", 3, edited, &[]),
+];
+
+/// The seeded script of a number.
+pub fn drawn(seed: u64, number: usize) -> Case {
+    let Class(name, most, block, shows) = &CLASSES[number % CLASSES.len()];
+    let mut numbers = Numbers::of(seed, number as u64);
+    let mut script = Script::default();
+    for _ in 0..numbers.between((most.div_ceil(2), *most)) {
+        block(&mut numbers, &mut script);
+        script.put("P");
+    }
+    Case::new(*name, script.text, shows.to_vec())
+}
+
+fn discipline(numbers: &mut Numbers) -> u8 {
+    numbers.below(3) as u8
+}
+
+/// Admissions, most of which pass, steps, stretches, closing numbers and states.
+fn played(numbers: &mut Numbers, script: &mut Script) {
+    let (discipline, wanted) = (discipline(numbers), numbers.between((1, 6)));
+    let spaces = if numbers.once_in(4) { LARGE } else { SMALL };
+    let scenario = bus(numbers, discipline, spaces, LAXITY_STEPS, wanted);
+    let (fields, row) = set_up_of(&scenario);
+    script.set_up(fields, row.len() as u64, row.len() as u64, &row);
+    for slot in 0..numbers.between((20, 80)) {
+        match numbers.below(10) {
+            0..=3 => script.admit(&admission(numbers, &scenario, slot)),
+            4..=7 => script.put("S"),
+            8 => stretch(numbers, script, slot, |numbers| admission(numbers, &scenario, slot)),
+            _ => script.put(numbers.pick(&["T", "P"])),
+        }
+    }
+}
+
+/// An admission; one in eight may have a number that is refused.
+fn admission(numbers: &mut Numbers, scenario: &Scenario, slot: u64) -> Admission {
+    let station = scenario.stations[numbers.place(scenario.stations.len())];
+    let address = u64::from(station.address);
+    let value = u64::from(value(numbers, scenario, slot as u32));
+    let length = numbers.pick(&[1, 1, 2, 3, 7]);
+    match numbers.below(24) {
+        0 => [address ^ numbers.pick(&[1, 0x0100, 0x1_0000]), value, length],
+        1 => [address, numbers.pick(&[u64::MAX, u64::from(LAST_SLOT) + 1, 65_536, 0]), length],
+        2 => [address, value, numbers.pick(&[0, 4_096, 4_097, 1 << 31])],
+        _ => [address, value, length],
+    }
+}
+
+/// A stretch of drawn admissions, due at once, about now or later, in a row as long as they are, shorter or longer; no steps, some, or more
+/// than it has calls.
+fn stretch(numbers: &mut Numbers, script: &mut Script, clock: u64, draw: impl Fn(&mut Numbers) -> Admission) {
+    let many = numbers.pick(&[0, 0, 1, 2, 5, 20, 64, 66]);
+    let (from, span) = (numbers.pick(&[0, clock]), numbers.pick(&[1, 10, 100]));
+    let four = |[address, value, length]: Admission, numbers: &mut Numbers| {
+        [from + numbers.below(span), address, value, length]
+    };
+    let fours: Vec<[u64; 4]> = (0..many).map(|_| four(draw(numbers), numbers)).collect();
+    let odd = numbers.pick(&[many / 2, many + 1, 64, 65, u64::MAX]);
+    let length = if numbers.once_in(4) { odd } else { many };
+    let far = numbers.pick(&[512, 600, LAST_NUMBER]);
+    let steps = if numbers.once_in(60) { far } else { numbers.pick(&[0, 1, 1, 2, 5, 20]) };
+    script.stretch(steps, length, &fours);
+}
+
+/// A state of a drawn discipline and phase, with few stations.
+fn drawn_state(numbers: &mut Numbers, script: &mut Script) -> Lent {
+    let (discipline, phase, far) = (discipline(numbers), numbers.pick(&PHASES), numbers.below(LAST_STEP.into()));
+    let clock = numbers.pick(&[0, 1, 100, far, u64::from(LAST_STEP) - 5, LAST_STEP.into()]);
+    let stations = numbers.pick(&[1, 2, 3, 3, 4, 6]);
+    let lent = Lent::made(numbers, (discipline, phase), stations, clock, &[0, 1, 1, 2, 3, 5]);
+    lent.write(script);
+    lent
+}
+
+/// A lent state that stands, and play from there.
+fn lent(numbers: &mut Numbers, script: &mut Script) {
+    let lent = drawn_state(numbers, script);
+    script.put("T");
+    for _ in 0..numbers.between((6, 16)) {
+        match numbers.below(8) {
+            0..=1 => script.admit(&lent.admission(numbers)),
+            2 => stretch(numbers, script, lent.one(CLOCK), |numbers| lent.admission(numbers)),
+            _ => script.put("S"),
+        }
+    }
+}
+
+/// A lent state with one field after another edited, each call on it, and the edit taken back. What an edit leaves standing goes on from there.
+fn edited(numbers: &mut Numbers, script: &mut Script) {
+    let lent = drawn_state(numbers, script);
+    for _ in 0..3 {
+        let field = numbers.between((DISCIPLINE, LENGTH));
+        let place = numbers.pick(&lent.spots(field));
+        let values: Vec<u64> = lent.tried(field, place).into_iter().collect();
+        script.edit(field, place, numbers.pick(&values));
+        let admission = lent.admission(numbers);
+        script.admit(&admission);
+        script.put("P S P T");
+        if numbers.once_in(3) {
+            stretch(numbers, script, 0, |_| admission);
+            script.put("P");
+        }
+        script.edit(field, place, lent.get(field, place));
+        script.put("T");
+    }
+}

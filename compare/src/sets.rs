@@ -1,0 +1,114 @@
+//! All cases, in sets: the tables, the seeded ones, and files.
+
+use crate::case::{Case, Kind};
+use crate::{scenario, script};
+use std::borrow::Cow;
+use std::fs;
+
+/// The gate's seeded cases: their seed, and how many there are.
+pub const SEED: u64 = 1;
+pub const SCENARIOS: usize = 4_000;
+pub const SCRIPTS: usize = 1_160;
+
+/// Some cases of one kind. Scripts that end with whole commands can be joined to one.
+pub struct Set {
+    pub name: &'static str,
+    pub kind: Kind,
+    pub joins: bool,
+    cases: Cases,
+}
+
+enum Cases {
+    Listed(Vec<Case>),
+    Drawn { seed: u64, count: usize, draw: fn(u64, usize) -> Case },
+}
+
+impl Set {
+    fn new(name: &'static str, kind: Kind, cases: Cases) -> Set {
+        Set { name, kind, joins: kind == Kind::Script, cases }
+    }
+
+    fn listed(name: &'static str, kind: Kind, cases: Vec<Case>) -> Set {
+        Set::new(name, kind, Cases::Listed(cases))
+    }
+
+    pub fn is_drawn(&self) -> bool {
+        matches!(self.cases, Cases::Drawn { .. })
+    }
+
+    pub fn count(&self) -> usize {
+        match &self.cases {
+            Cases::Listed(cases) => cases.len(),
+            Cases::Drawn { count, .. } => *count,
+        }
+    }
+
+    /// The case of a number.
+    pub fn case(&self, number: usize) -> Cow<'_, Case> {
+        match &self.cases {
+            Cases::Listed(cases) => Cow::Borrowed(&cases[number]),
+            Cases::Drawn { seed, draw, .. } => Cow::Owned(draw(*seed, number)),
+        }
+    }
+}
+
+/// The tables.
+pub fn tables() -> Vec<Set> {
+    vec![
+        Set::listed("fields of a scenario", Kind::Scenario, scenario::fields()),
+        Set::listed("times that fall", Kind::Scenario, scenario::falling_times()),
+        Set::listed("faults of a scenario, one or two", Kind::Scenario, scenario::pairs()),
+        Set::listed("cuts of a scenario", Kind::Scenario, scenario::cuts()),
+        Set::listed("sizes of scenarios and runs", Kind::Scenario, scenario::sizes()),
+        Set::listed("numbers of calls", Kind::Script, script::asked()),
+        Set::listed("faults of a set-up, one or two", Kind::Script, script::set_ups()),
+        Set::listed("faults of admissions, none or more", Kind::Script, script::admissions()),
+        Set::listed("states of scripts/lent.table", Kind::Script, script::listed()),
+        Set::listed("fields of lent states", Kind::Script, script::swept()),
+        Set { joins: false, ..Set::listed("odd texts", Kind::Script, script::odd_texts()) },
+    ]
+}
+
+/// So many seeded scenarios and so many seeded scripts.
+pub fn seeded(seed: u64, scenarios: usize, scripts: usize) -> Vec<Set> {
+    vec![
+        Set::new("seeded scenarios", Kind::Scenario, Cases::Drawn { seed, count: scenarios, draw: scenario::drawn }),
+        Set::new("seeded scripts", Kind::Script, Cases::Drawn { seed, count: scripts, draw: script::drawn }),
+    ]
+}
+
+/// Files, of which those that end in '.script' are scripts and the others scenarios.
+pub fn files(paths: &[&str]) -> Result<Vec<Set>, String> {
+    let read = |path: &&str| fs::read(path).map_err(|fault| format!("{path}: {fault}"));
+    let cases = |paths: Vec<&str>| {
+        paths.iter().map(|path| Ok(Case::new(*path, read(path)?, Vec::new()))).collect::<Result<_, String>>()
+    };
+    let (scripts, scenarios) = paths.iter().partition(|path| path.ends_with(".script"));
+    Ok(vec![
+        Set::listed("files of scenarios", Kind::Scenario, cases(scenarios)?),
+        Set::listed("files of scripts", Kind::Script, cases(scripts)?),
+    ])
+}
+
+#[cfg(test)]
+mod tests {
+    use super::*;
+    use crate::records::LONGEST;
+    use std::collections::BTreeSet;
+
+    #[test]
+    fn a_case_of_a_table_is_told_by_its_name() {
+        for set in tables() {
+            let names: BTreeSet<String> = (0..set.count()).map(|number| set.case(number).name.clone()).collect();
+            assert_eq!(names.len(), set.count(), "{}", set.name);
+        }
+    }
+
+    #[test]
+    fn scripts_are_read_to_their_end() {
+        let sets = [tables(), seeded(SEED, 0, 200)].into_iter().flatten();
+        for set in sets.filter(|set| set.joins) {
+            assert!((0..set.count()).all(|number| set.case(number).input.len() < LONGEST), "{}", set.name);
+        }
+    }
+}
