@@ -79,15 +79,13 @@ pub fn seeded(seed: u64, scenarios: usize, scripts: usize) -> Vec<Set> {
 
 /// Files, of which those that end in '.script' are scripts and the others scenarios.
 pub fn files(paths: &[&str]) -> Result<Vec<Set>, String> {
-    let read = |path: &&str| fs::read(path).map_err(|fault| format!("{path}: {fault}"));
-    let cases = |paths: Vec<&str>| {
-        paths.iter().map(|path| Ok(Case::new(*path, read(path)?, Vec::new()))).collect::<Result<_, String>>()
+    let case =
+        |path: &str| Ok(Case::new(path, fs::read(path).map_err(|fault| format!("{path}: {fault}"))?, Vec::new()));
+    let set = |name, kind, are_scripts| {
+        let paths = paths.iter().filter(|path| path.ends_with(".script") == are_scripts);
+        paths.map(|path| case(path)).collect::<Result<_, String>>().map(|cases| Set::listed(name, kind, cases))
     };
-    let (scripts, scenarios) = paths.iter().partition(|path| path.ends_with(".script"));
-    Ok(vec![
-        Set::listed("files of scenarios", Kind::Scenario, cases(scenarios)?),
-        Set::listed("files of scripts", Kind::Script, cases(scripts)?),
-    ])
+    Ok(vec![set("files of scenarios", Kind::Scenario, false)?, set("files of scripts", Kind::Script, true)?])
 }
 
 #[cfg(test)]

@@ -1,8 +1,7 @@
 //! Seeded scenarios, for what no table foresees. A class is a line; the classes go in rotation.
 
-use super::station;
 use crate::case::{Case, Shows};
-use crate::records::{Arrival, Scenario, SetUp, LAST_SLOT, LONGEST_PACKET, PRI, RTDG, RTVC};
+use crate::records::{Arrival, Scenario, SetUp, Station, LAST_SLOT, LONGEST_PACKET, PRI, RTDG, RTVC};
 use crate::seeded::Numbers;
 use Shows::{Drop, End, Tie, Turned};
 use Sort::{Any, Damaged, Far, Near, Same, Steps, Upper};
@@ -90,7 +89,8 @@ fn listed(numbers: &mut Numbers, discipline: u8, row: &[u32], steps: &[u16], man
     let many = many as usize;
     let drawn = by(numbers, many, addresses.into());
     let capabilities = if discipline == RTVC { by(numbers, many, parameters.into()) } else { vec![0; many] };
-    let stations: Vec<_> = drawn.into_iter().zip(capabilities).map(|(a, c)| station((a as u16, c as u16))).collect();
+    let station = |(address, capability)| Station { address: address as u16, capability: capability as u16 };
+    let stations: Vec<Station> = drawn.into_iter().zip(capabilities).map(station).collect();
     let set_up = SetUp { discipline, parameters, addresses, laxity_step, stations: stations.len() as u8 };
     Scenario { set_up, stations, arrivals: Vec::new(), steps: 0 }
 }

@@ -27,14 +27,14 @@ fn plain(discipline: u8) -> Scenario {
             laxity_step: if discipline == RTDG { 10 } else { 1 },
             stations: 3,
         },
-        stations: [7, 263, 299].into_iter().zip(capabilities).map(station).collect(),
+        stations: [7, 263, 299]
+            .into_iter()
+            .zip(capabilities)
+            .map(|(address, capability)| Station { address, capability })
+            .collect(),
         arrivals: vec![arrival(0, 263, 2), arrival(SLOT, 7, 1), arrival(SLOT, 299, 4)],
         steps: 40,
     }
-}
-
-fn station((address, capability): (u16, u16)) -> Station {
-    Station { address, capability }
 }
 
 /// A scenario that is refused as a whole.

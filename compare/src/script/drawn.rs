@@ -29,13 +29,9 @@ pub fn drawn(seed: u64, number: usize) -> Case {
     Case::new(*name, script.text, shows.to_vec())
 }
 
-fn discipline(numbers: &mut Numbers) -> u8 {
-    numbers.below(3) as u8
-}
-
 /// Admissions, most of which pass, steps, stretches, closing numbers and states.
 fn played(numbers: &mut Numbers, script: &mut Script) {
-    let (discipline, wanted) = (discipline(numbers), numbers.between((1, 6)));
+    let (discipline, wanted) = (numbers.below(3) as u8, numbers.between((1, 6)));
     let spaces = if numbers.once_in(4) { LARGE } else { SMALL };
     let scenario = bus(numbers, discipline, spaces, LAXITY_STEPS, wanted);
     let (fields, row) = set_up_of(&scenario);
@@ -82,7 +78,7 @@ fn stretch(numbers: &mut Numbers, script: &mut Script, clock: u64, draw: impl Fn
 
 /// A state of a drawn discipline and phase, with few stations.
 fn drawn_state(numbers: &mut Numbers, script: &mut Script) -> Lent {
-    let (discipline, phase, far) = (discipline(numbers), numbers.pick(&PHASES), numbers.below(LAST_STEP.into()));
+    let (discipline, phase, far) = (numbers.below(3) as u8, numbers.pick(&PHASES), numbers.below(LAST_STEP.into()));
     let clock = numbers.pick(&[0, 1, 100, far, u64::from(LAST_STEP) - 5, LAST_STEP.into()]);
     let stations = numbers.pick(&[1, 2, 3, 3, 4, 6]);
     let lent = Lent::made(numbers, (discipline, phase), stations, clock, &[0, 1, 1, 2, 3, 5]);

@@ -16,25 +16,26 @@ pub fn listed() -> Vec<Case> {
     let mut cases = Vec::new();
     for line in TABLE.lines().filter(|line| !line.is_empty() && !line.starts_with('#')) {
         let parts: Vec<&str> = line.split('|').map(str::trim).collect();
-        match parts[..] {
-            ["base", name, admission, calls] => drop(bases.insert(name, (admission, calls))),
-            [name, base, edits] => {
-                let (base, more) = base.split_once(": ").unwrap_or((base, ""));
-                let (admission, calls) =
-                    bases.get(base).unwrap_or_else(|| panic!("scripts/lent.table has no base '{base}'"));
-                cases.push(lent(name, &format!("{calls} {more}"), admission, edits));
+        let (stands, name, base, edits) = match parts[..] {
+            ["base", name, admission, calls] => {
+                bases.insert(name, (admission, calls));
+                continue;
             }
+            ["stands", name, base, edits] => (true, name, base, edits),
+            [name, base, edits] => (false, name, base, edits),
             _ => panic!("scripts/lent.table has a line that cannot be read: {line}"),
-        }
+        };
+        let (base, more) = base.split_once(": ").unwrap_or((base, ""));
+        let (admission, calls) = bases.get(base).unwrap_or_else(|| panic!("scripts/lent.table has no base '{base}'"));
+        cases.push(lent(name, &format!("{calls} {more}"), admission, edits, stands));
     }
     cases
 }
 
-/// A state after some calls and edits. One whose name begins with 'stands' is played; any other is refused by each call.
-fn lent(name: &str, calls: &str, admission: &str, edits: &str) -> Case {
-    let address =
-        admission.split(' ').next().and_then(|word| word.parse().ok()).expect("an admission begins with an address");
-    let (then, shows) = if name.starts_with("stands") { ("T", Shows::AllStand) } else { ("", Shows::Broken(address)) };
+/// A state after some calls and edits: one that stands is played, any other is refused by each call.
+fn lent(name: &str, calls: &str, admission: &str, edits: &str, stands: bool) -> Case {
+    let address = admission.split(' ').next().and_then(|word| word.parse().ok()).expect("an address comes first");
+    let (then, shows) = if stands { ("T", Shows::AllStand) } else { ("", Shows::Broken(address)) };
     let text = format!("{calls} T {edits} {then} P A {admission} S R 1 1 1 0 {admission} T");
     Case::new(name, text, vec![shows])
 }
