@@ -36,8 +36,8 @@ pub enum Shows {
     AllStand,
     /// Of a script: the answers to its calls, in order, where one is given.
     Answers(Vec<Option<String>>),
-    /// Of a script: a state that stands is changed and written, then an admission, a step, the two of a stretch with an arrival for this
-    /// address, and the closing numbers are refused with 1 and zeros, and the state is as it was.
+    /// Of a script: a state that stands is changed and written; an admission, a step, a stretch with an arrival for this
+    /// address, and the closing numbers are all refused with 1, and the state is as it was.
     Broken(u64),
 }
 

@@ -24,7 +24,7 @@ impl Programs {
     }
 }
 
-/// What comes between two scripts that are played as one: the state is written, as at a script's end, and a refused set-up makes it all zero.
+/// Between two scripts that are played as one the state is written, as at an end, and a refused set-up makes it all zero.
 const BETWEEN: &[u8] = b"\nP U 3 0 0 0 0 0 0\n";
 const BETWEEN_SHOWS: &[u8] = b"U 2 0\n";
 
@@ -38,15 +38,20 @@ impl Pair {
         both.map_or_else(Some, |(first, second)| difference(&first, &second, shows))
     }
 
-    /// The faults of some cases. The first program plays scripts that join as one, and only where that shows a difference one by one.
+    /// The faults of some cases. The first program plays several as one script, and one by one only where that differs;
+    /// where none has a fault by itself, the first is told for all.
     fn faults(&self, cases: &[Cow<Case>]) -> Vec<Option<String>> {
         if cases.len() > 1 && self.is_same_joined(cases) == Ok(true) {
             return vec![None; cases.len()];
         }
-        cases.iter().map(|case| self.fault(&case.input, &case.shows)).collect()
+        let mut faults: Vec<_> = cases.iter().map(|case| self.fault(&case.input, &case.shows)).collect();
+        if cases.len() > 1 && faults.iter().all(Option::is_none) {
+            faults[0] = Some(format!("it and the {} after it differ, but only as one script", cases.len() - 1));
+        }
+        faults
     }
 
-    /// Whether the first program writes for the joined scripts what the second writes for each, and that shows what it should.
+    /// Whether the first program writes for the joined scripts what the second writes for each, and it shows all.
     fn is_same_joined(&self, cases: &[Cow<Case>]) -> Result<bool, String> {
         let (mut script, mut expected, mut shown) = (Vec::new(), Vec::new(), true);
         for case in cases {
@@ -66,7 +71,7 @@ fn missing<'a>(shows: &'a [Shows], output: &[u8]) -> Option<&'a Shows> {
     shows.iter().find(|shown| !shown.is_in(&text))
 }
 
-/// Nothing where two outputs are the same and show what they should; otherwise a sentence, with the first line in which they differ.
+/// Nothing where two outputs are the same and show what they should; otherwise a sentence, with the first line that differs.
 fn difference(first: &[u8], second: &[u8], shows: &[Shows]) -> Option<String> {
     if first == second {
         return missing(shows, first).map(|what| format!("both write the same, but it does not show {what:?}"));

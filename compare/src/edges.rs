@@ -1,4 +1,4 @@
-//! The values that a field is tried with: at the edges of what it may be, and at its bits; and the faults that are tried together.
+//! The values that a field is tried with, at the edges of what it may be and at its bits; the faults that are tried together.
 
 use std::collections::BTreeSet;
 
@@ -10,8 +10,8 @@ pub fn within(ranges: &Ranges, value: u64) -> bool {
     ranges.iter().any(|(low, high)| (*low..=*high).contains(&value))
 }
 
-/// The values for a field of so many bits: 0, 1 and the highest; the ends of each range with what lies beside them; what is there now
-/// with a bit turned, the lowest or one beside the end of a byte, and the numbers beside it.
+/// The values for a field of so many bits: 0, 1 and the highest; the ends of each range and what lies beside them; what is
+/// there now with a bit turned, the lowest or one beside the end of a byte, and what lies beside it.
 pub fn edges(bits: u32, now: u64, ranges: &Ranges) -> BTreeSet<u64> {
     let most = u64::MAX >> (64 - bits);
     let beside = |value: u64| [value.saturating_sub(1), value, value.saturating_add(1)];

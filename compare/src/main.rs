@@ -6,12 +6,12 @@ use std::process::ExitCode;
 
 const USAGE: &str = "compare: plays cases through pairs of programs and compares what they write to standard output
 
-  compare all PARTS BUSRUN SECOND DRIVE REPLAY FILE..      the tables, the files, and one of so many parts of the seeded cases
-  compare differs BUSRUN SECOND DRIVE REPLAY FILE..        the same, all of them, until the first that differs
-  compare seeded SEED COUNT BUSRUN SECOND DRIVE REPLAY     so many seeded scenarios and so many seeded scripts
+  compare all PARTS BUSRUN SECOND DRIVE REPLAY FILE..     the tables, the files, and one of so many parts of seeded cases
+  compare differs BUSRUN SECOND DRIVE REPLAY FILE..       the same, all of them, until the first that differs
+  compare seeded SEED COUNT BUSRUN SECOND DRIVE REPLAY    so many seeded scenarios and so many seeded scripts
 
-BUSRUN and SECOND are paths of programs that take a scenario on standard input, DRIVE and REPLAY take a script; a FILE that ends in '.script'
-is a script, any other a scenario. The last line of 'all' and 'seeded' is 'N passed, M failed'.
+BUSRUN and SECOND are paths of programs that take a scenario on standard input, DRIVE and REPLAY take a script; a FILE
+that ends in '.script' is a script, any other a scenario. The last line of 'all' and 'seeded' is 'N passed, M failed'.
 Exit status: 0 no case failed, or with 'differs' one did; 1 the opposite, or a file cannot be read; 2 bad usage.
 ";
 

@@ -15,7 +15,7 @@ pub fn output_of(program: &str, input: &[u8]) -> Result<Vec<u8>, String> {
     output_within(LIMIT, program, input)
 }
 
-/// The input is written and the output read by threads of their own. A program may end before it has read all: that is no fault.
+/// Threads of their own write the input and read the output. That a program ends before it has read all is no fault.
 fn output_within(limit: Duration, program: &str, input: &[u8]) -> Result<Vec<u8>, String> {
     let told = |fault: std::io::Error| format!("{program} does not start: {fault}");
     let mut command = Command::new(program);

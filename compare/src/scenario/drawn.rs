@@ -34,34 +34,34 @@ enum Sort {
     Damaged,
 }
 
-/// A class: the disciplines and spaces that it draws from, how many stations and packets, up to which slot they arrive, their sort and
-/// lengths, the steps, and what the listing shows. Packets that arrive at slot 0 go to the stations in turn.
+/// A class: its disciplines, spaces, how many stations and packets, up to which slot they arrive, their sort and lengths, the
+/// steps, and what the listing shows. Packets that arrive at slot 0 go to the stations in turn.
 #[rustfmt::skip]
 struct Class(
-    &'static str, &'static [u8], &'static [u32], (u64, u64), (u64, u64), u64, Sort, &'static [u16], u16, &'static [Shows],
+    &'static str, &'static [u8], &'static [u32], (u64, u64), (u64, u64), u64, Sort, &'static [u16], u16, &'static [Shows]
 );
 
 const ALL: &[u8] = &[PRI, RTDG, RTVC];
 
 #[rustfmt::skip]
 const CLASSES: &[Class] = &[
-    Class("small spaces",           ALL,          SMALL,  (1, 8),   (3, 20),        40,    Any,      SHORT,    60,    &[End]),
-    Class("large spaces",           ALL,          LARGE,  (1, 8),   (3, 20),        40,    Any,      SHORT,    60,    &[End]),
-    Class("many stations",          ALL,          WIDE,   (16, 64), (30, 90),       30,    Any,      SHORT,    60,    &[End]),
-    Class("all queues full",        ALL,          WIDE,   (64, 64), (1_025, 1_090), 0,     Any,      &[1],     30,    &[Turned(15)]),
-    Class("equal parameters",       &[PRI, RTDG], BOTH,   (2, 10),  (10, 24),       0,     Same,     SHORT,    70,    &[Tie]),
-    Class("upper bytes",            ALL,          LARGE,  (2, 6),   (4, 16),        20,    Upper,    SHORT,    90,    &[End]),
-    Class("late packets",           &[RTDG],      BOTH,   (2, 8),   (12, 30),       0,     Near(4),  SHORT,    80,    &[Drop]),
-    Class("late in a tie",          &[RTDG],      BOTH,   (2, 8),   (20, 40),       0,     Near(12), SHORT,    80,    &[Drop]),
-    Class("long packets",           ALL,          SMALL,  (1, 6),   (6, 20),        50,    Near(90), &[100],   40,    &[End]),
-    Class("latest starts far off",  &[RTDG],      BOTH,   (2, 6),   (4, 12),        5,     Far,      SHORT,    70,    &[End]),
-    Class("whole laxity steps",     &[RTDG],      BOTH,   (2, 6),   (6, 20),        10,    Steps,    &[1],     60,    &[End]),
-    Class("queues filled again",    ALL,          SMALL,  (1, 3),   (50, 70),       25,    Any,      &[1],     60,    &[End]),
-    Class("a packet a slot",        ALL,          BOTH,   (2, 8),   (40, 60),       40,    Any,      &[1, 2],  100,   &[End]),
-    Class("busy circuits",          &[RTVC],      BOTH,   (2, 8),   (8, 40),        10,    Any,      &[1],     120,   &[End]),
-    Class("longest packets",        ALL,          SMALL,  (1, 4),   (6, 14),        5_000, Any,      LONG,     60,    &[End]),
-    Class("long runs",              ALL,          BOTH,   (4, 12),  (60, 300),      2_000, Any,      SHORT,    1_000, &[End]),
-    Class("damaged",                ALL,          BOTH,   (2, 6),   (3, 8),         20,    Damaged,  SHORT,    40,    &[]),
+    Class("small spaces",          ALL,          SMALL, (1, 8),   (3, 20),        40,    Any,      SHORT,   60,    &[End]),
+    Class("large spaces",          ALL,          LARGE, (1, 8),   (3, 20),        40,    Any,      SHORT,   60,    &[End]),
+    Class("many stations",         ALL,          WIDE,  (16, 64), (30, 90),       30,    Any,      SHORT,   60,    &[End]),
+    Class("all queues full",       ALL,          WIDE,  (64, 64), (1_025, 1_090), 0,     Any,      &[1],    30,    &[Turned(15)]),
+    Class("equal parameters",      &[PRI, RTDG], BOTH,  (2, 10),  (10, 24),       0,     Same,     SHORT,   70,    &[Tie]),
+    Class("upper bytes",           ALL,          LARGE, (2, 6),   (4, 16),        20,    Upper,    SHORT,   90,    &[End]),
+    Class("late packets",          &[RTDG],      BOTH,  (2, 8),   (12, 30),       0,     Near(4),  SHORT,   80,    &[Drop]),
+    Class("late in a tie",         &[RTDG],      BOTH,  (2, 8),   (20, 40),       0,     Near(12), SHORT,   80,    &[Drop]),
+    Class("long packets",          ALL,          SMALL, (1, 6),   (6, 20),        50,    Near(90), &[100],  40,    &[End]),
+    Class("latest starts far off", &[RTDG],      BOTH,  (2, 6),   (4, 12),        5,     Far,      SHORT,   70,    &[End]),
+    Class("whole laxity steps",    &[RTDG],      BOTH,  (2, 6),   (6, 20),        10,    Steps,    &[1],    60,    &[End]),
+    Class("queues filled again",   ALL,          SMALL, (1, 3),   (50, 70),       25,    Any,      &[1],    60,    &[End]),
+    Class("a packet a slot",       ALL,          BOTH,  (2, 8),   (40, 60),       40,    Any,      &[1, 2], 100,   &[End]),
+    Class("busy circuits",         &[RTVC],      BOTH,  (2, 8),   (8, 40),        10,    Any,      &[1],    120,   &[End]),
+    Class("longest packets",       ALL,          SMALL, (1, 4),   (6, 14),        5_000, Any,      LONG,    60,    &[End]),
+    Class("long runs",             ALL,          BOTH,  (4, 12),  (60, 300),      2_000, Any,      SHORT,   1_000, &[End]),
+    Class("damaged",               ALL,          BOTH,  (2, 6),   (3, 8),         20,    Damaged,  SHORT,   40,    &[]),
 ];
 
 /// The seeded scenario of a number.
@@ -76,8 +76,7 @@ pub fn drawn(seed: u64, number: usize) -> Case {
 /// Laxity steps for any packets.
 pub const LAXITY_STEPS: &[u16] = &[1, 1, 2, 3, 10, 1_000, 65_535];
 
-/// A bus with so many stations, or as many as there is room for: spaces, laxity step, addresses and capabilities are drawn. No arrivals and
-/// no steps.
+/// A bus with so many stations, or as many as there is room for; spaces, laxity step, addresses and capabilities are drawn.
 pub fn bus(numbers: &mut Numbers, discipline: u8, spaces: &[u32], laxity_steps: &[u16], wanted: u64) -> Scenario {
     listed(numbers, discipline, spaces, laxity_steps, wanted, Numbers::distinct)
 }

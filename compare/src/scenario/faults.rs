@@ -1,4 +1,4 @@
-//! Scenarios with one fault or with two, so that the order of the checks shows; cut at every byte; as long as they may be, and longer.
+//! Scenarios with one fault or two, so that the order of the checks shows; cut at every byte; as long as may be, and longer.
 
 use super::{plain, refused};
 use crate::case::{Case, Shows};
@@ -7,7 +7,7 @@ use crate::records::{offset, run, Arrival, Scenario, LONGEST, PRI, RTDG, RTVC};
 
 type Records = Vec<Vec<u8>>;
 
-/// A fault of the plain RTVC scenario: the refusal, the record at whose offset it is told, and the change that makes it.
+/// A fault of the plain RTVC scenario: the refusal, the record at whose offset it is told, its name and its change.
 struct Fault(u8, usize, &'static str, fn(&mut Records));
 
 /// The faults in the order in which they are tried. Records 1 to 3 are the stations, 4 to 6 the arrivals, 7 the run.
@@ -68,7 +68,7 @@ fn cut(records: &mut Records, place: usize, kept: usize) {
     records[place].truncate(kept);
 }
 
-/// Each fault alone and each two of them. The one that is tried later is made first, since a cut leaves nothing behind it to change.
+/// Each fault alone and each two of them. The later one is made first: a cut leaves nothing behind it to change.
 pub fn pairs() -> Vec<Case> {
     alone_and_with(FAULTS).into_iter().map(|(fault, later)| fault.case(later)).collect()
 }

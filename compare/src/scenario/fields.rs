@@ -5,8 +5,8 @@ use crate::case::{Case, Shows};
 use crate::edges::{edges, within, Ranges};
 use crate::records::{offset, LAST_SLOT, LONGEST_PACKET, PRI, RTDG};
 
-/// A field of the plain scenario: the place of its record and its own in it, its bytes, what refuses it, and what it may be in the disciplines
-/// that it is tried in.
+/// A field of the plain scenario: the place of its record and its own in it, its bytes, what refuses it, and what it may be
+/// in each discipline that it is tried in.
 struct Field(&'static str, usize, usize, usize, u8, &'static [&'static [(u64, u64)]]);
 
 /// The table of fields. A kind from 1 to 4 may be refused too, but not as one that is unknown.
@@ -67,7 +67,7 @@ impl Field {
     }
 }
 
-/// The line of the arrival that is refused for this value. A latest start below the clock is in its range, but too late.
+/// The line of the arrival that is refused for this value. A latest start below the clock is too late.
 fn turned_away(refusal: u8, discipline: u8, value: u64) -> String {
     let address = if refusal == 11 { value } else { 7 };
     let late = refusal == 12 && discipline == RTDG && value < SLOT.into();

@@ -14,7 +14,7 @@ pub use fields::{falling_times, fields};
 /// The slot in which the second arrival of the plain scenario is admitted, whatever the discipline.
 const SLOT: u32 = 3;
 
-/// The scenario that the tables change: D 5 and A 300 are no powers of two; addresses 7 and 263 are equal in their low byte, 299 is the last.
+/// The scenario that the tables change: D 5 and A 300 are no powers of two, addresses 7 and 263 have one low byte.
 fn plain(discipline: u8) -> Scenario {
     let capabilities = if discipline == RTVC { [4, 0, 2] } else { [0; 3] };
     let value = [4, 40, 0][usize::from(discipline)];

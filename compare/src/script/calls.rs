@@ -1,5 +1,5 @@
-//! Tables of calls: each number of a set-up, an admission and a clock at its edges and bits; each two faults of a set-up, and all faults of an
-//! admission, at once; texts that are odd.
+//! Tables of calls: each number of a set-up, an admission and a clock at its edges and bits; each two faults of a set-up,
+//! and all faults of an admission, at once; texts that are odd.
 
 use super::lent::{ADMITTED, CLOCK, LAST_WINNER, SENT};
 use super::text::{words, Script};
@@ -7,7 +7,7 @@ use crate::case::{Case, Shows};
 use crate::edges::{alone_and_with, edges, within};
 use crate::records::{LAST_NUMBER, LAST_SLOT, LAST_STEP, LONGEST, LONGEST_PACKET, PRI, QUEUE_PLACES, RTDG, RTVC};
 
-/// The numbers of a set-up as a script has them: discipline, D, A, q, N, the row's length, the pairs, and an address and a capability of each.
+/// The numbers of a set-up in a script: discipline, D, A, q, N, the row's length, the pairs, and each station's two.
 fn plain(discipline: u8) -> [u64; 13] {
     let laxity_step = if discipline == RTDG { 10 } else { 1 };
     let [one, two, three] = if discipline == RTVC { [4, 0, 2] } else { [0; 3] };
@@ -70,8 +70,8 @@ pub fn admissions() -> Vec<Case> {
     (0..3 * 96).map(case).collect()
 }
 
-/// An admission on a state that is broken or not, whose queue is full or not, and whose numbers are spent or not; of an address that is
-/// another's in its low byte or not, and of no length or not. The value is good, below the clock, or higher than any.
+/// An admission on a state that is broken or not, whose queue is full or not, whose numbers are spent or not; for an address
+/// that no station has or not, of length 0 or 1. The value is good, below the clock, or higher than any.
 fn admission(discipline: u8, [broken, full, spent, unknown, short]: [bool; 5], value: usize) -> Case {
     let (good, waiting) = (values(discipline).0, if full { QUEUE_PLACES as u64 } else { 1 });
     let asked = [if unknown { 519 } else { 7 }, [good, NOW - 1, LAST + 1][value], u64::from(!short)];
@@ -99,8 +99,8 @@ fn admission(discipline: u8, [broken, full, spent, unknown, short]: [bool; 5], v
     Case::new(name, script.text, vec![Shows::Answers(answers)])
 }
 
-/// A number of the plain set-up, of an admission after it or of the clock then: which word of the script it is, its bits, what refuses it, and
-/// what it may be in each discipline. A row of three stations has room for no N above 3.
+/// A number of the plain set-up, of an admission after it or of the clock then: which word of the script it is, its bits, what
+/// refuses it, and what it may be in each discipline. A row of three stations has room for no N above 3.
 struct Number(&'static str, usize, u32, u8, [&'static [(u64, u64)]; 3]);
 
 const SPACE: [&[(u64, u64)]; 3] = [&[(2, 65_536)]; 3];
@@ -143,7 +143,7 @@ impl Number {
         Case::new(format!("{name}, discipline {discipline}"), text.text, vec![Shows::Answers(answers)])
     }
 
-    /// What the set-up, the admission and the step answer, where that is sure. A latest start below the clock is in its range, but too late.
+    /// What the set-up, the admission and the step answer, where that is sure.
     fn answers(&self, discipline: u8, value: u64, good: bool) -> [Option<String>; 3] {
         let set_up = || Some("U 0 0".to_string());
         match self.3 {
@@ -177,12 +177,12 @@ const TEXTS: &[&str] = &[
     "U0,4,8,1,3,3,3:1-0;5-0;6-0 A5/2/3A6 2 1 A 1\t3\r\n2SSR2,1,1:0-5/2/3S",
     "U 0 4 8 1 3 3 3 1 0 5 0 6 0 A 5 2 3 # S S S\nS xyz S ~ Q 1 2 3 S",
     "U 0 4 8 1 3 3 3 1 0 5 0 6 0 A 5 # 2 3 is read\nS",
-    "U 1 8 16 10 2 2 2 1 0 2 0 E 8 0 99999999999999999999999999 P T E 8 0 18446744073709551609 P E 8 0 18446744073709551610 P",
+    "U 1 8 16 10 1 1 1 1 0 E 8 0 99999999999999999999999 P T E 8 0 18446744073709551609 P E 8 0 18446744073709551610 P",
     "U 0 4 8 1 2 2 2 1 0 2 0 E 9 0 18446744073709551609 P E 10 0 18446744073709551615 P E 5 0 18446744073709551616 P T",
     "U 0 4 8 1 2 2 2 1 0 2 0 E 0 0 1 E 29 0 1 E 1000 0 1 E 18446744073709551615 0 1 P S",
     "U 0 4 8 1 2 2 2 1 0 2 0 E 6 64 3 E 6 129 5 E 26 1024 7 E 27 1047 9 E 25 18446744073709551615 4 P",
-    "U 4294967296 4294967300 8 4294967297 2 2 2 4294967297 0 2 4294967296 A 1 0 1 S R 4294967298 1 1 4294967296 4294967297 0 4294967297 P",
+    "U 4294967296 4294967300 8 4294967297 1 1 1 4294967297 4294967296 A 1 0 1 R 4294967298 1 1 4294967296 4294967297 0 1 P",
     "U 0 4 8 1 2 2 70 1 0 2 0 3 0 4 0 5 0 6 0 7 0 0 0 A 1 0 1 S",
     "U 0 4 8 1 2 2 2 1 0 2",
-    "U 2 4 8 1 2 2 2 1 0 2 3 E 12 0 3 E 13 0 3 P T E 12 0 2 P T E 17 0 7 E 17 0 6 A 1 0 1 R 2 2 18446744073709551615 0 1 0 1 0 1",
+    "U 2 4 8 1 2 2 2 1 0 2 3 E 12 0 3 E 13 0 3 P T E 12 0 2 P T E 17 0 7 E 17 0 6 A 1 0 1 R 2 2 18446744073709551615 0 1 0 1",
 ];

@@ -7,7 +7,7 @@ use crate::records::{Scenario, LAST_NUMBER, LAST_SLOT, LAST_STEP};
 use crate::scenario::{bus, value, LARGE, LAXITY_STEPS, SMALL};
 use crate::seeded::Numbers;
 
-/// A class: how many blocks a script of it has at most, what a block is, and what the script shows. A block works on a state of its own.
+/// A class: how many blocks a script of it has at most, each on a state of its own, what a block is, and what it shows.
 struct Class(&'static str, u64, fn(&mut Numbers, &mut Script), &'static [Shows]);
 
 #[rustfmt::skip]
@@ -60,8 +60,8 @@ fn admission(numbers: &mut Numbers, scenario: &Scenario, slot: u64) -> Admission
     }
 }
 
-/// A stretch of drawn admissions, due at once, about now or later, in a row as long as they are, shorter or longer; no steps, some, or more
-/// than it has calls.
+/// A stretch of drawn admissions, due at once, about now or later, in a row as long as they are, shorter or longer; no steps,
+/// some, or more than it has calls.
 fn stretch(numbers: &mut Numbers, script: &mut Script, clock: u64, draw: impl Fn(&mut Numbers) -> Admission) {
     let many = numbers.pick(&[0, 0, 1, 2, 5, 20, 64, 66]);
     let (from, span) = (numbers.pick(&[0, clock]), numbers.pick(&[1, 10, 100]));
@@ -99,7 +99,7 @@ fn lent(numbers: &mut Numbers, script: &mut Script) {
     }
 }
 
-/// A lent state with one field after another edited, each call on it, and the edit taken back. What an edit leaves standing goes on from there.
+/// A lent state with one field after another edited, each call on it, and the edit taken back.
 fn edited(numbers: &mut Numbers, script: &mut Script) {
     let lent = drawn_state(numbers, script);
     for _ in 0..3 {

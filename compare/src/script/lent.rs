@@ -93,7 +93,7 @@ impl Lent {
         rest.for_each(|((field, place), value)| script.edit(*field, *place, *value));
     }
 
-    /// A state that stands, of a discipline and phase, with so many stations where there is room, and queues of drawn lengths.
+    /// A state that stands, with so many stations where there is room, and queues of drawn lengths.
     pub fn made(numbers: &mut Numbers, (discipline, phase): State, stations: u64, clock: u64, lengths: &[u64]) -> Lent {
         let mut lent = Lent::default();
         let spaces: &[u32] = if stations > 8 { &[64, 257, 65_536] } else { &[2, 3, 4, 5, 7, 8, 16, 257, 65_536] };
@@ -194,8 +194,8 @@ impl Lent {
         }
     }
 
-    /// The values that a field at a place is tried with: at the edges of what it may be, in this state or in another, at those of others of
-    /// its kind, and at its bits.
+    /// The values that a field at a place is tried with: at the edges of what it may be, in this state or in another, those
+    /// of others of its kind, and at its bits.
     pub fn tried(&self, field: u64, place: usize) -> BTreeSet<u64> {
         let (parameters, addresses, admitted) = (self.one(PARAMETERS), self.one(ADDRESSES), self.one(ADMITTED));
         let one = |field, place| (self.get(field, place), self.get(field, place));

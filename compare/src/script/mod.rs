@@ -1,4 +1,4 @@
-//! Scripts of calls (docs/DRIVE.md says how a script reads): the tables of calls and of lent states, and the seeded ones.
+//! Scripts of calls (docs/DRIVE.md says how they read): the tables of calls and of lent states, and the seeded ones.
 
 mod calls;
 mod drawn;

@@ -1,4 +1,4 @@
-//! Tables of lent states: those of scripts/lent.table, and every field of states that stand with every value at its edges and bits.
+//! Tables of lent states: those of scripts/lent.table, and states that stand with every field at its edges and bits.
 
 use super::lent::{bits, places, Lent, State, DISCIPLINE, LENGTH, PHASES};
 use super::text::Script;
@@ -40,8 +40,8 @@ fn lent(name: &str, calls: &str, admission: &str, edits: &str, stands: bool) -> 
     Case::new(name, text, vec![shows])
 }
 
-/// Every field of a state in each discipline and phase with each of its values; and the last of each field, with a few values, of states with
-/// 64 stations and full queues, on which calls follow.
+/// Every field of a state in each discipline and phase with each of its values; and the last of each field, with a few
+/// values, of states with 64 stations and full queues, on which calls follow.
 pub fn swept() -> Vec<Case> {
     let states = [PRI, RTDG, RTVC].into_iter().flat_map(|discipline| PHASES.map(|phase| (discipline, phase)));
     let swept = |(at, state): (usize, State)| {
@@ -62,7 +62,7 @@ fn each_value(lent: &Lent, field: u64) -> String {
     script.text
 }
 
-/// A state, and whether it stands with the last of each field one higher, one lower, zero, or with its top bit turned; steps, and a stretch.
+/// A state, and whether it stands with the last of each field one higher, one lower, 0 or with its top bit turned; calls.
 fn last_of_each(lent: &Lent) -> String {
     let mut script = begun(lent);
     for field in DISCIPLINE..=LENGTH {

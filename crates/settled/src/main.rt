@@ -1,5 +1,5 @@
 // The settled examples that are run, and calls for each refusal 1 to 17. Every standing condition has its broken states in
-// scripts/standing.script and scripts/no-meaning.script, which the program drive lends to the calls.
+// scripts/lent.table, which the program drive lends to the calls.
 mod edits;
 mod lines;
 mod refusals;
