@@ -117,14 +117,15 @@ pub fn play(sets: &[Set], programs: &Programs) -> bool {
 /// A stride that takes cases which are far apart one after the other; a prime, so that it meets them all.
 const STRIDE: usize = 7_919;
 
-/// Plays cases until one differs, seeded ones last, and prints that. Yes if one does.
+/// Plays cases until one differs, small sets first and seeded ones last, and prints that. Yes if one does.
 pub fn differs(sets: &[Set], programs: &Programs) -> bool {
-    let (seeded, listed): (Vec<_>, Vec<_>) = places(sets).into_iter().partition(|(set, _)| sets[*set].is_drawn());
-    let strided = |places: Vec<(usize, usize)>| (0..places.len()).map(move |at| places[at * STRIDE % places.len()]);
-    let seen = strided(listed).chain(strided(seeded)).find_map(|(set, number)| {
-        let case = sets[set].case(number);
-        let sentence = programs.of(&sets[set]).fault(&case.input, &case.shows)?;
-        Some(format!("{}: {sentence}", told(&sets[set], number)))
+    let mut order: Vec<&Set> = sets.iter().collect();
+    order.sort_by_key(|set| (set.is_drawn(), set.count()));
+    let places = order.into_iter().flat_map(|set| (0..set.count()).map(move |at| (set, at * STRIDE % set.count())));
+    let seen = places.into_iter().find_map(|(set, number)| {
+        let case = set.case(number);
+        let sentence = programs.of(set).fault(&case.input, &case.shows)?;
+        Some(format!("{}: {sentence}", told(set, number)))
     });
     println!("{}", seen.as_deref().unwrap_or("no case differs"));
     seen.is_some()

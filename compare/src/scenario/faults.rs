@@ -5,10 +5,8 @@ use crate::case::{Case, Shows};
 use crate::edges::alone_and_with;
 use crate::records::{offset, run, Arrival, Scenario, LONGEST, PRI, RTDG, RTVC};
 
-type Records = Vec<Vec<u8>>;
-
 /// A fault of the plain RTVC scenario: the refusal, the record at whose offset it is told, its name and its change.
-struct Fault(u8, usize, &'static str, fn(&mut Records));
+struct Fault(u8, usize, &'static str, fn(&mut Vec<Vec<u8>>));
 
 /// The faults in the order in which they are tried. Records 1 to 3 are the stations, 4 to 6 the arrivals, 7 the run.
 const FAULTS: &[Fault] = &[
@@ -63,7 +61,7 @@ fn plain_record(place: usize) -> Vec<u8> {
 }
 
 /// Keeps so many bytes of the record at a place, and none after it.
-fn cut(records: &mut Records, place: usize, kept: usize) {
+fn cut(records: &mut Vec<Vec<u8>>, place: usize, kept: usize) {
     records.truncate(place + 1);
     records[place].truncate(kept);
 }

@@ -103,14 +103,13 @@ fn admission(discipline: u8, [broken, full, spent, unknown, short]: [bool; 5], v
 /// refuses it, and what it may be in each discipline. A row of three stations has room for no N above 3.
 struct Number(&'static str, usize, u32, u8, [&'static [(u64, u64)]; 3]);
 
-const SPACE: [&[(u64, u64)]; 3] = [&[(2, 65_536)]; 3];
 const LAST: u64 = LAST_SLOT as u64;
 
 #[rustfmt::skip]
 const NUMBERS: &[Number] = &[
     Number("discipline",            1,  32, 2,  [&[(0, 2)]; 3]),
-    Number("D",                     2,  32, 3,  SPACE),
-    Number("A",                     3,  32, 4,  SPACE),
+    Number("D",                     2,  32, 3,  [&[(2, 65_536)]; 3]),
+    Number("A",                     3,  32, 4,  [&[(2, 65_536)]; 3]),
     Number("q",                     4,  32, 5,  [&[(1, 1)], &[(1, 65_535)], &[(1, 1)]]),
     Number("N",                     5,  64, 6,  [&[(1, 3)]; 3]),
     Number("row's length",          6,  64, 6,  [&[(3, u64::MAX)]; 3]),

@@ -10,12 +10,8 @@ use crate::seeded::Numbers;
 /// A class: how many blocks a script of it has at most, each on a state of its own, what a block is, and what it shows.
 struct Class(&'static str, u64, fn(&mut Numbers, &mut Script), &'static [Shows]);
 
-#[rustfmt::skip]
-const CLASSES: &[Class] = &[
-    Class("played", 3, played, &[]),
-    Class("lent",   4, lent,   &[Shows::AllStand]),
-    Class("edited", 3, edited, &[]),
-];
+const CLASSES: &[Class] =
+    &[Class("played", 3, played, &[]), Class("lent", 4, lent, &[Shows::AllStand]), Class("edited", 3, edited, &[])];
 
 /// The seeded script of a number.
 pub fn drawn(seed: u64, number: usize) -> Case {

@@ -71,7 +71,7 @@ fn last_of_each(lent: &Lent) -> String {
         let values = [now.wrapping_add(1), now.wrapping_sub(1), 0, now ^ (1 << (bits(field) - 1))];
         tried(&mut script, lent, field, place, values);
     }
-    script.put("S S S P R 600 0 0 T");
+    script.put("S S S P R 60 0 0 T");
     script.text
 }
 
