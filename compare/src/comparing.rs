@@ -16,12 +16,11 @@ pub struct Pair {
 }
 
 /// The two that play scenarios, and the two that play scripts.
-pub struct Programs(pub [Pair; 2]);
+pub type Programs = [Pair; 2];
 
-impl Programs {
-    fn of(&self, set: &Set) -> &Pair {
-        &self.0[usize::from(set.kind == Kind::Script)]
-    }
+/// The two that play a set.
+fn of<'a>(programs: &'a Programs, set: &Set) -> &'a Pair {
+    &programs[usize::from(set.kind == Kind::Script)]
 }
 
 /// Between two scripts that are played as one the state is written, as at an end, and a refused set-up makes it all zero.
@@ -96,7 +95,7 @@ pub fn play(sets: &[Set], programs: &Programs) -> bool {
     each(batches.len(), |at| {
         let (set, numbers) = batches[at].clone();
         let cases: Vec<Cow<Case>> = numbers.clone().map(|number| sets[set].case(number)).collect();
-        let faults = numbers.zip(programs.of(&sets[set]).faults(&cases));
+        let faults = numbers.zip(of(programs, &sets[set]).faults(&cases));
         let faults = faults.filter_map(|(number, fault)| Some((set, number, fault?)));
         failed.lock().expect("no worker stops").extend(faults);
     });
@@ -124,7 +123,7 @@ pub fn differs(sets: &[Set], programs: &Programs) -> bool {
     let places = order.into_iter().flat_map(|set| (0..set.count()).map(move |at| (set, at * STRIDE % set.count())));
     let seen = places.into_iter().find_map(|(set, number)| {
         let case = set.case(number);
-        let sentence = programs.of(set).fault(&case.input, &case.shows)?;
+        let sentence = of(programs, set).fault(&case.input, &case.shows)?;
         Some(format!("{}: {sentence}", told(set, number)))
     });
     println!("{}", seen.as_deref().unwrap_or("no case differs"));
@@ -179,10 +178,6 @@ fn keep(input: &[u8], at: usize) -> String {
 mod tests {
     use super::*;
 
-    fn fault(second: &str, shows: &[Shows]) -> Option<String> {
-        Pair { first: "cat".to_string(), second: second.to_string() }.fault(b"a\n", shows)
-    }
-
     #[test]
     fn the_first_difference_is_named() {
         let told = |first: &str, second: &str| difference(first.as_bytes(), second.as_bytes(), &[]).unwrap();
@@ -193,8 +188,9 @@ mod tests {
 
     #[test]
     fn equal_outputs_have_no_fault() {
-        assert_eq!(fault("cat", &[]), None);
-        assert!(fault("wc", &[]).is_some());
-        assert!(fault("cat", &[Shows::End]).unwrap().contains("does not show End"));
+        let pair = |second: &str| Pair { first: "cat".to_string(), second: second.to_string() };
+        assert_eq!(pair("cat").fault(b"a\n", &[]), None);
+        assert!(pair("wc").fault(b"a\n", &[]).is_some());
+        assert!(pair("cat").fault(b"a\n", &[Shows::End]).unwrap().contains("does not show End"));
     }
 }

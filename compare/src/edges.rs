@@ -36,6 +36,5 @@ mod tests {
         assert_eq!(values, [0, 1, 2, 3, 4, 5, 6, 7, 15]);
         assert!(edges(64, 0, &vec![(0, u64::MAX)]).contains(&(1 << 63)));
         assert_eq!(alone_and_with(&[1, 2]), [(&1, None), (&1, Some(&2)), (&2, None)]);
-        assert!(within(&vec![(1, 2), (7, 7)], 7) && !within(&vec![(1, 2), (7, 7)], 3));
     }
 }

@@ -18,16 +18,17 @@ Exit status: 0 no case failed, or with 'differs' one did; 1 the opposite, or a f
 fn main() -> ExitCode {
     let words: Vec<String> = std::env::args().skip(1).collect();
     let words: Vec<&str> = words.iter().map(String::as_str).collect();
-    match done(&words) {
-        Some(Ok(true)) => return ExitCode::SUCCESS,
-        Some(Ok(false)) => {}
-        Some(Err(sentence)) => eprintln!("compare: {sentence}"),
+    ExitCode::from(match done(&words) {
+        Some(Ok(good)) => u8::from(!good),
+        Some(Err(sentence)) => {
+            eprintln!("compare: {sentence}");
+            1
+        }
         None => {
             eprint!("{USAGE}");
-            return ExitCode::from(2);
+            2
         }
-    }
-    ExitCode::from(1)
+    })
 }
 
 /// Does what the words say; nothing for words that say nothing.
@@ -58,5 +59,5 @@ fn all(parts: usize, paths: &[&str]) -> Result<Vec<Set>, String> {
 fn taken<'a, 'b>(words: &'a [&'b str]) -> Option<(Programs, &'a [&'b str])> {
     let [busrun, second, drive, replay, rest @ ..] = words else { return None };
     let pair = |first: &str, second: &str| Pair { first: first.to_string(), second: second.to_string() };
-    Some((Programs([pair(busrun, second), pair(drive, replay)]), rest))
+    Some(([pair(busrun, second), pair(drive, replay)], rest))
 }

@@ -126,15 +126,4 @@ mod tests {
         assert_eq!(scenario.bytes(), WORKED);
         assert_eq!([0, 1, 4, 8].map(|place| offset(&scenario.records(), place)), [0, 16, 40, WORKED.len()]);
     }
-
-    #[test]
-    fn every_byte_of_a_field_is_written() {
-        let bytes = [1, 2, 3, 4, 5, 6, 7, 8, 9, 10, 11, 12];
-        let arrival = Arrival { time: 0x0403_0201, address: 0x0605, value: 0x0A09_0807, length: 0x0C0B };
-        assert_eq!(arrival.record()[4..], bytes);
-        let (parameters, addresses) = (0x0504_0302, 0x0908_0706);
-        let set_up = SetUp { discipline: 1, parameters, addresses, laxity_step: 0x0B0A, stations: 12 };
-        assert_eq!(set_up.record()[4..], bytes);
-        assert_eq!(Station { address: 0x0201, capability: 0x0403 }.record()[4..], bytes[..4]);
-    }
 }

@@ -66,21 +66,11 @@ impl Numbers {
 #[cfg(test)]
 mod tests {
     use super::*;
-    use std::collections::BTreeSet;
 
     #[test]
     fn splitmix64_as_published() {
         let mut numbers = Numbers { state: 1_234_567 };
         assert_eq!(numbers.number(), 6_457_827_717_110_365_317);
         assert_eq!(numbers.number(), 3_203_168_211_198_807_973);
-    }
-
-    #[test]
-    fn distinct_numbers_are_distinct() {
-        for (many, bound, drawn) in [(64, 64, 64), (2, 2, 2), (5, 65_536, 5), (64, 65, 64), (5, 3, 3)] {
-            let row: BTreeSet<u64> = Numbers::of(1, 1).distinct(many, bound).into_iter().collect();
-            assert_eq!(row.len(), drawn);
-            assert!(row.iter().all(|number| *number < bound));
-        }
     }
 }

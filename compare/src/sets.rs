@@ -3,6 +3,7 @@
 use crate::case::{Case, Kind};
 use crate::{scenario, script};
 use std::borrow::Cow;
+use std::collections::BTreeSet;
 use std::fs;
 
 /// The gate's seeded cases: their seed, and how many there are.
@@ -28,7 +29,10 @@ impl Set {
         Set { name, kind, joins: kind == Kind::Script, cases }
     }
 
-    fn listed(name: &'static str, kind: Kind, cases: Vec<Case>) -> Set {
+    /// Cases of which no two have the same input.
+    fn listed(name: &'static str, kind: Kind, mut cases: Vec<Case>) -> Set {
+        let mut inputs = BTreeSet::new();
+        cases.retain(|case| inputs.insert(case.input.clone()));
         Set::new(name, kind, Cases::Listed(cases))
     }
 
@@ -60,6 +64,7 @@ pub fn tables() -> Vec<Set> {
         Set::listed("faults of a scenario, one or two", Kind::Scenario, scenario::pairs()),
         Set::listed("cuts of a scenario", Kind::Scenario, scenario::cuts()),
         Set::listed("sizes of scenarios and runs", Kind::Scenario, scenario::sizes()),
+        Set::listed("faults of 64 stations", Kind::Scenario, scenario::far_stations()),
         Set::listed("numbers of calls", Kind::Script, script::asked()),
         Set::listed("faults of a set-up, one or two", Kind::Script, script::set_ups()),
         Set::listed("faults of admissions, none or more", Kind::Script, script::admissions()),
@@ -92,7 +97,6 @@ pub fn files(paths: &[&str]) -> Result<Vec<Set>, String> {
 mod tests {
     use super::*;
     use crate::records::LONGEST;
-    use std::collections::BTreeSet;
 
     #[test]
     fn a_case_of_a_table_is_told_by_its_name() {

@@ -3,7 +3,7 @@
 use super::{plain, refused};
 use crate::case::{Case, Shows};
 use crate::edges::alone_and_with;
-use crate::records::{offset, run, Arrival, Scenario, LONGEST, PRI, RTDG, RTVC};
+use crate::records::{offset, run, Arrival, Scenario, SetUp, Station, LONGEST, PRI, RTDG, RTVC};
 
 /// A fault of the plain RTVC scenario: the refusal, the record at whose offset it is told, its name and its change.
 struct Fault(u8, usize, &'static str, fn(&mut Vec<Vec<u8>>));
@@ -53,6 +53,7 @@ const FAULTS: &[Fault] = &[
     Fault(20, 7, "station for the run", |r| r[7] = plain_record(3)),
     Fault(20, 8, "byte after the run", |r| r.push(vec![0])),
     Fault(20, 8, "arrival after the run", |r| r.push(plain_record(6))),
+    Fault(20, 8, "cut arrival after the run", |r| r.push(vec![14, 0, 3, 0, 1])),
     Fault(20, 8, "record of no kind after the run", |r| r.push(vec![2, 0, 9, 0])),
 ];
 
@@ -114,16 +115,40 @@ pub fn sizes() -> Vec<Case> {
         line("no step", run(0, 0), "END 0 0 0 0 0"),
         line("one step", run(1, 0), "END 1 0 0 0 0"),
         line("arrivals due at the end", run(2, 3), "END 3 1 1 0 0"),
-        line("300 packets", each_slot(300), "299 P 0 8 S 263 300 1"),
+        line("300 packets", each_slot(300, 300).bytes(), "299 P 0 8 S 263 300 1"),
+        refused("time falls at the 100th", each_slot(100, 50).bytes(), 21, offset(&each_slot(100, 50).records(), 103)),
+        line("a refused arrival at slot 65,536", late_arrival(), "R 65536 263 12"),
         line("65,535 steps", run(u16::MAX, 0), "END 65535 0 0 0 0"),
     ]
 }
 
-/// A packet of one slot in each of so many slots.
-fn each_slot(slots: u16) -> Vec<u8> {
-    let arrival = plain(PRI).arrivals[0];
-    let arrivals = (0..slots).map(|time| Arrival { time: time.into(), length: 1, ..arrival }).collect();
-    Scenario { arrivals, steps: slots, ..plain(PRI) }.bytes()
+/// A packet of one slot in each of so many slots, but that the last comes at another time.
+fn each_slot(slots: u16, last: u32) -> Scenario {
+    let time = |at: u16| if at + 1 == slots && last < slots.into() { last } else { at.into() };
+    let arrivals = (0..slots).map(|at| Arrival { time: time(at), length: 1, ..plain(PRI).arrivals[0] }).collect();
+    Scenario { arrivals, steps: slots, ..plain(PRI) }
+}
+
+/// Sixteen packets of 4,096 slots each, and behind them an arrival whose value is D.
+fn late_arrival() -> Vec<u8> {
+    let long = Arrival { length: 4_096, ..plain(PRI).arrivals[0] };
+    let arrivals = [vec![long; 16], vec![Arrival { time: 65_536, value: 5, ..long }]].concat();
+    Scenario { arrivals, ..plain(PRI) }.bytes()
+}
+
+/// 64 circuits of which one is at fault: its address or capability is past its space, or that of an earlier one.
+pub fn far_stations() -> Vec<Case> {
+    let past = [31, 63].into_iter().flat_map(|place| [(7, place, 300), (9, place, 64)]);
+    let taken = [(31, 0), (63, 0), (63, 32), (63, 62)].into_iter().flat_map(|(at, by)| [(8, at, by), (10, at, by)]);
+    let case = |(number, place, other): (u8, usize, u16)| {
+        let mut stations: Vec<Station> = (0..64).map(|at| Station { address: at, capability: at }).collect();
+        let Station { address, capability } = &mut stations[place];
+        *(if number < 9 { address } else { capability }) = other;
+        let set_up = SetUp { parameters: 64, stations: 64, ..plain(RTVC).set_up };
+        let scenario = Scenario { set_up, stations, ..plain(RTVC) };
+        refused(format!("{number} at {place} by {other}"), scenario.bytes(), number, 16 + 8 * place)
+    };
+    past.chain(taken).map(case).collect()
 }
 
 /// So many stations, and as many arrivals as fit below a length.

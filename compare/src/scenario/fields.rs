@@ -74,14 +74,15 @@ fn turned_away(refusal: u8, discipline: u8, value: u64) -> String {
     format!("R {SLOT} {address} {}", if late { 14 } else { refusal })
 }
 
-/// Two arrivals of which the second is one slot earlier, below each power of two and at the top.
+/// Two arrivals of which the second is one slot earlier, below each power of two and at the top: the first two, and the last.
 pub fn falling_times() -> Vec<Case> {
     let earlier = (0..32).map(|bit| (1 << bit) - 1).chain([u32::MAX - 1]);
-    let case = |earlier: u32| {
+    let case = |(earlier, place): (u32, usize)| {
         let mut scenario = plain(PRI);
-        scenario.arrivals[1].time = earlier + 1;
-        scenario.arrivals[2].time = earlier;
-        refused(format!("time {earlier} after {}", earlier + 1), scenario.bytes(), 21, offset(&scenario.records(), 6))
+        scenario.arrivals[place - 1].time = earlier + 1;
+        scenario.arrivals[place].time = earlier;
+        let name = format!("time {earlier} after {} at place {place}", earlier + 1);
+        refused(name, scenario.bytes(), 21, offset(&scenario.records(), 4 + place))
     };
-    earlier.map(case).collect()
+    earlier.flat_map(|earlier| [(earlier, 1), (earlier, 2)]).map(case).collect()
 }

@@ -8,7 +8,7 @@ use crate::case::{Case, Shows};
 use crate::records::{Arrival, Scenario, SetUp, Station, RTDG, RTVC};
 
 pub use drawn::{bus, drawn, value, LARGE, LAXITY_STEPS, SMALL};
-pub use faults::{cuts, pairs, sizes};
+pub use faults::{cuts, far_stations, pairs, sizes};
 pub use fields::{falling_times, fields};
 
 /// The slot in which the second arrival of the plain scenario is admitted, whatever the discipline.
