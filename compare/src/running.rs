@@ -54,11 +54,10 @@ mod tests {
 
     #[test]
     fn failures_are_told() {
-        let fault =
-            |program, input: &str| output_within(Duration::from_millis(200), program, input.as_bytes()).unwrap_err();
-        assert!(fault("/nowhere/at/all", "").contains("does not start"));
-        assert!(fault("true", "").contains("wrote nothing"));
-        assert!(fault("sh", "echo x; exit 3").contains("ended with"));
-        assert!(fault("sh", "exec sleep 60").contains("not done after"));
+        let fault = |limit, program, input: &str| output_within(limit, program, input.as_bytes()).unwrap_err();
+        assert!(fault(LIMIT, "/nowhere/at/all", "").contains("does not start"));
+        assert!(fault(LIMIT, "true", "").contains("wrote nothing"));
+        assert!(fault(LIMIT, "sh", "echo x; exit 3").contains("ended with"));
+        assert!(fault(Duration::from_millis(200), "sh", "exec sleep 60").contains("not done after"));
     }
 }
