@@ -22,6 +22,8 @@ pub enum Shows {
     Whole(String),
     /// This line.
     Line(String),
+    /// Never this line.
+    Lacks(String),
     /// Of a listing: a closing line.
     End,
     /// Of a listing: packets that are dropped.
@@ -54,6 +56,7 @@ impl Shows {
         match self {
             Shows::Whole(whole) => text == whole,
             Shows::Line(line) => text.lines().any(|other| other == line),
+            Shows::Lacks(line) => text.lines().all(|other| other != line),
             Shows::End => begins("END"),
             Shows::Drop => begins("D"),
             Shows::Tie => text.contains(" T "),
@@ -107,6 +110,7 @@ mod tests {
     fn lines_are_known() {
         shows(Shows::Whole("D 2\n".to_string()), "D 2\n", "D 2\nD 2\n");
         shows(Shows::Line("D 2".to_string()), "D 1\nD 2\n", "D 22\n");
+        shows(Shows::Lacks("D 2".to_string()), "D 22\n", "D 1\nD 2\n");
         shows(Shows::End, "0 P 0 4 I\nEND 1 0 0 0 0\n", "REFUSED 18 0\n");
         shows(Shows::Drop, "D 2\nEND 1 0 0 0 0\n", "END 1 0 0 0 0\n");
         shows(Shows::Tie, "4 T 0 8 C\n", "4 P 0 8 C\n");

@@ -9,7 +9,7 @@ use crate::records::{offset, LAST_SLOT, LONGEST_PACKET, PRI, RTDG};
 /// in each discipline that it is tried in.
 struct Field(&'static str, usize, usize, usize, u8, &'static [&'static [(u64, u64)]]);
 
-/// The table of fields. A kind from 1 to 4 may be refused too, but not as one that is unknown.
+/// The table of fields. The records of kinds 1 and 3 have one length, so each passes for the other's here.
 #[rustfmt::skip]
 const FIELDS: &[Field] = &[
     Field("discipline",              0, 4,  1, 2,  &[&[(0, 2)]]),
@@ -30,10 +30,10 @@ const FIELDS: &[Field] = &[
     Field("station record's length", 2, 0,  2, 19, &[&[(6, 6)]]),
     Field("arrival record's length", 5, 0,  2, 19, &[&[(14, 14)]]),
     Field("run record's length",     7, 0,  2, 19, &[&[(4, 4)]]),
-    Field("set-up record's kind",    0, 2,  2, 19, &[&[(1, 4)]]),
-    Field("station record's kind",   2, 2,  2, 19, &[&[(1, 4)]]),
-    Field("arrival record's kind",   5, 2,  2, 19, &[&[(1, 4)]]),
-    Field("run record's kind",       7, 2,  2, 19, &[&[(1, 4)]]),
+    Field("set-up record's kind",    0, 2,  2, 19, &[&[(1, 1), (3, 3)]]),
+    Field("station record's kind",   2, 2,  2, 19, &[&[(2, 2)]]),
+    Field("arrival record's kind",   5, 2,  2, 19, &[&[(1, 1), (3, 3)]]),
+    Field("run record's kind",       7, 2,  2, 19, &[&[(4, 4)]]),
 ];
 
 /// Each field with each of its values, in each discipline that it is tried in.
@@ -53,25 +53,20 @@ impl Field {
         edges(8 * bytes as u32, now, ranges).into_iter().map(case).collect()
     }
 
-    /// The plain scenario with another value in the field, which is good or not.
+    /// The plain scenario with another value in the field, which is refused for it or, where it is good, is not.
     fn case(&self, discipline: u8, records: &[Vec<u8>], value: u64, good: bool) -> Case {
         let Field(name, record, at, bytes, refusal, _) = *self;
-        let name = format!("{name} {value}, discipline {discipline}");
         let mut changed = records.to_vec();
         changed[record][at..at + bytes].copy_from_slice(&value.to_le_bytes()[..bytes]);
-        match refusal {
-            _ if good => Case::new(name, changed.concat(), Vec::new()),
-            11..=13 => Case::new(name, changed.concat(), vec![Shows::Line(turned_away(refusal, discipline, value))]),
-            number => refused(name, changed.concat(), number, offset(records, record)),
-        }
+        let line = match refusal {
+            11 => format!("R {SLOT} {value} 11"),
+            12 if discipline == RTDG && value < SLOT.into() => format!("R {SLOT} 7 14"),
+            12 | 13 => format!("R {SLOT} 7 {refusal}"),
+            _ => format!("REFUSED {refusal} {}", offset(records, record)),
+        };
+        let shows = if good { Shows::Lacks(line) } else { Shows::Line(line) };
+        Case::new(format!("{name} {value}, discipline {discipline}"), changed.concat(), vec![shows])
     }
-}
-
-/// The line of the arrival that is refused for this value. A latest start below the clock is too late.
-fn turned_away(refusal: u8, discipline: u8, value: u64) -> String {
-    let address = if refusal == 11 { value } else { 7 };
-    let late = refusal == 12 && discipline == RTDG && value < SLOT.into();
-    format!("R {SLOT} {address} {}", if late { 14 } else { refusal })
 }
 
 /// Two arrivals of which the second is one slot earlier, below each power of two and at the top: the first two, and the last.
