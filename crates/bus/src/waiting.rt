@@ -14,7 +14,7 @@ ghost use lib.Dec.{leb, ltb};
 ghost use lib.ListN.{getD};
 ghost use Rattle.rules.specs.Lists.{keep};
 ghost use Rattle.rules.specs.SetUp.{disciplineOf};
-ghost use Rattle.rules.specs.Begin.{goes-before, choice};
+ghost use Rattle.rules.specs.Begin.{choice};
 ghost use Rattle.state.specs.State.{queueAt};
 ghost use Rattle.state.specs.Parts.{queueOf, packetsOf};
 ghost use Rattle.bus.specs.Parts.{queueForm, stays, chosenForm};
@@ -56,17 +56,8 @@ pub fn without(mut queues: Queues, from: usize, to: usize, leaving: Leaving) -> 
     queues
 }
 
-// Of a packet and the one chosen among those after it, the one that is offered.
-fn better(discipline: u32, p: Packet, later: Packet) -> Packet
-    ensures { λ r. ⌜ r ≡ cond (goes-before (disciplineOf discipline) later p) later p ⌝ }
-{
-    if offering::goes_before(discipline, later, p) {
-        return later;
-    }
-    p
-}
-
-// 'Each station then offers one packet': the search walks the queue from its end and carries the packet chosen so far.
+// 'Each station then offers one packet': the search takes the places out of the queue, walks them, carries the place of the best packet so
+// far, and fetches that packet at its end.
 pub fn chosen(queue: Queue, discipline: u32) -> Chosen
     requires { ⌜ queue .length ≤ 16 ⌝ }
     ensures { λ r. ⌜ r ≡ chosenForm (choice (disciplineOf discipline) (packetsOf queue)) ⌝ }
@@ -78,15 +69,18 @@ pub fn chosen(queue: Queue, discipline: u32) -> Chosen
             packet: zeros::NO_PACKET,
         };
     }
-    let mut j = length - 1;
-    let mut best = queue.packets[j];
-    while 0 < j {
-        j -= 1;
-        let p = queue.packets[j];
-        best = better(discipline, p, best);
+    let packets = queue.packets;
+    let mut place = 0;
+    for j in 1..length {
+        let p = packets[j];
+        let best = packets[place];
+        if offering::goes_before(discipline, p, best) {
+            place = j;
+        }
     }
+    let packet = packets[place];
     Chosen {
         found: true,
-        packet: best,
+        packet,
     }
 }

@@ -1,98 +1,207 @@
--- `waiting::chosen` meets its contract. The loop's invariant: the packet carried is the choice among those from place j on. Assumes nothing.
-use Prim.Native.Nat.{ℕ, suc, _≤_, _<_}
-use mathlib.Core.Path.{_≡_, sym, ap, _∙_}
-use mathlib.Core.Bool.{cond}
-use mathlib.Core.Option.{some}
-use mathlib.Core.List.{List, _∷_}
+-- `waiting::chosen` meets its contract. The loop's invariant: the choice among all is that among the packet at the place carried and those
+-- from place j on. Assumes nothing.
+use Prim.Native.Nat.{ℕ, _+_, _-_, _≤_, _<_}
+use mathlib.Core.Path.{_≡_, refl, sym, ap, _∙_}
+use mathlib.Core.Logic.{_⊎_, inl, inr, ⊎-elim}
+use mathlib.Core.Bool.{Bool, true, false, cond}
+use mathlib.Core.Option.{Option, none, some}
+use mathlib.Core.List.{List}
 use native.Mathlib.Omega.{arith}
 use borrow.Author.Needs.{needs}
-use lib.ListN.{length, getD}
-use lib.Seq.{slice, slice-empty, slice-cons}
-use Rattle.rules.specs.Bus.{Discipline}
+use lib.ListN.{getD, take}
+use lib.Seq.{slice}
+use Rattle.rules.specs.Bus.{Discipline, PRI, RTDG, RTVC}
 use Rattle.rules.specs.SetUp.{disciplineOf}
-use Rattle.rules.specs.Begin as Begin
-use Rattle.rules.specs.Begin.{goes-before, choice}
+use Rattle.rules.specs.Begin.{smaller, goes-before, chosen, choice}
+use Rattle.rules.proofs.Tests.{Whether, holds, fails, both, one-of, below, equal}
 use Rattle.bus.specs.Types.{Packet}
 use Rattle.state.specs.State.{noPacket}
+use Rattle.state.specs.Parts.{packetsOf}
 use Rattle.bus.specs.Parts.{chosenForm}
 use Rattle.state.proofs.Places.{queue-array}
+use Rattle.state.proofs.Tested.{left-turn, left-end}
 use Rattle.bus.proofs.waiting.chosen.Statement.{statement}
 use Rattle.bus.proofs.waiting.chosen.Tie as tie
 
--- the choice among one packet alone, the last
-last-one : (d : Discipline) (ps : List Packet) (n j : ℕ) → n ≡ suc j → n ≤ length ps → choice d (slice j n ps) ≡ some (getD ps j noPacket)
-last-one d ps n j e h =
-    let none-after = ap (λ k. slice k n ps) (sym e) ∙ slice-empty n ps in
-    ap (choice d) (slice-cons j n ps noPacket (omega arith) h ∙ ap (λ qs. getD ps j noPacket ∷ qs) none-after)
+-- ---- the order of offers can be chained, and so can its denial
 
--- the choice among one packet more, of that packet and the choice among those after it
-one-more :
-    (d : Discipline) (ps : List Packet) (n j k : ℕ) (best : Packet) → choice d (slice k n ps) ≡ some best → k ≡ suc j → k ≤ n
-    → n ≤ length ps → choice d (slice j n ps) ≡ some (cond (goes-before d best (getD ps j noPacket)) best (getD ps j noPacket))
-one-more d ps n j k best e next h i =
-    ap (choice d) (slice-cons j n ps noPacket (omega arith) i)
-    ∙ ap (Begin.chosen d (getD ps j noPacket)) (ap (λ m. choice d (slice m n ps)) (sym next) ∙ e)
+-- the lower value, or the lower number of equal values
+abbrev Lower : Packet → Packet → Type 0
+Lower p q = (p .value < q .value) ⊎ ((p .value ≡ q .value) × (p .number < q .number))
+
+lower-chained : (p q r : Packet) → Lower p q → Lower q r → Lower p r
+lower-chained p q r (inl a) (inl b) = inl (omega arith)
+lower-chained p q r (inl a) (inr b) = inl (let e = b .0 in omega arith)
+lower-chained p q r (inr a) (inl b) = inl (let e = a .0 in omega arith)
+lower-chained p q r (inr a) (inr b) = inr (a .0 ∙ b .0, let l = a .1 in let m = b .1 in omega arith)
+
+not-lower-chained : (p q r : Packet) → ¬ Lower p q → ¬ Lower q r → ¬ Lower p r
+not-lower-chained p q r m n (inl a) =
+    let f : ¬ (p .value < q .value) = λ l. m (inl l) in
+    let g : ¬ (q .value < r .value) = λ l. n (inl l) in
+    omega arith
+not-lower-chained p q r m n (inr a) =
+    let e = a .0 in
+    let f : ¬ (p .value < q .value) = λ l. m (inl l) in
+    let g : ¬ (q .value < r .value) = λ l. n (inl l) in
+    let same : p .value ≡ q .value = omega arith in
+    let f′ : ¬ (p .number < q .number) = λ l. m (inr (same, l)) in
+    let g′ : ¬ (q .number < r .number) = λ l. n (inr (sym same ∙ e, l)) in
+    let l = a .1 in
+    omega arith
+
+-- what `goes-before` tests
+abbrev Goes : Discipline → Packet → Packet → Type 0
+Goes PRI p q = Lower p q
+Goes RTDG p q = Lower p q
+Goes RTVC p q = p .number < q .number
+
+lower-whether : (p q : Packet) → Whether (Lower p q) (smaller p q)
+lower-whether p q = one-of (below (p .value) (q .value)) (both (equal (p .value) (q .value)) (below (p .number) (q .number)))
+
+goes-whether : (d : Discipline) (p q : Packet) → Whether (Goes d p q) (goes-before d p q)
+goes-whether PRI p q = lower-whether p q
+goes-whether RTDG p q = lower-whether p q
+goes-whether RTVC p q = below (p .number) (q .number)
+
+goes-chained : (d : Discipline) (p q r : Packet) → Goes d p q → Goes d q r → Goes d p r
+goes-chained PRI p q r a b = lower-chained p q r a b
+goes-chained RTDG p q r a b = lower-chained p q r a b
+goes-chained RTVC p q r a b = omega arith
+
+not-goes-chained : (d : Discipline) (p q r : Packet) → ¬ Goes d p q → ¬ Goes d q r → ¬ Goes d p r
+not-goes-chained PRI p q r m n a = not-lower-chained p q r m n a
+not-goes-chained RTDG p q r m n a = not-lower-chained p q r m n a
+not-goes-chained RTVC p q r m n a = omega arith
+
+-- ---- so of the best so far and those left, one of them may be looked at first
+
+-- a test of one of two packets
+test-of : (test : Packet → Bool) (t : Bool) (p q : Packet) → test (cond t p q) ≡ cond t (test p) (test q)
+test-of test true p q = refl
+test-of test false p q = refl
+
+better-first :
+    (d : Discipline) (best p : Packet) (rest : Option Packet)
+    → chosen d best (chosen d p rest) ≡ chosen d (cond (goes-before d p best) p best) rest
+better-first d best p none = refl
+better-first d best p (some q) =
+    ap some
+    (ap (λ t. cond t (cond (goes-before d q p) q p) best) (test-of (λ r. goes-before d r best) (goes-before d q p) q p)
+    ∙ go (goes-whether d q p) (goes-whether d p best) (goes-whether d q best)
+    ∙ sym (ap (λ t. cond t q (cond (goes-before d p best) p best)) (test-of (goes-before d q) (goes-before d p best) p best)))
+  where
+    go :
+        {t u v : Bool} → Whether (Goes d q p) t → Whether (Goes d p best) u → Whether (Goes d q best) v
+        → cond (cond t v u) (cond t q p) best ≡ cond (cond u t v) q (cond u p best)
+    go (holds a) (holds b) (holds c) = refl
+    go (holds a) (holds b) (fails n) = absurd (n (goes-chained d q p best a b))
+    go (holds a) (fails m) w = refl
+    go (fails l) (holds b) w = refl
+    go (fails l) (fails m) (holds c) = absurd (not-goes-chained d q p best l m c)
+    go (fails l) (fails m) (fails n) = refl
+
+-- ---- the search
 
 abbrev Inv-loop : tie.InvT-loop
-Inv-loop discipline queue length j₀ best₀ j best =
-    (j < length) × (choice (disciplineOf discipline) (slice j length (queue .packets)) ≡ some best)
+Inv-loop discipline length packets place₀ j₀ place j =
+    (j ≤ length) × (place < length)
+    × (choice (disciplineOf discipline) (take length packets)
+    ≡ chosen (disciplineOf discipline) (getD packets place noPacket) (choice (disciplineOf discipline) (slice j length packets)))
 
 abbrev μ-loop : tie.MeasureT-loop
-μ-loop discipline queue length j₀ best₀ j best = j
+μ-loop discipline length packets place₀ j₀ place j = length - j
 
 returns : tie.Need-returns Inv-loop μ-loop
 returns c = rw (c .if1 .taken)
 
-sub-j : tie.Need-sub-j Inv-loop μ-loop
-sub-j c = search needs
-
-mul-best : tie.Need-mul-best Inv-loop μ-loop
-mul-best c = search needs
-
-element-copy-out-best : tie.Need-element-copy-out-best Inv-loop μ-loop
-element-copy-out-best c = search needs
-
 loop-holds : tie.Need-loop-holds Inv-loop μ-loop
 loop-holds c =
     let start = c .before .before in
-    let queue = start .args .t1 in
+    let queue = start .args .queue in
     let n = queue-array queue _ (start .good .0) in
-    (omega arith, last-one (disciplineOf (start .args .discipline)) (queue .packets) (queue .length) _ (omega arith) (omega arith))
-
-sub-j-2 : tie.Need-sub-j-2 Inv-loop μ-loop
-sub-j-2 c = search needs
+    (omega arith, omega arith, ap (choice (disciplineOf (start .args .discipline))) (left-turn (queue .length) (queue .packets) 0 noPacket (omega arith) (omega arith)))
 
 mul-p : tie.Need-mul-p Inv-loop μ-loop
 mul-p c = search needs
 
-element-copy-out-p : tie.Need-element-copy-out-p Inv-loop μ-loop
-element-copy-out-p c = search needs
+array-copy-out-p : tie.Need-array-copy-out-p Inv-loop μ-loop
+array-copy-out-p c = search needs
 
-better-requires : tie.Need-better-requires Inv-loop μ-loop
-better-requires c κs = search needs
+mul-best : tie.Need-mul-best Inv-loop μ-loop
+mul-best c = search needs
+
+array-copy-out-best : tie.Need-array-copy-out-best Inv-loop μ-loop
+array-copy-out-best c = search needs
+
+goes-before-requires : tie.Need-goes-before-requires Inv-loop μ-loop
+goes-before-requires c κs = search needs
+
+-- a place more has been looked at
+module _ (c : tie.After-goes-before Inv-loop μ-loop) where
+  abbrev start : tie.Start Inv-loop μ-loop
+  start = c .before .before .before .before .before .before .before
+
+  abbrev d : Discipline
+  d = disciplineOf (start .args .discipline)
+
+  abbrev n : ℕ
+  n = start .args .queue .length
+
+  abbrev ps : List Packet
+  ps = start .args .queue .packets
+
+  abbrev j : ℕ
+  j = c .before .before .before .before .loop .j
+
+  abbrev place : ℕ
+  place = c .before .before .before .before .loop .place
+
+  -- the choice among the packet at a place and those after place j
+  abbrev from : ℕ → Option Packet
+  from k = chosen d (getD ps k noPacket) (choice d (slice (j + 1) n ps))
+
+  looked : {better : Bool} → c .goes-before .result ≡ better → choice d (packetsOf (start .args .queue)) ≡ from (cond better j place)
+  looked {better} e =
+      let turn = c .before .before .before .before .loop in
+      let all = queue-array (start .args .queue) _ (start .good .0) in
+      turn .inv .2
+      ∙ ap (λ qs. chosen d (getD ps place noPacket) (choice d qs)) (left-turn n ps j noPacket (omega arith) (omega arith))
+      ∙ better-first d (getD ps place noPacket) (getD ps j noPacket) (choice d (slice (j + 1) n ps))
+      ∙ ap (λ t. chosen d (cond t (getD ps j noPacket) (getD ps place noPacket)) (choice d (slice (j + 1) n ps))) (sym (c .goes-before .ensures) ∙ e)
+      ∙ kept better
+    where
+      kept : (t : Bool) → chosen d (cond t (getD ps j noPacket) (getD ps place noPacket)) (choice d (slice (j + 1) n ps)) ≡ from (cond t j place)
+      kept true = refl
+      kept false = refl
+
+add-j : tie.Need-add-j Inv-loop μ-loop
+add-j c = search needs
 
 loop-less : tie.Need-loop-less Inv-loop μ-loop
 loop-less c = search needs
 
 loop-again : tie.Need-loop-again Inv-loop μ-loop
 loop-again c =
-    let turn = c .before .before .before .loop in
-    let start = c .before .before .before .before .before .before in
-    let queue = start .args .t1 in
-    let d = disciplineOf (start .args .discipline) in
-    let n = queue-array queue _ (start .good .0) in (
-      omega arith,
-      one-more d (queue .packets) (queue .length) _ (turn .j) (turn .best) (turn .inv .1) (omega arith) (omega arith) (omega arith)
-          ∙ ap some (sym (c .better .ensures)),
-    )
+    ⊎-elim
+    (λ w. (omega arith, omega (arith, w .1), looked (c .before) (w .0 .taken) ∙ ap (from (c .before)) (sym (w .1))))
+    (λ w. (omega arith, omega (arith, w .1), looked (c .before) (w .0 .left) ∙ ap (from (c .before)) (sym (w .1))))
+    (c .if2 .came)
+
+mul-packet : tie.Need-mul-packet Inv-loop μ-loop
+mul-packet c = search needs
+
+array-copy-out-packet : tie.Need-array-copy-out-packet Inv-loop μ-loop
+array-copy-out-packet c = search needs
 
 returns-2 : tie.Need-returns-2 Inv-loop μ-loop
 returns-2 c =
-    let turn = c .before .loop in
-    let args = c .before .before .before .before .args in
-    let queue = args .t1 in
-    let all : turn .j ≡ 0 = omega arith in
-    ap chosenForm (sym (turn .inv .1) ∙ ap (λ j. choice (disciplineOf (args .discipline)) (slice j (queue .length) (queue .packets))) all)
+    let turn = c .before .before .loop in
+    let args = c .before .before .before .before .before .args in
+    let queue = args .queue in
+    let d = disciplineOf (args .discipline) in
+    ap chosenForm
+    (sym (turn .inv .2 ∙ ap (λ ps. chosen d (getD (queue .packets) (turn .place) noPacket) (choice d ps)) (left-end (queue .length) (queue .packets) (turn .j) (omega arith))))
 
 pub chosen-spec : {M : Type 1} → statement M
 chosen-spec =
@@ -101,14 +210,15 @@ chosen-spec =
     Inv-loop
     μ-loop
     returns
-    sub-j
-    mul-best
-    element-copy-out-best
     loop-holds
-    sub-j-2
     mul-p
-    element-copy-out-p
-    better-requires
+    array-copy-out-p
+    mul-best
+    array-copy-out-best
+    goes-before-requires
+    add-j
     loop-less
     loop-again
+    mul-packet
+    array-copy-out-packet
     returns-2)
