@@ -66,7 +66,7 @@ fn contender_for(
 }
 
 // Each station's place among the contenders. Only the queues to choose from are taken out, and in the loop itself: a call that takes one
-// out copies the whole row.
+// out copies the whole row. The listed stations are taken out once: to read one of them in the segment would copy the whole segment.
 fn offers_of(g: Segment, queues: Queues) -> [Contender; 64]
     requires { ⌜ g .settings .n ≤ 64 ⌝ }
     requires { ⌜ ((i : ℕ) → i < g .settings .n → getD (queues .lengths) i 0 ≤ 16) ⌝ }
@@ -75,11 +75,12 @@ fn offers_of(g: Segment, queues: Queues) -> [Contender; 64]
     ensures { λ r. ⌜ r ≡ offersOf g queues ⌝ }
 {
     let settings = g.settings;
+    let listed = g.listed;
     let round = g.round;
     let n = settings.n;
     let mut contenders = [zeros::NO_CONTENDER; 64];
     for i in 0..n {
-        let l = g.listed[i];
+        let l = listed[i];
         let length = queues.lengths[i];
         if offers_nothing(settings.discipline, round, l.capability, length) {
             continue;

@@ -15,27 +15,27 @@ use Rattle.bus.proofs.beginning.offers_of.Statement.{statement}
 use Rattle.bus.proofs.beginning.offers_of.Tie as tie
 
 abbrev Inv-loop2 : tie.InvT-loop2
-Inv-loop2 g queues settings round n contenders i l length places₀ first j₀ places j =
+Inv-loop2 g queues settings listed round n contenders i l length places₀ first j₀ places j =
     (j ≤ 16) × (places ≡ paste places₀ 0 (placesAt queues i) j)
 
 abbrev μ-loop2 : tie.MeasureT-loop2
-μ-loop2 g queues settings round n contenders i l length places₀ first j₀ places j = 16 - j
+μ-loop2 g queues settings listed round n contenders i l length places₀ first j₀ places j = 16 - j
 
 abbrev Inv-loop : tie.InvT-loop
-Inv-loop g queues settings round n contenders₀ i₀ contenders i =
+Inv-loop g queues settings listed round n contenders₀ i₀ contenders i =
     (i ≤ n) × (contenders ≡ placesTo (placeFor g queues) i)
 
 abbrev μ-loop : tie.MeasureT-loop
-μ-loop g queues settings round n contenders₀ i₀ contenders i = n - i
+μ-loop g queues settings listed round n contenders₀ i₀ contenders i = n - i
 
 loop-holds : tie.Need-loop-holds Inv-loop2 μ-loop2 Inv-loop μ-loop
-loop-holds c = let start = c .before .before in (omega arith, places-none (placeFor (start .args .t1) (start .args .t2)))
+loop-holds c = let start = c .before .before .before in (omega arith, places-none (placeFor (start .args .g) (start .args .t2)))
 
 mul-l : tie.Need-mul-l Inv-loop2 μ-loop2 Inv-loop μ-loop
 mul-l c = search needs
 
-element-copy-out-l : tie.Need-element-copy-out-l Inv-loop2 μ-loop2 Inv-loop μ-loop
-element-copy-out-l c = search needs
+array-copy-out-l : tie.Need-array-copy-out-l Inv-loop2 μ-loop2 Inv-loop μ-loop
+array-copy-out-l c = search needs
 
 mul-length : tie.Need-mul-length Inv-loop2 μ-loop2 Inv-loop μ-loop
 mul-length c = search needs
@@ -55,8 +55,8 @@ loop-less c = search needs
 loop-again : tie.Need-loop-again Inv-loop2 μ-loop2 Inv-loop μ-loop
 loop-again c =
     let at = c .before .before .before .before .before in
-    let start = at .before .before .before in
-    let g = start .args .t1 in
+    let start = at .before .before .before .before in
+    let g = start .args .g in
     let qs = start .args .t2 in
     let still = nothing-offered g qs (at .loop .i) (sym (c .before .offers-nothing .ensures) ∙ c .if1 .taken) in
     (omega arith, at .loop .inv .1 ∙ places-same (placeFor g qs) (at .loop .i) still)
@@ -92,16 +92,16 @@ loop2-again : tie.Need-loop2-again Inv-loop2 μ-loop2 Inv-loop μ-loop
 loop2-again c =
     let turn = c .before .before in
     let at = turn .before .before .before .before .before .before in
-    let start = at .before .before .before in
+    let start = at .before .before .before .before in
     let qs = start .args .t2 in
     let row = queues-arrays qs _ (start .good .1 .0) .1 in
     (search needs, taken-one qs (at .loop .i) (turn .loop2 .j) (omega arith) row (omega arith) (turn .loop2 .inv .1))
 
 contender-for-requires : tie.Need-contender-for-requires Inv-loop2 μ-loop2 Inv-loop μ-loop
 contender-for-requires c κs =
-    let tested = c .before .before .before in
+    let tested = c .before .before in
     let at = tested .before .before .before .before .before in
-    let start = at .before .before .before in
+    let start = at .before .before .before .before in
     let none = eqb (getD (start .args .t2 .lengths) (at .loop .i) 0) 0 in
     let sits = or-false none _ (sym (tested .before .offers-nothing .ensures) ∙ tested .if1 .left) .1 in
     (start .pre .1 .0 (at .loop .i) (omega arith), (start .pre .1 .1 .0, (start .pre .1 .1 .1, sits)))
@@ -120,21 +120,21 @@ loop-less-2 c = search needs
 
 loop-again-2 : tie.Need-loop-again-2 Inv-loop2 μ-loop2 Inv-loop μ-loop
 loop-again-2 c =
-    let inner = c .before .before .before in
+    let inner = c .before .before in
     let at = inner .before .before .before .before .before .before in
-    let start = at .before .before .before in
+    let start = at .before .before .before .before in
     let qs = start .args .t2 in
     let row = queues-arrays qs _ (start .good .1 .0) .1 in
     let all = taken-all qs (at .loop .i) (inner .loop2 .j) (omega arith) row (omega arith) (inner .loop2 .inv .1) in
-    let more = places-more (placeFor (start .args .t1) qs) (at .loop .i) (omega arith) in
+    let more = places-more (placeFor (start .args .g) qs) (at .loop .i) (omega arith) in
     (omega arith, rw (at .loop .inv .1, c .contender-for .ensures, all) more)
 
 returns : tie.Need-returns Inv-loop2 μ-loop2 Inv-loop μ-loop
 returns c =
-    let start = c .before .before .before .before in
+    let start = c .before .before .before .before .before in
     let turn = c .before .loop in
-    let all : turn .i ≡ start .args .t1 .settings .n = omega arith in
-    turn .inv .1 ∙ ap (placesTo (placeFor (start .args .t1) (start .args .t2))) all
+    let all : turn .i ≡ start .args .g .settings .n = omega arith in
+    turn .inv .1 ∙ ap (placesTo (placeFor (start .args .g) (start .args .t2))) all
 
 pub offers-of-spec : {M : Type 1} → statement M
 offers-of-spec =
@@ -146,7 +146,7 @@ offers-of-spec =
     μ-loop
     loop-holds
     mul-l
-    element-copy-out-l
+    array-copy-out-l
     mul-length
     element-copy-out-length
     offers-nothing-requires
