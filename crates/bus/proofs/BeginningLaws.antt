@@ -18,7 +18,7 @@ use Rattle.rules.specs.Begin.{sits-out, parameterOf, offers, choice, entered, d
 use Rattle.rules.proofs.Laws.{and-true, true-and, keep-all, kept-failed, count-le, total-among, total-mono}
 use Rattle.bus.specs.Types.{Slot, Settings, Listed, Contender, Contention, Round, Segment, Queues, State, Packet, Queue}
 use Rattle.state.specs.State.{Held, noContender, nobody, placesAt, queueAt, offerOf, stationAt, valuesFrom, stationsOf, lastOf, contentionOf, meaning, contenderForm, form, row, waitingIn, queue-padded, contender-padded, no-station}
-use Rattle.bus.specs.Parts.{openingOf, Begun, Late, queueForm, stays, chosenForm, parameterFor, contenderOn, contenderFor}
+use Rattle.bus.specs.Parts.{openingOf, Late, queueForm, stays, chosenForm, parameterFor, contenderOn, contenderFor}
 use Rattle.state.specs.Parts.{queueOf, packetsOf}
 use Rattle.state.proofs.Rows.{values-take, values-map, values-same, among-values, row-length, row-at, row-ext, row-replicate, row-same, row-set}
 use Rattle.state.proofs.Form.{Padded, parts-padded, contender-form, queue-length, to-form}
@@ -402,11 +402,14 @@ module _ (s : State) (r : Lent s) where
 
     pub begun-is :
         (drops : ℕ) → drops ≡ dropsOf (meaning s) → length (rest .lengths) ≡ 64 → length (rest .packets) ≡ 1024
-        → _≡_
-        {A = Begun}
-        (record { state = begunState s rest drops; drops = drops })
-        (record { state = form (begin (meaning s)); drops = dropsOf (meaning s) })
-    begun-is drops e ls ps = λ i. record { state = state i; drops = e i }
+        → begunState s rest drops ≡ form (begin (meaning s))
+    begun-is drops e ls ps =
+        to-form
+        (begunState s rest drops)
+        (begin (meaning s))
+        held
+        (parts-padded (begunState s rest drops) (begun-padded drops))
+        (meaning-begun drops e)
       where
         held : Held (begunState s rest drops)
         held =
@@ -416,15 +419,6 @@ module _ (s : State) (r : Lent s) where
               lengths = ls;
               packets = ps;
             }
-
-        state : begunState s rest drops ≡ form (begin (meaning s))
-        state =
-            to-form
-            (begunState s rest drops)
-            (begin (meaning s))
-            held
-            (parts-padded (begunState s rest drops) (begun-padded drops))
-            (meaning-begun drops e)
 
 -- ---- no packet leaves
 
@@ -536,22 +530,14 @@ module _ (s : State) (r : Lent s) where
         go j false e = refl
 
     -- the state with the opening contention is the state of the rules
-    pub begun-idle :
-        _≡_
-        {A = Begun}
-        (record { state = opened s; drops = 0 })
-        (record { state = form (begin (meaning s)); drops = dropsOf (meaning s) })
+    pub begun-idle : opened s ≡ form (begin (meaning s))
     begun-idle =
         ap₂ (λ lost contenders. begun-with lost contenders) (sym (add-zero (s .segment .lost))) contenders-still
         ∙ begun-is s r (s .queues) left-idle 0 (sym none-dropped) (r .held .lengths) (r .held .packets)
       where
-        begun-with : ℕ → List Contender → Begun
+        begun-with : ℕ → List Contender → State
         begun-with lost contenders =
             record {
-              state =
-                  record {
-                    segment = segmentCounting (s .segment) (s .segment .admitted) lost (openingOf (s .segment .settings .d)) contenders;
-                    queues = s .queues;
-                  };
-              drops = 0;
+              segment = segmentCounting (s .segment) (s .segment .admitted) lost (openingOf (s .segment .settings .d)) contenders;
+              queues = s .queues;
             }

@@ -28,7 +28,7 @@ use Rattle.bus.specs.Types.{Address, Settings, Contender, Contention, Se
 use Rattle.state.specs.State.{noContender, Held, meaning, form, queueAt, standing}
 use Rattle.bus.specs.Coded.{Answer, Stepped, Admission, arrivalOf, codedAdmit, codedStep, coded, admissionResult, stepResult}
 use Rattle.bus.specs.Stretch.{Arrivals, Report, noArrival, most-calls, noReport, asks, due, arrivalReport, stepReport, inRow, mayBeMore}
-use Rattle.bus.specs.Parts.{openingOf, refusalAt, answered, Asked, askedIf, begunWith, Begun, Heard, Progress, Moved, unheardOn, wonOn, collidedOn, heardIn, movedBy, withMoved, segmentWith, queueForm, stays, Sent}
+use Rattle.bus.specs.Parts.{openingOf, refusalAt, answered, Asked, askedIf, begunWith, Heard, Progress, Moved, unheardOn, wonOn, collidedOn, heardIn, movedBy, withMoved, segmentWith, queueForm, stays, Sent}
 use Rattle.state.specs.Parts.{noContenders}
 use Rattle.state.proofs.Rows.{row-replicate}
 use Rattle.state.proofs.Form.{held-form, parts-padded}
@@ -39,7 +39,7 @@ use Rattle.bus.proofs.Admitting.{refusal-is, gives-1, gives-refusal, jo
 use Rattle.bus.proofs.SingleCalls.{next-same}
 use Rattle.bus.proofs.ClosingUp.{LeftIn}
 use Rattle.state.proofs.Tested.{denied}
-use Rattle.bus.proofs.BeginningLaws.{inTimeAt, begunState, begun-is, begun-idle, all-in-time, waiting-dropped}
+use Rattle.bus.proofs.BeginningLaws.{inTimeAt, begunState, begun-is, begun-idle, none-dropped, all-in-time, waiting-dropped}
 use Rattle.bus.proofs.BeginningLaws.{opened as begun-state}
 use Rattle.bus.proofs.Steps as Steps
 use Rattle.bus.proofs.Steps.{gives-17, goes-on, begins, probes}
@@ -58,7 +58,7 @@ pub lent-form : (b : Bus) → Standing b → Lent (form b)
 lent-form b h = lent-held (form b) (held-form b) (form-stands b h)
 
 -- the test that refusal 1 goes by is passed
-pub passed : (s : State) → Lent s → standing s ≡ true
+passed : (s : State) → Lent s → standing s ≡ true
 passed s r = true-and (parts-padded s (r .zeros)) (Tests.told (stands-exactly (meaning s)) (r .stands))
 
 lent-next : (s : State) → Lent s → (c : Call) → Lent (next coded s c)
@@ -182,19 +182,6 @@ pub record Opened (s : State) (g : Segment) (queues : Queues) (drops : ℕ) : Ty
 pub was-open : (s : State) → Lent s → s .segment .contention .begun ≡ true → Opened s (s .segment) (s .queues) 0
 was-open s r e = record { is = goes-on s e; ready = r; begun = e; clock = refl }
 
-pub now-open :
-    (s : State) → Lent s → s .segment .contention .begun ≡ false → (x : Begun)
-    → x ≡ record { state = form (begin (meaning s)); drops = dropsOf (meaning s) }
-    → Opened s (x .state .segment) (x .state .queues) (x .drops)
-now-open s r e x f =
-    subst (λ (o : Begun). Opened s (o .state .segment) (o .state .queues) (o .drops)) (sym f)
-    (record {
-      is = begins s r e;
-      ready = lent-form (begin (meaning s)) (begin-stands (meaning s) (r .stands));
-      begun = refl;
-      clock = refl;
-    })
-
 -- the same, of equal things
 pub opened-as :
     {s : State} {g g′ : Segment} {queues queues′ : Queues} {drops drops′ : ℕ} → g′ ≡ g → queues′ ≡ queues → drops′ ≡ drops
@@ -202,6 +189,19 @@ pub opened-as :
 opened-as {s} {g} {g′} {queues} {queues′} {drops} {drops′} a b c o =
     subst (λ (k : ℕ). Opened s g′ queues′ k) (sym c)
     (subst (λ (q : Queues). Opened s g′ q drops) (sym b) (subst (λ (h : Segment). Opened s h queues drops) (sym a) o))
+
+-- it has just begun
+now-open :
+    (s : State) → Lent s → s .segment .contention .begun ≡ false → (x : State) → x ≡ form (begin (meaning s)) → (drops : ℕ)
+    → drops ≡ dropsOf (meaning s) → Opened s (x .segment) (x .queues) drops
+now-open s r e x f drops d =
+    opened-as (ap (λ (y : State). y .segment) f) (ap (λ (y : State). y .queues) f) d
+    (record {
+      is = begins s r e;
+      ready = lent-form (begin (meaning s)) (begin-stands (meaning s) (r .stands));
+      begun = refl;
+      clock = refl;
+    })
 
 -- a segment with another contention and other contenders
 abbrev pub contending : Segment → Contention → List Contender → Segment
@@ -216,7 +216,7 @@ module _ (s : State) (r : Lent s) (between : s .segment .contention .begun ≡ f
       let none = ltb-false (s .segment .sent + s .segment .lost) (s .segment .admitted) (denied e n) in
       let idle : s .segment .sent + s .segment .lost ≡ s .segment .admitted = omega (arith, r .stands .counts) in
       opened-as (ap (λ (c : Contention). contending (s .segment) c (s .segment .contenders)) k!) refl refl
-      (now-open s r between (record { state = begun-state s; drops = 0 }) (begun-idle s r between idle))
+      (now-open s r between (begun-state s) (begun-idle s r between idle) 0 (sym (none-dropped s r between idle)))
 
 -- and where packets wait, of which these are left
 module _ (s : State) (r : Lent s) (between : s .segment .contention .begun ≡ false) (rest : Queues)
@@ -225,7 +225,7 @@ module _ (s : State) (r : Lent s) (between : s .segment .contention .begun ≡ f
       (drops : ℕ) → drops ≡ dropsOf (meaning s) → (g : Segment) → g ≡ begunWith (s .segment) rest drops → Opened s g rest drops
   begun-open drops e g f =
       opened-as f refl refl
-      (now-open s r between (record { state = begunState s rest drops; drops = drops }) (begun-is s r rest kept drops e ls ps))
+      (now-open s r between (begunState s rest drops) (begun-is s r rest kept drops e ls ps) drops e)
 
 -- nothing is late but in RTDG
 pub offered-open :

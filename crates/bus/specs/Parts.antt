@@ -23,7 +23,6 @@ use Rattle.bus.specs.Coded.{Answer}
 pub use Rattle.bus.specs.declared.Leaving.{Leaving}
 pub use Rattle.bus.specs.declared.Leaving.the-variants.{Late, Sent}
 pub use Rattle.bus.specs.declared.Chosen.{Chosen}
-pub use Rattle.bus.specs.declared.Begun.{Begun}
 pub use Rattle.bus.specs.declared.Asked.{Asked}
 pub use Rattle.bus.specs.declared.Heard.{Heard}
 pub use Rattle.bus.specs.declared.Progress.{Progress}

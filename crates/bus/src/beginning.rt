@@ -1,6 +1,4 @@
 // Beginning a contention: late packets are dropped, each station offers one packet, and parameters and the first window are fixed.
-use crate::Begun;
-use crate::Leaving;
 use crate::offering;
 use crate::waiting;
 use sorts::Capability;
@@ -14,17 +12,16 @@ use state::Queues;
 use state::Round;
 use state::Segment;
 use state::Settings;
-use state::State;
 use state::standing;
 use state::zeros;
 ghost use Prim.Native.Nat.{ℕ, _+_, _-_, _<_, _≤_};
 ghost use mathlib.Core.Path.{_≡_};
-ghost use mathlib.Core.Bool.{true, false, _||_, cond};
+ghost use mathlib.Core.Bool.{false, _||_, cond};
 ghost use lib.Dec.{eqb};
 ghost use lib.ListN.{getD};
 ghost use Rattle.rules.specs.SetUp.{disciplineOf};
-ghost use Rattle.rules.specs.Begin.{sits-out, begin, dropsOf};
-ghost use Rattle.state.specs.State.{meaning, form, lastOf, standing, waitingIn};
+ghost use Rattle.rules.specs.Begin.{sits-out};
+ghost use Rattle.state.specs.State.{lastOf, waitingIn};
 ghost use Rattle.bus.specs.Parts.{contenderFor, openingOf, offersOf, begunWith};
 ghost use Rattle.state.specs.Parts.{packetsOf};
 
@@ -148,30 +145,4 @@ pub fn begun(g: Segment, queues: Queues, drops: u64) -> Segment
     next.contention = contention;
     next.contenders = contenders;
     next
-}
-
-// 'If no contention is under way, a step first begins one at the present slot T', of a whole state: so a stretch begins one in RTDG, where the
-// row may change.
-pub fn begin(s: State) -> Begun
-    requires { ⌜ standing s ≡ true ⌝ }
-    requires { ⌜ s .segment .contention .begun ≡ false ⌝ }
-    ensures { λ r. ⌜ r ≡ record { state = form (begin (meaning s)); drops = dropsOf (meaning s) } ⌝ }
-{
-    let g = s.segment;
-    let queues = s.queues;
-    let settings = g.settings;
-    let n = settings.n;
-    let to = dropping(settings.discipline, n);
-    let clock = g.clock;
-    let leaving = Leaving::Late(settings.discipline, clock);
-    let rest = waiting::without(queues, 0, to, leaving);
-    let lengths = queues.lengths;
-    let kept = rest.lengths;
-    let drops = dropped(lengths, kept, n);
-    let segment = begun(g, rest, drops);
-    let state = State {
-        segment,
-        queues: rest,
-    };
-    Begun { state, drops }
 }

@@ -129,12 +129,6 @@ struct Asked {
     pub answer: Admitted,
 }
 
-// A contention that has begun, and how many packets were dropped.
-struct Begun {
-    pub state: State,
-    pub drops: u64,
-}
-
 // Who transmits in a slot: the first station's place, how it is listed and its packet, and the second one's place; N and zeros where
 // there is none.
 struct Heard {
@@ -224,48 +218,44 @@ pub fn step(mut s: State) -> Stepped
     ensures { λ r. ⌜ r ≡ stepResult (codedStep s) ⌝ }
 {
     let stands = standing::stands(s);
-    let mut g = s.segment;
-    let refusal = step_refusal(stands, g.clock);
+    let refusal = step_refusal(stands, s.segment.clock);
     let mut answer = refused(refusal);
     if refusal == 0 {
-        let settings = g.settings;
-        let under_way = g.contention;
+        let settings = s.segment.settings;
+        let under_way = s.segment.contention;
         let mut drops = 0;
         // 'If no contention is under way, a step first begins one': late packets leave, and each station offers one.
         if !under_way.begun {
             let n = settings.n;
             let to = beginning::dropping(settings.discipline, n);
-            let clock = g.clock;
+            let clock = s.segment.clock;
             let leaving = Leaving::Late(settings.discipline, clock);
             let lengths = s.queues.lengths;
-            let rest = waiting::without(s.queues, 0, to, leaving);
-            let kept = rest.lengths;
+            s.queues = waiting::without(s.queues, 0, to, leaving);
+            let kept = s.queues.lengths;
             drops = beginning::dropped(lengths, kept, n);
-            g = beginning::begun(g, rest, drops);
-            s.queues = rest;
+            s.segment = beginning::begun(s.segment, s.queues, drops);
         }
         // 'Every step then probes one slot.'
-        let heard = probing::heard(g);
-        let settings = g.settings;
-        let clock = g.clock;
-        let round = g.round;
-        let contention = g.contention;
+        let heard = probing::heard(s.segment);
+        let settings = s.segment.settings;
+        let clock = s.segment.clock;
+        let round = s.segment.round;
+        let contention = s.segment.contention;
         let progress = Progress {
             clock,
-            sent: g.sent,
+            sent: s.segment.sent,
             round,
             contention,
         };
         let moved = probing::moved(settings, progress, drops, heard);
         answer = moved.answer;
-        let segment = probing::with_moved(g, moved);
-        s.segment = segment;
+        s.segment = probing::with_moved(s.segment, moved);
         // 'That packet leaves its queue.'
         if answer.event == probing::SUCCESS {
             let place = heard.first;
             let leaving = Leaving::Sent(answer.number);
-            let rest = waiting::without(s.queues, place, place + 1, leaving);
-            s.queues = rest;
+            s.queues = waiting::without(s.queues, place, place + 1, leaving);
         }
     }
     Stepped { answer, state: s }

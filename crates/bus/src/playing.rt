@@ -1,12 +1,14 @@
 // A stretch of a run: arrivals and steps, one call after the other.
 use crate::Answer;
 use crate::Arrivals;
+use crate::Leaving;
 use crate::Progress;
 use crate::Report;
 use crate::Stretch;
 use crate::beginning;
 use crate::joining;
 use crate::probing;
+use crate::waiting;
 use rules::Admitted;
 use rules::Packet;
 use sorts::Address;
@@ -157,7 +159,8 @@ pub fn calls(s: State, stands: bool, arrivals: Arrivals, steps: u32) -> Stretch
             left -= 1;
             continue;
         }
-        // 'If no contention is under way, a step first begins one': where no packet waits none is late and nobody contends.
+        // 'If no contention is under way, a step first begins one': where no packet waits none is late and nobody contends. Late packets leave
+        // in RTDG alone.
         let mut drops = 0;
         let under_way = g.contention;
         if !under_way.begun {
@@ -165,12 +168,13 @@ pub fn calls(s: State, stands: bool, arrivals: Arrivals, steps: u32) -> Stretch
                 let opening = beginning::opening(settings.d);
                 g.contention = opening;
             } else if settings.discipline == disciplines::RTDG {
-                let lent = State { segment: g, queues };
-                let begun = beginning::begin(lent);
-                let state = begun.state;
-                g = state.segment;
-                queues = state.queues;
-                drops = begun.drops;
+                let n = settings.n;
+                let leaving = Leaving::Late(settings.discipline, clock);
+                let lengths = queues.lengths;
+                queues = waiting::without(queues, 0, n, leaving);
+                let kept = queues.lengths;
+                drops = beginning::dropped(lengths, kept, n);
+                g = beginning::begun(g, queues, drops);
             } else {
                 g = beginning::begun(g, queues, 0);
             }

@@ -45,12 +45,12 @@ refused-requires c κs = search needs
 
 module _ (t : tie.Then1) where
   abbrev s : State
-  s = t .before .before .before .before .before .args .s
+  s = t .before .before .before .before .args .s
 
   ready : (Lent s) × (ltb last-slot (s .segment .clock .0) ≡ false)
   ready =
       let tested = t .before .before in
-      step-on (tested .before .before .stands .result) s (sound! (tested .before .before)) (tested .step-refusal .result) (tested .step-refusal .ensures) (t .if1 .taken)
+      step-on (tested .before .stands .result) s (sound! (tested .before)) (tested .step-refusal .result) (tested .step-refusal .ensures) (t .if1 .taken)
 
   -- late packets have left the queues
   left :
@@ -106,7 +106,7 @@ module _ (c : tie.Joined2) where
   abbrev at : tie.Then1
   at = c .before .before .before .before
 
-  opened! : Opened (s at) (c .if2 .g) (c .if2 .s .queues) (c .if2 .drops)
+  opened! : Opened (s at) (c .if2 .s .segment) (c .if2 .s .queues) (c .if2 .drops)
   opened! =
       let r = ready at .0 in
       ⊎-elim
@@ -120,12 +120,12 @@ module _ (c : tie.Joined2) where
             };
         without = w .4;
       } in
-      opened-as (w .9) (ap (λ (x : State). x .queues) (w .8)) (w .10)
+      opened-as (ap (λ (x : State). x .segment) (w .8)) (ap (λ (x : State). x .queues) (w .8)) (w .9)
       (begun-open (s at) r (denied refl (w .0 .taken)) (w .4 .result) (kept past) (arrays past .0) (arrays past .1) (w .6 .result)
       (drops! (record { before = record { before = past; kept = w .5 }; dropped = w .6 }))
       (w .7 .result)
       (w .7 .ensures)))
-      (λ w. opened-as (w .2) (ap (λ (x : State). x .queues) (w .1)) (w .3) (was-open (s at) r (granted refl (w .0 .left))))
+      (λ w. opened-as (ap (λ (x : State). x .segment) (w .1)) (ap (λ (x : State). x .queues) (w .1)) (w .2) (was-open (s at) r (granted refl (w .0 .left))))
       (c .if2 .came)
 
 heard-requires : tie.Need-heard-requires
@@ -135,7 +135,7 @@ moved-requires : tie.Need-moved-requires
 moved-requires c κs =
     let joined = c .before .before .before .before .before in
     let o = opened! joined in
-    let here = whole (joined .if2 .g) (joined .if2 .s .queues) in
+    let here = whole (joined .if2 .s .segment) (joined .if2 .s .queues) in
     let h = c .before .before .before .before .heard .ensures in (
       o .ready .stands .clock-in,
       (
@@ -163,24 +163,24 @@ module _ (c : tie.After-with-moved) where
   heard-now = moved .before .before .before .before .before .heard .result
 
   abbrev here : State
-  here = whole (joined .if2 .g) (joined .if2 .s .queues)
+  here = whole (joined .if2 .s .segment) (joined .if2 .s .queues)
 
   abbrev m : Moved
   m = moved .moved .result
 
-  m! : m ≡ movedBy (joined .if2 .g .settings) (progressOf (joined .if2 .g)) (joined .if2 .drops) heard-now
+  m! : m ≡ movedBy (joined .if2 .s .segment .settings) (progressOf (joined .if2 .s .segment)) (joined .if2 .drops) heard-now
   m! = moved .moved .ensures
 
-  heard! : heard-now ≡ heardIn (joined .if2 .g)
+  heard! : heard-now ≡ heardIn (joined .if2 .s .segment)
   heard! = moved .before .before .before .before .before .heard .ensures
 
   no-winner! : ¬ (m .answer .event ≡ success) → record { answer = m .answer; state = whole (c .with-moved .result) (joined .if2 .s .queues) } ≡ stepResult (codedStep (s t))
   no-winner! n =
       ap (λ (g : Segment). record { answer = m .answer; state = whole g (joined .if2 .s .queues) }) (c .with-moved .ensures)
-      ∙ none-sent (s t) (ready t .0) (ready t .1) (joined .if2 .g) (joined .if2 .s .queues) (joined .if2 .drops) (opened! joined) heard-now heard! m m! n
+      ∙ none-sent (s t) (ready t .0) (ready t .1) (joined .if2 .s .segment) (joined .if2 .s .queues) (joined .if2 .drops) (opened! joined) heard-now heard! m m! n
 
   winner! : m .answer .event ≡ success → heard-now .first < 64
-  winner! = winner-in (s t) (ready t .0) (ready t .1) (joined .if2 .g) (joined .if2 .s .queues) (joined .if2 .drops) (opened! joined) heard-now heard! m m!
+  winner! = winner-in (s t) (ready t .0) (ready t .1) (joined .if2 .s .segment) (joined .if2 .s .queues) (joined .if2 .drops) (opened! joined) heard-now heard! m m!
 
 -- ---- the winner's packet leaves its queue
 
@@ -205,7 +205,7 @@ returns c =
     let n = queues-arrays rest _ (c .without2 .ok) in
     let i = heard-now told .first in
     ap (λ (g : Segment). record { answer = m told .answer; state = whole g rest }) (told .with-moved .ensures)
-    ∙ one-sent (s (t told)) (ready (t told) .0) (ready (t told) .1) (joined told .if2 .g) (joined told .if2 .s .queues) (joined told .if2 .drops) o (heard-now told) (heard! told)
+    ∙ one-sent (s (t told)) (ready (t told) .0) (ready (t told) .1) (joined told .if2 .s .segment) (joined told .if2 .s .queues) (joined told .if2 .drops) o (heard-now told) (heard! told)
     (m told)
     (m! told)
     (won .if3 .taken)
@@ -221,9 +221,9 @@ returns-3 : tie.Need-returns-3
 returns-3 c =
     let told = c .before in
     let tested = told .before in
-    let s = tested .before .before .before .args .s in
+    let s = tested .before .before .args .s in
     ap (λ (answer : Answer). record { answer = answer; state = s }) (told .refused .ensures)
-    ∙ step-away (tested .before .before .stands .result) s (sound! (tested .before .before)) (tested .step-refusal .result) (tested .step-refusal .ensures)
+    ∙ step-away (tested .before .stands .result) s (sound! (tested .before)) (tested .step-refusal .result) (tested .step-refusal .ensures)
     (c .if1 .left)
 
 pub step-spec : {M : Type 1} → statement M

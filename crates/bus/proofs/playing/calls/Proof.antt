@@ -11,22 +11,24 @@ use borrow.Author.Tests.{eq-eqb, ne-eqb}
 use lib.ListN.{length, getD, set, replicate}
 use Rattle.rules.specs.Lists.{keep}
 use Rattle.rules.specs.Bus.{last-slot}
+use Rattle.rules.specs.Begin.{dropsOf}
 use Rattle.rules.specs.Probe.{success}
 use Rattle.rules.proofs.Standing.{set-up-stands}
 use Rattle.bus.specs.Types.{Packet, Contender, Queues, State, Arrival, Slot}
-use Rattle.state.specs.State.{noContender, noPacket, meaning, queueAt}
+use Rattle.state.specs.State.{noContender, noPacket, meaning, queueAt, waitingIn}
 use Rattle.bus.specs.Coded.{Answer, Admission, Stepped, admissionResult, stepResult, codedAdmit, codedStep}
 use Rattle.bus.specs.Stretch.{inRow, mayBeMore, Arrivals, Report, noArrival, asks, due, arrivalReport, stepReport}
 use Rattle.bus.specs.Parts.{Heard, segmentWith, stays, Sent, queueForm}
+use Rattle.state.proofs.Places.{queues-arrays}
 use Rattle.state.proofs.Tested.{denied, granted}
 use Rattle.state.proofs.Stands.{Lent, lent, few-packets}
 use Rattle.state.proofs.StandingParts.{state-held}
 use Rattle.bus.proofs.ClosingUp.{ClosedUp, closed-none, closed-leaves, closed-stays, closed-all}
 use Rattle.bus.proofs.Admitting.{joinedAt}
-use Rattle.bus.proofs.BeginningLaws.{all-formed, lost-counted}
+use Rattle.bus.proofs.BeginningLaws.{all-formed, room-left, late-counted, lost-counted}
 use Rattle.bus.proofs.HeardLaws.{heard-short, heard-counted}
 use Rattle.bus.proofs.Stretched.{on, at-last, arrivals-array, row-few, row-full}
-use Rattle.bus.proofs.InPlace.{whole, passed, Sound, sound-of, Taken, asked-away, asked-in, step-away, step-on, Opened, was-open, now-open, opened-as, idle-open, offered-open, still-on, ends-unheard, winner-in, ends-won, Going, at-outset, with-arrival, with-step}
+use Rattle.bus.proofs.InPlace.{whole, Sound, sound-of, Taken, asked-away, asked-in, step-away, step-on, Opened, was-open, opened-as, idle-open, begun-open, offered-open, still-on, ends-unheard, winner-in, ends-won, Going, at-outset, with-arrival, with-step}
 use Rattle.bus.proofs.playing.calls.Statement.{statement}
 use Rattle.bus.proofs.playing.calls.Tie as tie
 use Rattle.bus.proofs.QueueLaws.{withQueue}
@@ -255,13 +257,46 @@ waits-requires c κs = omega (arith, ready (c .before .before .before) .0 .stand
 opening-requires : tie.Need-opening-requires Inv-loop2 μ-loop2 Inv-loop μ-loop
 opening-requires c κs = search needs
 
-begin-requires : tie.Need-begin-requires Inv-loop2 μ-loop2 Inv-loop μ-loop
-begin-requires c κs =
-    let past = c .before .before .before .before .before .before .before in
-    (passed (s (past .before .before .before .before .before .before .before)) (ready past .0), denied refl (c .before .before .before .before .if5 .taken))
+without-requires : tie.Need-without-requires Inv-loop2 μ-loop2 Inv-loop μ-loop
+without-requires c κs =
+    let past = c .before .before .before .before .before .before .before .before in
+    let t = past .before .before .before .before .before .before .before in
+    let r = ready past .0 in
+    (r .few, (all-formed (s t) r, few-packets (s t) r))
+
+-- late packets have left the queues
+module _ (c : tie.After-without Inv-loop2 μ-loop2 Inv-loop μ-loop) where
+  abbrev going-on : tie.Else4 Inv-loop2 μ-loop2 Inv-loop μ-loop
+  going-on = c .before .before .before .before .before .before .before .before .before
+
+  abbrev found : State
+  found = s (going-on .before .before .before .before .before .before .before)
+
+  -- those waiting before are those waiting after and those dropped
+  fewer :
+      waitingIn (found .queues .lengths) (found .segment .settings .n)
+      ≡ waitingIn (c .without .result .lengths) (found .segment .settings .n) + dropsOf (meaning found)
+  fewer = late-counted found (ready going-on .0) (c .without .result) (c .without .ensures) (queues-arrays (c .without .result) _ (c .without .ok) .0)
+
+dropped-requires : tie.Need-dropped-requires Inv-loop2 μ-loop2 Inv-loop μ-loop
+dropped-requires c κs = omega (arith, fewer (c .before))
 
 begun-requires : tie.Need-begun-requires Inv-loop2 μ-loop2 Inv-loop μ-loop
 begun-requires c κs =
+    let past = c .before .before in
+    let r = ready (going-on past) .0 in
+    let spaces = set-up-stands (meaning (found past)) (r .stands) in
+    let count = lost-counted (found past) r in
+    let n = fewer past in (
+      r .few,
+      (
+        room-left (found past) r (past .without .result) (past .without .ensures),
+        (spaces .q-least, (omega (arith, spaces .D-least), omega (arith, c .dropped .ensures))),
+      ),
+    )
+
+begun-requires-2 : tie.Need-begun-requires-2 Inv-loop2 μ-loop2 Inv-loop μ-loop
+begun-requires-2 c κs =
     let past = c .before .before .before .before .before .before .before in
     let t = past .before .before .before .before .before .before .before in
     let r = ready past .0 in
@@ -280,7 +315,12 @@ now-opened c =
     (idle-open (s t) r (denied refl (idle .0 .taken)) (idle .3 .result) (idle .3 .ensures) (idle .1 .ensures) (idle .2 .taken)))
     (λ w.
     ⊎-elim
-    (λ begun. opened-as (begun .9) (begun .10) (begun .11) (now-open (s t) r (denied refl (begun .0 .taken)) (begun .5 .result) (begun .5 .ensures)))
+    (λ begun.
+    let n = queues-arrays (begun .6 .result) _ (begun .6 .ok) in
+    let counted = late-counted (s t) r (begun .6 .result) (begun .6 .ensures) (n .0) in
+    let drops! : begun .8 .result ≡ dropsOf (meaning (s t)) = omega (arith, begun .8 .ensures) in
+    opened-as (begun .10) (begun .11) (begun .12)
+    (begun-open (s t) r (denied refl (begun .0 .taken)) (begun .6 .result) (begun .6 .ensures) (n .0) (n .1) (begun .8 .result) drops! (begun .9 .result) (begun .9 .ensures)))
     (λ v.
     ⊎-elim
     (λ offered.
@@ -458,8 +498,8 @@ mul-p c = let h = here! (c .before .before .before) in search needs
 element-copy-out-p : tie.Need-element-copy-out-p Inv-loop2 μ-loop2 Inv-loop μ-loop
 element-copy-out-p c = let h = here! (c .before .before .before) in search needs
 
-mul-t98 : tie.Need-mul-t98 Inv-loop2 μ-loop2 Inv-loop μ-loop
-mul-t98 c = let h = here! (c .before .before .before .before) in search needs
+mul-t100 : tie.Need-mul-t100 Inv-loop2 μ-loop2 Inv-loop μ-loop
+mul-t100 c = let h = here! (c .before .before .before .before) in search needs
 
 element-set-from-queues : tie.Need-element-set-from-queues Inv-loop2 μ-loop2 Inv-loop μ-loop
 element-set-from-queues c = let h = here! (c .before .before .before .before) in search needs
@@ -589,8 +629,10 @@ calls-spec =
     loop-again-3
     waits-requires
     opening-requires
-    begin-requires
+    without-requires
+    dropped-requires
     begun-requires
+    begun-requires-2
     heard-requires
     moved-requires
     of-step-requires-2
@@ -609,7 +651,7 @@ calls-spec =
     add-at-2
     mul-p
     element-copy-out-p
-    mul-t98
+    mul-t100
     element-set-from-queues
     add-free
     mul-p-2
