@@ -88,14 +88,14 @@ pub struct Report {
     pub answer: Answer,
 }
 
-// A stretch of a run: the reports of the calls made, zeros past them; how many arrivals have been taken, how many steps are left, and
-// the state.
+// A stretch of a run: the reports of the calls made, zeros past them; how many arrivals have been taken, the state, and how many steps are
+// left. The state lies before the shorter number: after a gap it would be held twice as it is handed back.
 pub struct Stretch {
     pub reports: [Report; 512],
     pub made: usize,
     pub taken: usize,
-    pub left: u32,
     pub state: State,
+    pub left: u32,
 }
 
 // What a listing closes with; the refusal number, or 0, and zeros where refused.

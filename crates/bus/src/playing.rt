@@ -235,7 +235,7 @@ pub fn calls(s: State, stands: bool, arrivals: Arrivals, steps: u32) -> Stretch
         reports,
         made,
         taken,
-        left,
         state,
+        left,
     }
 }
