@@ -115,16 +115,18 @@ fn tell(room: &mut [u8; 65536], at: usize, report: Report) -> usize
     telling::arrival(room, at, clock, address, admitted.refusal)
 }
 
-// The text of all reports of a stretch; how many bytes it has.
+// The text of all reports of a stretch; how many bytes it has. The reports are taken out once: to read one of them in the stretch would copy
+// the whole stretch.
 fn tell_all(room: &mut [u8; 65536], stretch: Stretch) -> usize
     requires { ⌜ stretch .made ≤ 512 ⌝ }
     ensures { λ r. ⌜ Told (now (room .entry)) (now (room .exit)) 0 r (reportsText (take (stretch .made) (stretch .reports))) room-bytes ⌝ }
 {
     let made = stretch.made;
+    let reports = stretch.reports;
     let mut at = 0;
     let mut i = 0;
     while i < made {
-        let report = stretch.reports[i];
+        let report = reports[i];
         at = tell(room, at, report);
         i += 1;
     }

@@ -15,10 +15,10 @@ use Rattle.listing.proofs.tell_all.Statement.{statement}
 use Rattle.listing.proofs.tell_all.Tie as tie
 
 abbrev Inv-loop : tie.InvT-loop
-Inv-loop room₀ stretch made at₀ i₀ room at i = (i ≤ made) × Told room₀ room 0 at (reportsText (take i (stretch .reports))) (128 * i)
+Inv-loop room₀ made reports at₀ i₀ room at i = (i ≤ made) × Told room₀ room 0 at (reportsText (take i reports)) (128 * i)
 
 abbrev μ-loop : tie.MeasureT-loop
-μ-loop room₀ stretch made at₀ i₀ room at i = made - i
+μ-loop room₀ made reports at₀ i₀ room at i = made - i
 
 loop-holds : tie.Need-loop-holds Inv-loop μ-loop
 loop-holds c = (search needs, told-none _ _ _)
@@ -26,8 +26,8 @@ loop-holds c = (search needs, told-none _ _ _)
 mul-report : tie.Need-mul-report Inv-loop μ-loop
 mul-report c = search needs
 
-element-copy-out-report : tie.Need-element-copy-out-report Inv-loop μ-loop
-element-copy-out-report c = search needs
+array-copy-out-report : tie.Need-array-copy-out-report Inv-loop μ-loop
+array-copy-out-report c = search needs
 
 tell-requires : tie.Need-tell-requires Inv-loop μ-loop
 tell-requires c κs = let h = c .before .before .before .loop .inv .1 in omega (arith, h .past, h .few)
@@ -41,9 +41,9 @@ loop-less c = search needs
 loop-again : tie.Need-loop-again Inv-loop μ-loop
 loop-again c =
     let turn = c .before .before .before .before .loop in
-    let start = c .before .before .before .before .before in
-    let reports = start .args .t2 .reports in
-    let all = reports-array (start .args .t2) _ (start .good .1 .0) in
+    let start = c .before .before .before .before .before .before in
+    let reports = start .args .stretch .reports in
+    let all = reports-array (start .args .stretch) _ (start .good .1 .0) in
     let one =
     ap (λ k. reportsText (take k reports)) (add-one (turn .i))
     ∙ ap reportsText (take-suc reports (turn .i) noReport (omega arith))
@@ -53,8 +53,8 @@ loop-again c =
 returns : tie.Need-returns Inv-loop μ-loop
 returns c =
     let turn = c .before .loop in
-    let start = c .before .before in
-    let all : turn .i ≡ start .args .t2 .made = omega arith in
+    let start = c .before .before .before in
+    let all : turn .i ≡ start .args .stretch .made = omega arith in
     told-within (rw all at (turn .inv .1)) (omega arith)
 
 pub tell-all-spec : {M : Type 1} → statement M
@@ -65,7 +65,7 @@ tell-all-spec =
     μ-loop
     loop-holds
     mul-report
-    element-copy-out-report
+    array-copy-out-report
     tell-requires
     add-i
     loop-less
