@@ -1,4 +1,4 @@
-// Beginning a contention: late packets are dropped, each station offers one packet, and parameters and the first window are fixed.
+// Beginning a contention: late packets are counted lost, each station offers one packet, and parameters and the first window are fixed.
 use crate::offering;
 use crate::waiting;
 use sorts::Capability;

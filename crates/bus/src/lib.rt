@@ -89,7 +89,7 @@ pub struct Report {
 }
 
 // A stretch of a run: the reports of the calls made, zeros past them; how many arrivals have been taken, the state, and how many steps are
-// left. The state lies before the shorter number: after a gap it would be held twice as it is handed back.
+// left. The state lies before the shorter number: after that and its padding the compiled code would hold it twice as it is handed back.
 pub struct Stretch {
     pub reports: [Report; 512],
     pub made: usize,
