@@ -44,7 +44,9 @@ list bring [] k = k []
 list bring (x ∷ xs) k = bring x λ y. list bring xs λ ys. k (y ∷ ys)
 
 abbrev packet : Brings Packet
-packet p k = number (p .number) λ n. number (p .value) λ v. number (p .length) λ l. k (record { number = n; value = v; length = l })
+packet p k =
+    number (p .number) λ n. number (p .value) λ v. number (p .length) λ l. number (p .admission .0) λ t.
+    k (record { number = n; value = v; length = l; admission = record { 0 = t } })
 
 abbrev offer : Brings Offer
 offer o k = number (o .parameter) λ v. packet (o .packet) λ p. k (record { parameter = v; packet = p })
@@ -81,7 +83,7 @@ computed E bring s (one-step ∷ calls) = bring s λ t. let said = E .step t in 
 abbrev pub Same : {X : Type 0} → Brings X → Type 0
 Same {X} bring = (x : X) (k : X → List Reply) → bring x k ≡ k x
 
-number-same : Same number
+pub number-same : Same number
 number-same zero k = refl
 number-same (suc n) k = refl
 

@@ -61,7 +61,7 @@ step-rise b =
     record { in-admitted = omega arith; in-sent = omega arith; in-lost = omega arith; in-clock = omega arith }
 
 -- any call, refused or not
-call-rise : (b : Bus) (c : Call) → Rise b (next machine b c) (reply machine b c ∷ [])
+pub call-rise : (b : Bus) (c : Call) → Rise b (next machine b c) (reply machine b c ∷ [])
 call-rise b c = go c (does b c)
   where
     go : (k : Call) → Does b k → Rise b (next machine b k) (reply machine b k ∷ [])

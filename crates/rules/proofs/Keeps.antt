@@ -57,9 +57,11 @@ last-kept f same stations PRI (some c) h = h
 last-kept f same stations RTDG (some c) h = h
 last-kept f same stations RTVC (some c) h = (f (h .0), map-into f stations (h .1), h .2 ∙ sym (ap (λ r. r .capability) (same (h .0))))
 
--- a packet, where the discipline and D are the same
-packet-kept : (b b′ : Bus) → b′ .discipline ≡ b .discipline → b′ .D ≡ b .D → (p : Packet) → PacketStands b p → PacketStands b′ p
-packet-kept b b′ d D p h = record { value = rw (d, D) (h .value); least = h .least; most = h .most }
+-- a packet, where the discipline and D are the same and the clock has not gone back
+packet-kept :
+    (b b′ : Bus) → b′ .discipline ≡ b .discipline → b′ .D ≡ b .D → b .clock ≤ b′ .clock → (p : Packet) → PacketStands b p → PacketStands b′ p
+packet-kept b b′ d D on p h =
+    record { value = rw (d, D) (h .value); least = h .least; most = h .most; admission = omega (arith, on, h .admission) }
 
 -- a window and a tied value, where D and A are the same
 contention-kept : (b b′ : Bus) → b′ .D ≡ b .D → b′ .A ≡ b .A → (c : Option Contention) → ContentionStands b c → ContentionStands b′ c
@@ -106,11 +108,11 @@ moved b f clock sent lost last contention =
 -- Such a bus stands, if its clock, counts, offers, last winner and window are in order.
 module _ (b : Bus) (f : Station → Station) (clock sent lost : ℕ) (last : Option ℕ) (c : Option Contention) where
   moved-stands :
-      Standing b → ((s : Station) → asked (f s) ≡ asked s) → ((s : Station) → Fewer (s .queue) (f s .queue)) → clock ≤ clock-end
+      Standing b → ((s : Station) → asked (f s) ≡ asked s) → ((s : Station) → Fewer (s .queue) (f s .queue)) → b .clock ≤ clock → clock ≤ clock-end
       → waiting (b .stations) + (b .sent + b .lost) ≡ waiting (map f (b .stations)) + (sent + lost)
       → All (λ s. OfferStands (moved b f clock sent lost last c) (f s) c (f s .offer)) (b .stations) → LastStands (b .discipline) (map f (b .stations)) last
       → ContentionStands b c → Standing (moved b f clock sent lost last c)
-  moved-stands h same fewer t balance offers won w =
+  moved-stands h same fewer on t balance offers won w =
       record {
         passes = passes-kept b f same h;
         clock-in = t;
@@ -122,7 +124,7 @@ module _ (b : Bus) (f : Station → Station) (clock sent lost : ℕ) (last : Opt
             record {
               room = omega (arith, was .room, fewer s .room);
               rises = fewer s .rises (b .admitted) (was .rises);
-              packets = λ p j. packet-kept b (moved b f clock sent lost last c) refl refl p (was .packets p (fewer s .packets p j));
+              packets = λ p j. packet-kept b (moved b f clock sent lost last c) refl refl on p (was .packets p (fewer s .packets p j));
               offered = offers s i;
             });
         none-twice = none-twice-kept f (b .stations) (λ s i. fewer s .numbers) (h .none-twice);
@@ -192,7 +194,7 @@ dropped b =
 pub begin-stands : (b : Bus) → Standing b → Standing (begin b)
 begin-stands b h =
     moved-stands b (entered b) (b .clock) (b .sent) (b .lost + dropsOf b) (b .last) (some (opening b)) h (λ s. refl)
-    (λ s. fewer-keep _ (s .queue)) (h .clock-in) (omega (arith, dropped b)) (offers-stand b h)
+    (λ s. fewer-keep _ (s .queue)) (le-refl _) (h .clock-in) (omega (arith, dropped b)) (offers-stand b h)
     (last-kept (entered b) (λ s. refl) (b .stations) (b .discipline) (b .last) (h .last-winner)) (placed-first (b .D))
 
 -- the bus that a step probes stands, and has its contention under way
@@ -221,16 +223,16 @@ opened-same {X} f b e = go (b .contention)
 -- ---- probing one slot
 
 -- who transmits: a station's contender, with a packet of its queue and a parameter below D
-record Sender (b : Bus) (c : Contention) (x : Contender) : Type 0 where
-  station : Station
-  listed : Among station (b .stations)
-  address : x .address ≡ station .address
-  capability : x .capability ≡ station .capability
-  queued : Among (x .packet) (station .queue)
-  below : x .parameter < b .D
-  lies : lies-in (c .window) (c .tie) x ≡ true
+pub record Sender (b : Bus) (c : Contention) (x : Contender) : Type 0 where
+  pub station : Station
+  pub listed : Among station (b .stations)
+  pub address : x .address ≡ station .address
+  pub capability : x .capability ≡ station .capability
+  pub queued : Among (x .packet) (station .queue)
+  pub below : x .parameter < b .D
+  pub lies : lies-in (c .window) (c .tie) x ≡ true
 
-sender : (b : Bus) (c : Contention) (x : Contender) → Standing b → b .contention ≡ some c → Among x (transmitters b c) → Sender b c x
+pub sender : (b : Bus) (c : Contention) (x : Contender) → Standing b → b .contention ≡ some c → Among x (transmitters b c) → Sender b c x
 sender b c x h e i =
     let sends = keep-from (transmits b c) (contenders (b .stations)) i in
     let from = contender-from (b .stations) (sends .0) in
@@ -250,7 +252,7 @@ goes-on-stands : (b : Bus) (c : Contention) → Standing b → b .clock ≤ last
 goes-on-stands b c h t w =
     rw (← (map-id (b .stations)))
     (moved-stands b (λ s. s) (suc (b .clock)) (b .sent) (b .lost) (b .last) (some c) h (λ s. refl) (λ s. fewer-all (s .queue)) (omega arith)
-    (rw (map-id (b .stations)))
+    (omega arith) (rw (map-id (b .stations)))
     (λ s i. offer-kept b _ refl refl s s refl (λ p j. j) (b .contention) (some c) (λ e. cc) (s .offer) (h .each-station s i .offered))
     (last-kept (λ s. s) (λ s. refl) (b .stations) (b .discipline) (b .last) (h .last-winner)) w)
 
@@ -289,7 +291,7 @@ unheard-stands :
 unheard-stands o h t w Left e = goes-on-stands (o .bus) _ h t (right-stands (o .bus) (o .contention .window) e (o .contention .tie) w)
 unheard-stands o h t w Right e =
     moved-stands (o .bus) withdrawn (suc (o .bus .clock)) (o .bus .sent) (o .bus .lost) none none h (λ s. refl) (λ s. fewer-all (s .queue)) (omega arith)
-    (rw (total-map held withdrawn (o .bus .stations))) (λ s i. tt) tt tt
+    (omega arith) (rw (total-map held withdrawn (o .bus .stations))) (λ s i. tt) tt tt
 
 -- one transmits: whether a station is its own, and what a queue has left if it is
 abbrev own : Contender → Station → Bool
@@ -332,7 +334,7 @@ module _ (b : Bus) (c : Contention) (x : Contender) (h : Standing b) (k : Sender
   won-stands t =
       let long = h .each-station (k .station) (k .listed) .packets (x .packet) (k .queued) .most in
       moved-stands b (left x) (b .clock + x .packet .length) (suc (b .sent)) (b .lost) (lastWinner (b .discipline) x) none h (λ s. refl)
-      (λ s. fewer s (own x s)) (omega arith) (omega (arith, one-leaves)) (λ s i. tt) (winner-stands (b .discipline)) tt
+      (λ s. fewer s (own x s)) (omega arith) (omega arith) (omega (arith, one-leaves)) (λ s i. tt) (winner-stands (b .discipline)) tt
     where
       fewer : (s : Station) (mine : Bool) → Fewer (s .queue) (remaining x s mine)
       fewer s true = fewer-keep _ (s .queue)
@@ -359,8 +361,10 @@ module _ (b : Bus) (a : Arrival) (k : AdmissionAccepted b a) where
   packets-stand s i p j = go (among-append (s .queue) j)
     where
       go : Among p (s .queue) ⊎ Among p (newPacket b a ∷ []) → PacketStands (withPacket b a) p
-      go (inl old) = packet-kept b _ refl refl p (k .standing .each-station s i .packets p old)
-      go (inr new) = all-cons (newPacket b a) (record { value = k .value; least = k .least; most = k .most }) (all-nil (PacketStands (withPacket b a))) p new
+      go (inl old) = packet-kept b _ refl refl (le-refl _) p (k .standing .each-station s i .packets p old)
+      go (inr new) =
+          all-cons (newPacket b a) (record { value = k .value; least = k .least; most = k .most; admission = le-refl _ })
+          (all-nil (PacketStands (withPacket b a))) p new
 
   -- the station named has room, and a packet more; the others stay as they were
   joined-stands : (s : Station) → Among s (b .stations) → (t : Bool) → named a s ≡ t → StationStands (withPacket b a) (cond t (queued (newPacket b a) s) s)
@@ -377,7 +381,7 @@ module _ (b : Bus) (a : Arrival) (k : AdmissionAccepted b a) where
       record {
         room = was .room;
         rises = rising-suc 0 (b .admitted) (s .queue) (was .rises);
-        packets = λ p j. packet-kept b _ refl refl p (was .packets p j);
+        packets = λ p j. packet-kept b _ refl refl (le-refl _) p (was .packets p j);
         offered = offer-kept b _ refl refl s s refl (λ p j. j) (b .contention) (b .contention) (λ z. z) (s .offer) (was .offered);
       }
 

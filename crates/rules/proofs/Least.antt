@@ -147,7 +147,7 @@ cleared-reached =
 -- ---- the theorems
 
 -- a silent slot is idle, whatever the side
-silent-idle : (o : Open) (side : Side) → unheard o side .0 .event ≡ idle
+pub silent-idle : (o : Open) (side : Side) → unheard o side .0 .event ≡ idle
 silent-idle o Left = refl
 silent-idle o Right = refl
 
@@ -202,7 +202,7 @@ least-wins b k e won =
     go (x ∷ y ∷ more) sent s = absurd (omega arith)
 
 -- a step in which a packet was sent was accepted
-sent-accepted : (b : Bus) → step b .0 .event ≡ success → stepRefusal b ≡ 0
+pub sent-accepted : (b : Bus) → step b .0 .event ≡ success → stepRefusal b ≡ 0
 sent-accepted b = go (stepRefusal b) (eqb (stepRefusal b) 0) refl
   where
     go : (n : ℕ) (t : Bool) → eqb n 0 ≡ t → cond t (probe (opened b)) (refusedAnswer n, b) .0 .event ≡ success → n ≡ 0

@@ -12,11 +12,13 @@ pub mod Numbering
 pub mod Counts
 pub mod Contenders
 pub mod Least
+pub mod Waits
 pub mod Probes
 pub mod Enabled
 pub mod Round
 pub mod Circuit
 pub mod Demand3
+pub mod OldestWait
 pub mod Computing
 pub mod Starred
 pub mod WrongEngines

@@ -17,7 +17,7 @@ use Rattle.rules.proofs.Reach.{Does, refuses, admits, holds, probes-one
 use Rattle.rules.proofs.Counts.{step-rise, fresh-zero}
 
 -- the numbers answered from a bus on: one more than it has admitted, and so on
-abbrev Counting : ℕ → List Reply → Type 0
+abbrev pub Counting : ℕ → List Reply → Type 0
 Counting n rs = numbersAnswered rs ≡ countUp (suc n) (total adds-admitted rs)
 
 -- a reply that is no accepted admission, and the replies after it
@@ -54,7 +54,7 @@ call-counted b c rs = go c (does b c)
         let same = step-rise b .in-admitted in
         not-counted (stepped (step b .0)) rs refl refl (ap (λ (o : Answer × Bus). o .1 .admitted) e ∙ omega arith)
 
-calls-counted : (b : Bus) (calls : List Call) → Counting (b .admitted) (replies machine b calls)
+pub calls-counted : (b : Bus) (calls : List Call) → Counting (b .admitted) (replies machine b calls)
 calls-counted b [] = refl
 calls-counted b (c ∷ calls) = call-counted b c (replies machine (next machine b c) calls) (calls-counted (next machine b c) calls)
 

@@ -16,8 +16,10 @@ use Rattle.rules.proofs.Numbering as Numbering
 use Rattle.rules.proofs.Offers as Offers
 use Rattle.rules.proofs.Recorded as Recorded
 use Rattle.rules.proofs.Least as Least
+use Rattle.rules.proofs.Waits as Waits
 use Rattle.rules.proofs.Probes as Probes
 use Rattle.rules.proofs.Demand3 as Demand3
+use Rattle.rules.proofs.OldestWait as OldestWait
 use Rattle.rules.proofs.Starred as Starred
 
 -- ---- of the rules themselves, for any lent state
@@ -65,8 +67,8 @@ addressesApart = Least.addressesApart
 pub starred : firstFailing ≡ none
 starred = Starred.starred
 
--- ---- of every engine that meets demand 2: the winner is least, events, counts and numbers are true, probes are bounded, demand 3,
--- and a slot fewer than it asks for
+-- ---- of every engine that meets demand 2: the winner is least, events, counts, numbers and waits are true, probes are bounded, demand 3,
+-- a slot fewer than it asks for, and what both say of a wait
 
 pub promised : (E : Engine) → Demand2 E → Promised E
 promised E meets =
@@ -76,8 +78,10 @@ promised E meets =
       probesBounded = Probes.probesBounded E meets;
       countsAreTrue = Counts.countsAreTrue E meets;
       numbersAreAnswers = Numbering.numbersAreAnswers E meets;
+      waitsAreTrue = Waits.waitsAreTrue E meets;
       demand3 = Demand3.demand3 E meets;
       soonerThanDemand3 = Demand3.soonerThanDemand3 E meets;
+      waitOfTheOldest = OldestWait.waitOfTheOldest E meets;
     }
 
 -- ---- and so of the machine, which meets it

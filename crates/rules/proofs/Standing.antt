@@ -16,7 +16,7 @@ use Rattle.window.specs.Splitting.{placed}
 use Rattle.rules.specs.Lists.{each-of, Among, at-head, All, Some, has, Distinct}
 use Rattle.rules.specs.Bus.{late, most-stations, least-space, most-space, places, most-step, longest-packet, clock-end, last-slot, most-admitted, Discipline, PRI, RTDG, RTVC, code, Packet, Offer, Station, Contention, Bus, nothing, waiting, numbers}
 use Rattle.rules.specs.SetUp.{Asked, Request, fine, rowTests, setUpTests, setUpVerdict, freshBus, setUp}
-use Rattle.rules.specs.Standing.{askedFor, value-fits, length-fits, rising, same-packet, parameter-fits, offer-stands, station-stands, last-stands, window-stands, contention-stands, stands, ValueFits, PacketStands, Rising, ParameterFits, OfferStands, StationStands, LastStands, WindowStands, ContentionStands, Standing}
+use Rattle.rules.specs.Standing.{askedFor, value-fits, length-fits, packet-fits, rising, same-packet, parameter-fits, offer-stands, station-stands, last-stands, window-stands, contention-stands, stands, ValueFits, PacketStands, Rising, ParameterFits, OfferStands, StationStands, LastStands, WindowStands, ContentionStands, Standing}
 use Rattle.rules.specs.Admission.{Arrival, Admitted, admissionTests, admissionRefusal, withPacket, admit}
 use Rattle.rules.specs.Probe.{Answer, probe, refusedAnswer}
 use Rattle.rules.specs.Step.{opened, stepTests, stepRefusal, step}
@@ -34,12 +34,12 @@ value-whether RTVC D value = equal value 0
 length-whether : (n : ℕ) → Whether ((1 ≤ n) × (n ≤ longest-packet)) (length-fits n)
 length-whether n = negated-twice (both (at-most 1 n) (at-most n longest-packet))
 
-packet-whether : (b : Bus) (p : Packet) → Whether (PacketStands b p) (value-fits (b .discipline) (b .D) (p .value) && length-fits (p .length))
+packet-whether : (b : Bus) (p : Packet) → Whether (PacketStands b p) (packet-fits (b .discipline) (b .D) (b .clock) p)
 packet-whether b p =
     in-words
-    (λ h. record { value = h .0; least = h .1 .0; most = h .1 .1 })
-    (λ h. (h .value, (h .least, h .most)))
-    (both (value-whether (b .discipline) (b .D) (p .value)) (length-whether (p .length)))
+    (λ h. record { value = h .0 .0; least = h .0 .1 .0; most = h .0 .1 .1; admission = h .1 })
+    (λ h. ((h .value, (h .least, h .most)), h .admission))
+    (both (both (value-whether (b .discipline) (b .D) (p .value)) (length-whether (p .length))) (at-most (p .admission .0) (b .clock)))
 
 rising-whether : (before admitted : ℕ) (queue : List Packet) → Whether (Rising before admitted queue) (rising before admitted queue)
 rising-whether before admitted [] = at-most before admitted
@@ -48,9 +48,11 @@ rising-whether before admitted (p ∷ queue) = both (below before (p .number)) (
 same-whether : (p p′ : Packet) → Whether (p ≡ p′) (same-packet p p′)
 same-whether p p′ =
     in-words
-    (λ h i. record { number = h .0 .0 i; value = h .0 .1 i; length = h .1 i })
-    (λ e. ((ap (λ x. x .number) e, ap (λ x. x .value) e), ap (λ x. x .length) e))
+    (λ h i. record { number = h .0 .0 .0 i; value = h .0 .0 .1 i; length = h .0 .1 i; admission = record { 0 = h .1 i } })
+    (λ e. (((ap (λ x. x .number) e, ap (λ x. x .value) e), ap (λ x. x .length) e), ap (λ x. x .admission .0) e))
+    (both
     (both (both (equal (p .number) (p′ .number)) (equal (p .value) (p′ .value))) (equal (p .length) (p′ .length)))
+    (equal (p .admission .0) (p′ .admission .0)))
 
 parameter-whether : (d : Discipline) (s : Station) (o : Offer) → Whether (ParameterFits d s o) (parameter-fits d s o)
 parameter-whether PRI s o = equal (o .parameter) (o .packet .value)

@@ -1,11 +1,13 @@
 -- Demand 2 rules out each wrong engine of specs/WrongEngines.antt, by a script of calls to which its replies are not the machine's; demand 3
--- rules out the one that names the first station, and that numbers are answers the one that answers one too low. Assumes nothing.
-use Prim.Native.Nat.{ℕ, suc, _+_}
+-- rules out the one that names the first station, that numbers are answers the one that answers one too low, and that waits are true those
+-- that count them wrongly. Assumes nothing.
+use Prim.Native.Nat.{ℕ, suc, _+_, _-_}
 use mathlib.Core.Path.{_≡_, refl, sym, ap, _∙_}
 use mathlib.Core.Option.{none}
 use mathlib.Core.List.{List, [], _∷_}
 use native.Mathlib.Omega.{arith}
 use lib.Dec.{eqb, lit≤}
+use lib.ListN.{take}
 use borrow.Author.Tests.{eqb-true}
 use Rattle.window.specs.Splitting.{exponentOf, isPower}
 use Rattle.rules.specs.Lists.{total, All, at-head, in-tail}
@@ -13,11 +15,11 @@ use Rattle.rules.specs.Bus.{Packet, Station}
 use Rattle.rules.specs.SetUp.{Request, setUp}
 use Rattle.rules.specs.Probe.{Answer}
 use Rattle.rules.specs.Engine.{Engine, machine, Call, Reply, reach, stepsIn, answers}
-use Rattle.rules.specs.Demands.{Demand2, adds-lost, numbersAnswered, NumbersAreAnswers, Served, Demand3}
-use Rattle.rules.specs.Examples.{arrives, steps, listing, circuits, apart}
-use Rattle.rules.specs.WrongEngines.{refusesAll, refusesCalls, untouched, oneTooLow, alwaysIdle, madeUpDrops, madeUpSent, lowByte, madeUpProbes, firstStation}
+use Rattle.rules.specs.Demands.{Demand2, adds-lost, numbersAnswered, NumbersAreAnswers, WaitsAreTrue, Served, Demand3}
+use Rattle.rules.specs.Examples.{arrives, steps, listing, circuits, apart, admittedLater}
+use Rattle.rules.specs.WrongEngines.{refusesAll, refusesCalls, untouched, oneTooLow, alwaysIdle, madeUpDrops, madeUpSent, lowByte, madeUpProbes, firstStation, waitToTheEnd, waitOfTheContention, waitFromTheArrival}
 use Rattle.rules.proofs.Laws.{clash, each-view}
-use Rattle.rules.proofs.Computing.{Brings, Same, bus, test, pair, computed, bus-same, test-same, pair-same, computed-replies}
+use Rattle.rules.proofs.Computing.{Brings, Same, number, bus, test, pair, computed, bus-same, test-same, number-same, pair-same, computed-replies}
 
 -- A number read off the replies to a script is the machine's, both computed state by state.
 agrees : (E : Engine) (bring : Brings (E .State)) → Same bring → Demand2 E → (read : List Reply → ℕ) (r : Request) (calls : List Call)
@@ -30,7 +32,7 @@ agrees E bring same demand read r calls =
     ∙ sym (computed-replies machine bus bus-same (setUp r .1) calls))
 
 -- read off replies, each summed: the events (0 idle, 1 collision, 2 success), the winners' addresses, the drops, the numbers that admissions
--- answer, the refusals of steps
+-- answer, the refusals of steps, the waits
 events : List Reply → ℕ
 events rs = total (λ a. a .event) (stepsIn rs)
 
@@ -45,6 +47,9 @@ numbers rs = total (λ n. n) (numbersAnswered rs)
 
 refusals : List Reply → ℕ
 refusals rs = total (λ a. a .refusal) (stepsIn rs)
+
+waits : List Reply → ℕ
+waits rs = total (λ a. a .wait) (stepsIn rs)
 
 pub refusesAll-wrong : (n : ℕ) → Demand2 (refusesAll n) → ⊥
 refusesAll-wrong n demand = let z : suc n ≡ 0 = ap (λ v. v .refusal) (demand .setUps listing) in omega arith
@@ -94,6 +99,41 @@ unfolding events exponentOf isPower
 lowByte-wrong demand =
     let z : _≡_ {A = ℕ} 2 1 = agrees lowByte bus bus-same demand events apart (arrives 263 0 1 ∷ arrives 7 0 1 ∷ steps 1) in omega arith
 
+-- a packet of length 3 that is sent in its admission slot has waited for no slot
+pub waitToTheEnd-wrong : Demand2 waitToTheEnd → ⊥
+unfolding waits exponentOf isPower
+waitToTheEnd-wrong demand = let z : _≡_ {A = ℕ} 3 0 = agrees waitToTheEnd bus bus-same demand waits listing (arrives 1 0 3 ∷ steps 1) in omega arith
+
+pub waitToTheEnd-untrue : WaitsAreTrue waitToTheEnd → ⊥
+unfolding exponentOf isPower
+waitToTheEnd-untrue holds = let z : _≡_ {A = ℕ} 0 3 = holds .succeeds listing (arrives 1 0 3 ∷ []) refl .waited in omega arith
+
+-- of two packets of length 1 at one station the second has waited for one slot, though its contention begins as it wins
+pub waitOfTheContention-wrong : Demand2 waitOfTheContention → ⊥
+unfolding waits exponentOf isPower
+waitOfTheContention-wrong demand =
+    let calls : List Call = arrives 1 0 1 ∷ arrives 1 0 1 ∷ steps 2 in
+    let z : _≡_ {A = ℕ} 0 1 = agrees waitOfTheContention (pair bus number) (pair-same bus-same number-same) demand waits listing calls in
+    omega arith
+
+pub waitOfTheContention-untrue : WaitsAreTrue waitOfTheContention → ⊥
+unfolding exponentOf isPower
+waitOfTheContention-untrue holds =
+    let z : _≡_ {A = ℕ} 1 0 = holds .succeeds listing (arrives 1 0 1 ∷ arrives 1 0 1 ∷ steps 1) refl .waited in omega arith
+
+-- of arrivals with times 0 and 1 and lengths 10 and 1 the second is admitted at slot 10, and has waited for no slot
+abbrev pub arrivalTimes : ℕ → ℕ
+arrivalTimes k = k - 1
+
+pub waitFromTheArrival-wrong : Demand2 (waitFromTheArrival arrivalTimes) → ⊥
+unfolding waits exponentOf isPower
+waitFromTheArrival-wrong demand =
+    let z : _≡_ {A = ℕ} 9 0 = agrees (waitFromTheArrival arrivalTimes) bus bus-same demand waits listing admittedLater in omega arith
+
+pub waitFromTheArrival-untrue : WaitsAreTrue (waitFromTheArrival arrivalTimes) → ⊥
+unfolding exponentOf isPower
+waitFromTheArrival-untrue holds = let z : _≡_ {A = ℕ} 10 19 = holds .succeeds listing (take 3 admittedLater) refl .waited in omega arith
+
 -- 6 wins over 7 in the first contention, and 7 the second, not 5
 pub firstStation-wrong : Demand2 firstStation → ⊥
 unfolding winners exponentOf isPower
@@ -115,7 +155,7 @@ firstStation-unfair demand = clash (served .ends (lit≤ tt)) refl
     said = answers firstStation (reach firstStation circuits calls) (steps 4)
 
     p : Packet
-    p = record { number = 2; value = 0; length = 1 }
+    p = record { number = 2; value = 0; length = 1; admission = record { 0 = 0 } }
 
     s : Station
     s = record { address = 7; capability = 3; queue = p ∷ []; offer = none }

@@ -35,13 +35,13 @@ admissionTests b a =
 abbrev pub admissionRefusal : Bus → Arrival → ℕ
 admissionRefusal b a = firstOf 0 (admissionTests b a)
 
--- the packet that an arrival asks for, with a number
-abbrev pub numbered : Arrival → ℕ → Packet
-numbered a n = record { number = n; value = a .value; length = a .length }
+-- the packet that an arrival asks for, with a number and an admission slot
+abbrev pub numbered : Arrival → ℕ → ℕ → Packet
+numbered a n slot = record { number = n; value = a .value; length = a .length; admission = record { 0 = slot } }
 
--- 'An accepted packet is numbered 1, 2, 3 and so on.'
+-- 'An accepted packet is numbered 1, 2, 3 and so on.' P1: 'Keep with each packet its admission slot': the clock at the admission.
 abbrev pub newPacket : Bus → Arrival → Packet
-newPacket b a = numbered a (suc (b .admitted))
+newPacket b a = numbered a (suc (b .admitted)) (b .clock)
 
 -- the packet goes to the end of its station's queue; 'a packet admitted while a contention is under way does not join it'
 abbrev pub queued : Packet → Station → Station

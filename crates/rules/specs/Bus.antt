@@ -9,6 +9,7 @@ use mathlib.Core.List.{List, [], _∷_, _++_, map}
 use lib.Dec.{ltb}
 use lib.ListN.{length}
 use Rattle.window.specs.declared.Window.{Window}
+pub use Rattle.rules.specs.declared.Slot.{Slot}
 pub use Rattle.rules.specs.declared.Packet.{Packet}
 use Rattle.rules.specs.Lists.{total}
 

@@ -14,10 +14,10 @@ use Rattle.rules.specs.Lists.{bit, keep, count, some-of, total, countUp,
 use Rattle.rules.specs.Bus.{Discipline, PRI, RTDG, RTVC, Packet, Offer, Station, Contention, Bus, nothing, waiting}
 use Rattle.rules.specs.SetUp.{Request, setUp}
 use Rattle.rules.specs.Standing.{stands, Standing}
-use Rattle.rules.specs.Admission.{Arrival, numbered, queued, admit}
+use Rattle.rules.specs.Admission.{Arrival, Admitted, numbered, queued, admit}
 use Rattle.rules.specs.Begin.{parameterOf, entered}
 use Rattle.rules.specs.Conditions.{Late}
-use Rattle.rules.specs.Probe.{Answer, Contender, able, contenders, transmitters, idle, collision, success, refusedAnswer}
+use Rattle.rules.specs.Probe.{Answer, Contender, able, contenders, transmitters, idle, collision, success, refusedAnswer, waitOf}
 use Rattle.rules.specs.Step.{opened, step}
 use Rattle.rules.specs.Engine.{Engine, machine, Call, Reply, admitted, stepped, replies, reach, admissionsIn, answers}
 
@@ -220,12 +220,39 @@ NumbersAreAnswers E =
     (r : Request) (calls : List Call)
     → numbersAnswered (replies E (E .setUp r .1) calls) ≡ countUp 1 (total adds-admitted (replies E (E .setUp r .1) calls))
 
--- and the packet that an accepted admission queues, at the station of that full address alone, bears the number that was answered
+-- and the packet that an accepted admission queues, at the station of that full address alone, bears the number that was answered and the
+-- clock at the admission
 abbrev pub QueuedAsAnswered : Type 0
 QueuedAsAnswered =
     (b : Bus) (a : Arrival) → admit b a .0 .refusal ≡ 0
     → admit b a .1 .stations
-    ≡ map (λ s. cond (eqb (a .address) (s .address)) (queued (numbered a (admit b a .0 .number)) s) s) (b .stations)
+    ≡ map (λ s. cond (eqb (a .address) (s .address)) (queued (numbered a (admit b a .0 .number) (b .clock)) s) s) (b .stations)
+
+-- ---- waits (P1)
+
+-- whether an admission was accepted and answered k
+abbrev pub answers-with : ℕ → Admitted → Bool
+answers-with k a = eqb (a .refusal) 0 && eqb (a .number) k
+
+-- the slots that all steps took before the admission that answered k; a refused call takes none
+abbrev pub slotsBefore : ℕ → List Reply → ℕ
+slotsBefore k [] = 0
+slotsBefore k (admitted a ∷ rs) = cond (answers-with k a) 0 (slotsBefore k rs)
+slotsBefore k (stepped a ∷ rs) = slotsOf a + slotsBefore k rs
+
+-- What the replies `rs` since set-up tell of the success `a` that comes next: one of them answered its packet's number; the slot probed is the
+-- slots that all steps took; and the wait is the slot probed less the slots that all steps took before that admission.
+pub record Waited (rs : List Reply) (a : Answer) : Type 0 where
+  pub answered : Among (a .number) (numbersAnswered rs)
+  pub probed : a .slot ≡ total adds-slots rs
+  pub waited : a .slot ≡ slotsBefore (a .number) rs + a .wait
+
+-- 'the number of slots from there to the probe that won', after any set-up and any calls; 0 in an answer without success
+pub record WaitsAreTrue (E : Engine) : Type 0 where
+  pub succeeds :
+      (r : Request) (calls : List Call) → E .step (reach E r calls) .0 .event ≡ success
+      → Waited (replies E (E .setUp r .1) calls) (E .step (reach E r calls) .0)
+  pub otherwise : (r : Request) (calls : List Call) → ¬ (E .step (reach E r calls) .0 .event ≡ success) → E .step (reach E r calls) .0 .wait ≡ 0
 
 -- ---- demand 3
 
@@ -315,6 +342,16 @@ ServesSooner b said = (s : Station) (p : Packet) → CircuitWaits b s p said →
 abbrev pub SoonerThanDemand3 : Engine → Type 0
 SoonerThanDemand3 E = (r : Request) (calls later : List Call) → ServesSooner (reach machine r calls) (answers E (reach E r calls) later)
 
+-- How old a circuit's oldest packet can be when it wins (P1): the wait, and the slots of the packet itself, are at most what it had waited when
+-- the contention began and N × (2L − 1 + P) slots.
+abbrev pub OldestWaits : Bus → List Answer → Type 0
+OldestWaits b said =
+    (s : Station) (p : Packet) → CircuitWaits b s p said → (a : Answer) → Among a (upTo (sends s p) said) → sends s p a ≡ true
+    → a .wait + a .length ≤ waitOf p (b .clock) + fewerSlots (length (b .stations)) (exponentOf (b .D)) (longestIn (upTo (sends s p) said))
+
+abbrev pub WaitOfTheOldest : Engine → Type 0
+WaitOfTheOldest E = (r : Request) (calls later : List Call) → OldestWaits (reach machine r calls) (answers E (reach E r calls) later)
+
 -- ---- what demand 2 gives an engine
 
 -- Each of these follows from demand 2 (proofs/Promises.antt, `promised`).
@@ -324,5 +361,7 @@ pub record Promised (E : Engine) : Type 0 where
   pub probesBounded : ProbesBounded E
   pub countsAreTrue : CountsAreTrue E
   pub numbersAreAnswers : NumbersAreAnswers E
+  pub waitsAreTrue : WaitsAreTrue E
   pub demand3 : Demand3 E
   pub soonerThanDemand3 : SoonerThanDemand3 E
+  pub waitOfTheOldest : WaitOfTheOldest E

@@ -1,7 +1,7 @@
 -- The starred examples of paper 01 ('Settled examples') as one table over the definitions, with rows on its traps, on open points that
--- docs/DECISIONS.md settles, on the order of offers, at the edges of the ranges, and where the bounds are met. Each row quotes its line.
+-- docs/DECISIONS.md settles, on the order of offers, at the edges of the ranges, where the bounds are met, and on waits. Each row quotes its line.
 -- proofs/Starred.antt proves that no row fails. Assumes nothing.
-use Prim.Native.Nat.{ℕ, zero, suc}
+use Prim.Native.Nat.{ℕ, zero, suc, _+_}
 use mathlib.Core.Bool.{Bool, true, false, not, _&&_, cond}
 use mathlib.Core.Option.{Option, none, some}
 use mathlib.Core.List.{List, [], _∷_, _++_, map}
@@ -9,7 +9,7 @@ use lib.Dec.{leb, eqb}
 use lib.ListN.{length, drop}
 use Rattle.window.specs.declared.Side.the-variants.{Right}
 use Rattle.window.specs.Splitting.{exponentOf, firstWindow, sameSide}
-use Rattle.rules.specs.Lists.{countUp}
+use Rattle.rules.specs.Lists.{total, countUp}
 use Rattle.rules.specs.Bus.{Discipline, PRI, RTDG, RTVC, code, Packet, late, Station, Contention, Bus}
 use Rattle.rules.specs.SetUp.{Asked, Request, freshStation, setUp}
 use Rattle.rules.specs.Standing.{stands}
@@ -18,7 +18,7 @@ use Rattle.rules.specs.Begin.{parameterOf}
 use Rattle.rules.specs.Probe.{withdrawn, parameter-phase, tie-phase, idle, collision, success, Answer}
 use Rattle.rules.specs.Step.{stepRefusal, step}
 use Rattle.rules.specs.Engine.{machine, Call, admission, one-step, Reply, replies, stepsIn, admissionsIn}
-use Rattle.rules.specs.Demands.{probes, mostProbes, contentionsIn, idleContentionsIn, slotsIn, sends, upTo, mostContentions, most-idle, mostSlots, fewerSlots}
+use Rattle.rules.specs.Demands.{probes, mostProbes, slotsBefore, contentionsIn, idleContentionsIn, slotsIn, sends, upTo, mostContentions, most-idle, mostSlots, fewerSlots}
 
 -- ---- rows
 
@@ -49,7 +49,7 @@ abbrev pub steps : ℕ → List Call
 steps zero = []
 steps (suc n) = one-step ∷ steps n
 
--- ---- words for answers, as in a listing: 'slot phase start size event, phase P or T, event I, C, or S with address, packet number, length'
+-- ---- words for answers, as in a listing: 'slot phase start size event, phase P or T, event I, C, or S with address, packet number, length', and wait
 
 abbrev pub P : ℕ
 P = parameter-phase
@@ -70,6 +70,7 @@ line slot phase start size event ended =
       address = 0;
       number = 0;
       length = 0;
+      wait = 0;
       ended = ended;
     }
 
@@ -84,8 +85,8 @@ abbrev pub C : ℕ → ℕ → ℕ → ℕ → Answer
 C slot phase start size = line slot phase start size collision 0
 
 -- a success, and the contention ends
-abbrev pub S : ℕ → ℕ → ℕ → ℕ → ℕ → ℕ → ℕ → Answer
-S slot phase start size address number length =
+abbrev pub S : ℕ → ℕ → ℕ → ℕ → ℕ → ℕ → ℕ → ℕ → Answer
+S slot phase start size address number length wait =
     record {
       refusal = 0;
       drops = 0;
@@ -97,6 +98,7 @@ S slot phase start size address number length =
       address = address;
       number = number;
       length = length;
+      wait = wait;
       ended = 1;
     }
 
@@ -114,6 +116,7 @@ dropping n a =
       address = a .address;
       number = a .number;
       length = a .length;
+      wait = a .wait;
       ended = a .ended;
     }
 
@@ -129,6 +132,7 @@ same-answer a b =
     && eqb (a .address) (b .address)
     && eqb (a .number) (b .number)
     && eqb (a .length) (b .length)
+    && eqb (a .wait) (b .wait)
     && eqb (a .ended) (b .ended)
 
 -- whether the answers are these, all of them and in every field
@@ -180,12 +184,12 @@ output =
     ∷ C 4 T 0 8
     ∷ I 5 T 0 4
     ∷ C 6 T 4 4
-    ∷ S 7 T 4 2 5 1 3
+    ∷ S 7 T 4 2 5 1 3 7
     ∷ C 10 P 0 4
     ∷ I 11 P 0 2
     ∷ C 12 P 2 2
-    ∷ S 13 P 2 1 6 2 1
-    ∷ S 14 P 0 4 1 3 2
+    ∷ S 13 P 2 1 6 2 1 13
+    ∷ S 14 P 0 4 1 3 2 14
     ∷ I-end 16 P 0 4
     ∷ []
 
@@ -233,7 +237,7 @@ slot100 =
     }
 
 abbrev pub starting : ℕ → Packet
-starting latest = record { number = 1; value = latest; length = 1 }
+starting latest = record { number = 1; value = latest; length = 1; admission = record { 0 = 0 } }
 
 abbrev pub laxity : ℕ → ℕ
 laxity latest = parameterOf (slot100 .discipline) slot100 (freshStation (station 0 0)) (starting latest)
@@ -250,8 +254,11 @@ abbrev pub offeringOf : Packet → ℕ → Packet → Station
 offeringOf p address offered =
     record { address = address; capability = 0; queue = p ∷ []; offer = some (record { parameter = offered .value; packet = offered }) }
 
+abbrev pub packetSince : ℕ → ℕ → ℕ → ℕ → Packet
+packetSince slot number priority length = record { number = number; value = priority; length = length; admission = record { 0 = slot } }
+
 abbrev pub packet : ℕ → ℕ → ℕ → Packet
-packet number priority length = record { number = number; value = priority; length = length }
+packet number priority length = packetSince 0 number priority length
 
 abbrev pub offering : ℕ → ℕ → ℕ → Station
 offering address number priority = offeringOf (packet number priority 1) address (packet number priority 1)
@@ -351,7 +358,17 @@ pair d = record { discipline = code d; D = 2; A = 2; q = 1; N = 2; row = station
 abbrev pub untilSent : ℕ → ℕ → ℕ → List Reply → List Answer
 untilSent n address number rs = upTo (sends (freshStation (station address 0)) (packet number 0 0)) (drop n (stepsIn rs))
 
--- ---- the table, in four parts
+-- ---- waits
+
+-- at station 1, arrivals with times 0 and 1 and lengths 10 and 1, as a run admits them: the second once the first has been sent
+abbrev pub admittedLater : List Call
+admittedLater = arrives 1 0 10 ∷ one-step ∷ arrives 1 0 1 ∷ one-step ∷ []
+
+-- a station with one packet, admitted in this slot, and what it offers
+abbrev pub offeringSince : ℕ → ℕ → Station
+offeringSince slot offered = offeringOf (packetSince slot 1 0 1) 0 (packetSince offered 1 0 1)
+
+-- ---- the table, in five parts
 
 -- the settled examples, traps and open points
 abbrev pub settled : List Row
@@ -374,35 +391,35 @@ settled =
     ∷ script
     (rtdg 8 10)
     (arrives 0 5 99 ∷ arrives 2 99 1 ∷ steps 2 ++ (arrives 0 110 1 ∷ arrives 1 109 1 ∷ steps 4))
-    (are (C 0 P 0 8 ∷ S 1 P 0 4 0 1 99 ∷ dropping 1 (C 100 P 0 8) ∷ C 101 P 0 4 ∷ C 102 P 0 2 ∷ S 103 P 0 1 1 4 1 ∷ []))
+    (are (C 0 P 0 8 ∷ S 1 P 0 4 0 1 99 1 ∷ dropping 1 (C 100 P 0 8) ∷ C 101 P 0 4 ∷ C 102 P 0 2 ∷ S 103 P 0 1 1 4 1 3 ∷ []))
     -- 13: 'RTDG, D 2, q 1, T 0, latest starts 0 and 1 at two stations: collision, idle, idle, no winner; the contention at slot 3 drops 2.'
     ∷ script (rtdg 2 1) (arrives 0 0 1 ∷ arrives 1 1 1 ∷ steps 4) (are (C 0 P 0 2 ∷ I 1 P 0 1 ∷ I-end 2 P 1 1 ∷ dropping 2 (I-end 3 P 0 2) ∷ []))
     -- 14: 'RTVC, D 4, capabilities 0, 1, 3, last winner 1, packets at 1 and 3: 3 wins, one idle contention, 1 wins.' First 1 wins alone.
     ∷ script
     circuits
     (arrives 6 0 1 ∷ steps 1 ++ (arrives 6 0 1 ∷ arrives 7 0 1 ∷ steps 3))
-    (are (S 0 P 0 4 6 1 1 ∷ S 1 P 0 4 7 3 1 ∷ I-end 2 P 0 4 ∷ S 3 P 0 4 6 2 1 ∷ []))
+    (are (S 0 P 0 4 6 1 1 0 ∷ S 1 P 0 4 7 3 1 0 ∷ I-end 2 P 0 4 ∷ S 3 P 0 4 6 2 1 2 ∷ []))
     -- 15: 'Bound for N 3, L 2, P 5: 25 slots.'
     ∷ fact (eqb (mostSlots 3 2 5) 25)
     -- 16: 'Addresses 7 and 263 (hexadecimal 0107) with equal priority: 7 wins.'
     ∷ script
     apart
     (arrives 263 0 1 ∷ arrives 7 0 1 ∷ steps 5)
-    (are (C 0 P 0 2 ∷ C 1 P 0 1 ∷ C 2 T 0 512 ∷ S 3 T 0 256 7 2 1 ∷ S 4 P 0 2 263 1 1 ∷ []))
+    (are (C 0 P 0 2 ∷ C 1 P 0 1 ∷ C 2 T 0 512 ∷ S 3 T 0 256 7 2 1 3 ∷ S 4 P 0 2 263 1 1 4 ∷ []))
     -- 17: RTDG, D 4, q 4, T 0, latest starts 1, 1, 15: the contention ends without a winner though the third could still start
     ∷ script
     (rtdg 4 4)
     (arrives 0 1 1 ∷ arrives 1 1 1 ∷ arrives 2 15 1 ∷ steps 5)
-    (are (C 0 P 0 4 ∷ C 1 P 0 2 ∷ I 2 P 0 1 ∷ I-end 3 P 1 1 ∷ dropping 2 (S 4 P 0 4 2 3 1) ∷ []))
+    (are (C 0 P 0 4 ∷ C 1 P 0 2 ∷ I 2 P 0 1 ∷ I-end 3 P 1 1 ∷ dropping 2 (S 4 P 0 4 2 3 1 4) ∷ []))
     -- 18: 'a packet admitted while a contention is under way does not join it': priority 0 comes at slot 1
     ∷ script
     listing
     (arrives 5 2 1 ∷ arrives 6 3 1 ∷ steps 1 ++ (arrives 1 0 1 ∷ steps 5))
-    (are (C 0 P 0 4 ∷ I 1 P 0 2 ∷ C 2 P 2 2 ∷ S 3 P 2 1 5 1 1 ∷ C 4 P 0 4 ∷ S 5 P 0 2 1 3 1 ∷ []))
+    (are (C 0 P 0 4 ∷ I 1 P 0 2 ∷ C 2 P 2 2 ∷ S 3 P 2 1 5 1 1 3 ∷ C 4 P 0 4 ∷ S 5 P 0 2 1 3 1 4 ∷ []))
     -- 19: 'tries 1, then 11 to 16': an unknown address with length 0 gives 11, and a known one 13
     ∷ fact (eqb (refusal listing 9 0 0) 11 && eqb (refusal listing 1 0 0) 13)
     -- 20: of a lent state that stands and that no calls reach demand 2's words do not hold: 3 wins though 0 could start
-    ∷ fact (stands (lentAt 0) && same-answer (S 0 P 2 2 1 2 1) (step (lentAt 0) .0))
+    ∷ fact (stands (lentAt 0) && same-answer (S 0 P 2 2 1 2 1 0) (step (lentAt 0) .0))
     -- 21: a refused set-up 'hands back its number and an all-zero state, which refusal 1 catches'
     ∷ fact (eqb (setUp (pri 1) .0 .refusal) 3 && eqb (stepRefusal (setUp (pri 1) .1)) 1)
     -- 22: 'the first faulty station in the listed order decides': the third repeats the first one's address
@@ -430,21 +447,21 @@ orders =
     script
     (pri 4)
     (arrives 0 3 1 ∷ arrives 0 1 2 ∷ arrives 0 1 3 ∷ steps 3)
-    (are (S 0 P 0 4 0 2 2 ∷ S 2 P 0 4 0 3 3 ∷ S 5 P 0 4 0 1 1 ∷ []))
+    (are (S 0 P 0 4 0 2 2 0 ∷ S 2 P 0 4 0 3 3 2 ∷ S 5 P 0 4 0 1 1 5 ∷ []))
     ∷ script
     (rtdg 4 4)
     (arrives 0 30 1 ∷ arrives 0 20 2 ∷ arrives 0 20 3 ∷ steps 3)
-    (are (S 0 P 0 4 0 2 2 ∷ S 2 P 0 4 0 3 3 ∷ S 5 P 0 4 0 1 1 ∷ []))
+    (are (S 0 P 0 4 0 2 2 0 ∷ S 2 P 0 4 0 3 3 2 ∷ S 5 P 0 4 0 1 1 5 ∷ []))
     -- 31: 'RTVC the lowest packet number', of three packets in one queue; between two of them a round ends
     ∷ script
     circuits
     (arrives 5 0 1 ∷ arrives 5 0 2 ∷ arrives 5 0 3 ∷ steps 5)
-    (are (S 0 P 0 4 5 1 1 ∷ I-end 1 P 0 4 ∷ S 2 P 0 4 5 2 2 ∷ I-end 4 P 0 4 ∷ S 5 P 0 4 5 3 3 ∷ []))
+    (are (S 0 P 0 4 5 1 1 0 ∷ I-end 1 P 0 4 ∷ S 2 P 0 4 5 2 2 2 ∷ I-end 4 P 0 4 ∷ S 5 P 0 4 5 3 3 5 ∷ []))
     -- 32: row 14 in a larger space: the round goes on after the top circuit, which is not D - 1
     ∷ script
     (circuitsIn 8)
     (arrives 6 0 1 ∷ steps 1 ++ (arrives 6 0 1 ∷ arrives 7 0 1 ∷ steps 3))
-    (are (S 0 P 0 8 6 1 1 ∷ S 1 P 0 8 7 3 1 ∷ I-end 2 P 0 8 ∷ S 3 P 0 8 6 2 1 ∷ []))
+    (are (S 0 P 0 8 6 1 1 0 ∷ S 1 P 0 8 7 3 1 0 ∷ I-end 2 P 0 8 ∷ S 3 P 0 8 6 2 1 2 ∷ []))
     ∷ []
 
 -- the edges of the ranges, on both sides
@@ -543,26 +560,26 @@ bounds =
     (pair RTDG)
     (arrives 0 3 1 ∷ arrives 1 9 1 ∷ steps 6)
     (λ rs.
-    are (C 0 P 0 2 ∷ I 1 P 0 1 ∷ C 2 P 1 1 ∷ C 3 T 0 2 ∷ I 4 T 0 1 ∷ S 5 T 1 1 1 2 1 ∷ []) rs
+    are (C 0 P 0 2 ∷ I 1 P 0 1 ∷ C 2 P 1 1 ∷ C 3 T 0 2 ∷ I 4 T 0 1 ∷ S 5 T 1 1 1 2 1 5 ∷ []) rs
     && eqb (probes (stepsIn rs)) (mostProbes RTDG 1 1))
     -- 52: the most in PRI, 2L + 2M + 1: both priority 1
     ∷ script
     (pair PRI)
     (arrives 0 1 1 ∷ arrives 1 1 1 ∷ steps 5)
     (λ rs.
-    are (C 0 P 0 2 ∷ I 1 P 0 1 ∷ C 2 P 1 1 ∷ C 3 T 0 2 ∷ S 4 T 0 1 0 1 1 ∷ []) rs
+    are (C 0 P 0 2 ∷ I 1 P 0 1 ∷ C 2 P 1 1 ∷ C 3 T 0 2 ∷ S 4 T 0 1 0 1 1 4 ∷ []) rs
     && eqb (probes (stepsIn rs)) (mostProbes PRI 1 1))
     -- 53: the most in RTVC, 2L
     ∷ script
     (pair RTVC)
     (arrives 0 0 1 ∷ arrives 1 0 1 ∷ steps 2)
-    (λ rs. are (C 0 P 0 2 ∷ S 1 P 0 1 0 1 1 ∷ []) rs && eqb (probes (stepsIn rs)) (mostProbes RTVC 1 1))
+    (λ rs. are (C 0 P 0 2 ∷ S 1 P 0 1 0 1 1 1 ∷ []) rs && eqb (probes (stepsIn rs)) (mostProbes RTVC 1 1))
     -- 54: 'within N + 1 contentions, at most one of them idle': last winner 0, packets at both; that of circuit 0 takes 3, one of them idle
     ∷ script
     (pair RTVC)
     (arrives 0 0 1 ∷ one-step ∷ arrives 0 0 1 ∷ arrives 1 0 1 ∷ steps 3)
     (λ rs.
-    are (S 0 P 0 2 0 1 1 ∷ S 1 P 0 2 1 3 1 ∷ I-end 2 P 0 2 ∷ S 3 P 0 2 0 2 1 ∷ []) rs
+    are (S 0 P 0 2 0 1 1 0 ∷ S 1 P 0 2 1 3 1 0 ∷ I-end 2 P 0 2 ∷ S 3 P 0 2 0 2 1 2 ∷ []) rs
     && eqb (contentionsIn (untilSent 1 0 2 rs)) (mostContentions 2)
     && eqb (idleContentionsIn (untilSent 1 0 2 rs)) most-idle)
     -- 55: 'within N × (2L − 1 + P) + 1 slots', and N × (2L − 1 + P): last winner 1, packets of one slot at both; that of circuit 1 takes 4
@@ -570,14 +587,49 @@ bounds =
     (pair RTVC)
     (arrives 1 0 1 ∷ one-step ∷ arrives 0 0 1 ∷ arrives 1 0 1 ∷ steps 4)
     (λ rs.
-    are (S 0 P 0 2 1 1 1 ∷ I-end 1 P 0 2 ∷ C 2 P 0 2 ∷ S 3 P 0 1 0 2 1 ∷ S 4 P 0 2 1 3 1 ∷ []) rs
+    are (S 0 P 0 2 1 1 1 0 ∷ I-end 1 P 0 2 ∷ C 2 P 0 2 ∷ S 3 P 0 1 0 2 1 2 ∷ S 4 P 0 2 1 3 1 3 ∷ []) rs
     && eqb (slotsIn (untilSent 1 1 3 rs)) 4
     && leb (slotsIn (untilSent 1 1 3 rs)) (mostSlots 2 1 1)
     && eqb (slotsIn (untilSent 1 1 3 rs)) (fewerSlots 2 1 1))
     ∷ []
 
+-- how long packets waited
+abbrev pub waits : List Row
+waits =
+    -- 56: 'its admission slot' is the clock at the admission and not the arrival's time: the second packet is admitted at slot 10, and its wait is 0
+    script listing admittedLater (are (S 0 P 0 4 1 1 10 0 ∷ S 10 P 0 4 1 2 1 0 ∷ []))
+    -- 57: the wait is that of the packet sent, and not of the first in its queue: packet 3 has come at slot 4, packet 2 at slot 0
+    ∷ script
+    listing
+    (arrives 1 2 4 ∷ arrives 1 2 1 ∷ one-step ∷ arrives 1 0 1 ∷ steps 2)
+    (λ rs.
+    are (S 0 P 0 4 1 1 4 0 ∷ S 4 P 0 4 1 3 1 0 ∷ S 5 P 0 4 1 2 1 5 ∷ []) rs
+    && eqb (slotsBefore 3 rs) 4
+    && eqb (slotsBefore 2 rs) 0)
+    -- 58: a packet that comes while a contention is under way waits from its own admission, and refused calls take no slot
+    ∷ script
+    listing
+    (arrives 5 2 1 ∷ arrives 6 3 1 ∷ one-step ∷ arrives 9 0 1 ∷ arrives 1 0 1 ∷ arrives 1 4 1 ∷ steps 5)
+    (λ rs.
+    are (C 0 P 0 4 ∷ I 1 P 0 2 ∷ C 2 P 2 2 ∷ S 3 P 2 1 5 1 1 3 ∷ C 4 P 0 4 ∷ S 5 P 0 2 1 3 1 4 ∷ []) rs
+    && eqb (slotsBefore 3 rs) 1)
+    -- 59: 'admission slot not above the clock'
+    ∷ fact
+    (stands (busAt 5 none (withdrawn (offeringSince 5 5) ∷ [])) && not (stands (busAt 5 none (withdrawn (offeringSince 6 6) ∷ []))))
+    -- 60: 'each contender's packet in its own station's queue', its admission slot with it
+    ∷ fact
+    (stands (busAt 5 (rightAt 0 4 none) (offeringSince 5 5 ∷ []))
+    && not (stands (busAt 5 (rightAt 0 4 none) (offeringSince 4 5 ∷ [])))
+    && not (stands (busAt 5 (rightAt 0 4 none) (offeringSince 5 4 ∷ []))))
+    -- 61: the wait of a circuit's oldest packet, and its length, meet N × (2L − 1 + P): row 55, in which packet 3 has come as the contention begins
+    ∷ script
+    (pair RTVC)
+    (arrives 1 0 1 ∷ one-step ∷ arrives 0 0 1 ∷ arrives 1 0 1 ∷ steps 4)
+    (λ rs. eqb (total (λ a. a .wait + a .length) (drop 4 (stepsIn rs))) (fewerSlots 2 1 1))
+    ∷ []
+
 abbrev pub table : List Row
-table = settled ++ (orders ++ (edges ++ bounds))
+table = settled ++ (orders ++ (edges ++ (bounds ++ waits)))
 
 -- the number of the first row of the table that fails
 abbrev pub firstFailing : Option ℕ

@@ -1,7 +1,7 @@
 -- Probing one slot (paper 01, 'One step'; report 90-127, Figure 6): who transmits, what is heard, and what becomes of the window and the
 -- bus. Where the two differ paper 01 decides: a contention that ends in its tie phase ends altogether, where Figure 6, line 22
 -- would go on in the outer loop. Assumes nothing.
-use Prim.Native.Nat.{ℕ, suc, _+_}
+use Prim.Native.Nat.{ℕ, suc, _+_, _-_}
 use mathlib.Core.Bool.{Bool, not, _&&_, cond}
 use mathlib.Core.Option.{Option, none, some}
 use mathlib.Core.List.{List, [], _∷_, map}
@@ -69,7 +69,8 @@ abbrev pub success : ℕ
 success = 2
 
 -- 'A step's answer gives the drops, the slot probed, the phase, the window's start and size, the event, on success the address,
--- packet number and length (else 0), and if the contention ended': 1 if it did, else 0. `refusal` is 0 where the step is accepted.
+-- packet number and length (else 0), and if the contention ended': 1 if it did, else 0. P1 adds the wait, on success (else 0). `refusal` is 0
+-- where the step is accepted.
 pub record Answer : Type 0 where
   pub refusal : ℕ
   pub drops : ℕ
@@ -81,12 +82,14 @@ pub record Answer : Type 0 where
   pub address : ℕ
   pub number : ℕ
   pub length : ℕ
+  pub wait : ℕ
   pub ended : ℕ
 
 -- 'zero in the answer's other fields'
 abbrev pub refusedAnswer : ℕ → Answer
 refusedAnswer n =
-    record { refusal = n; drops = 0; slot = 0; phase = 0; start = 0; size = 0; event = 0; address = 0; number = 0; length = 0; ended = 0 }
+    record
+    { refusal = n; drops = 0; slot = 0; phase = 0; start = 0; size = 0; event = 0; address = 0; number = 0; length = 0; wait = 0; ended = 0 }
 
 -- the phase, from the tied parameter
 abbrev pub phaseOf : Option ℕ → ℕ
@@ -99,9 +102,9 @@ pub record Open : Type 0 where
   pub contention : Contention
   pub drops : ℕ
 
--- the answer to a probe: its event, on success the address, packet number and length (else 0), and if the contention ended
-abbrev pub answered : Open → ℕ → ℕ → ℕ → ℕ → ℕ → Answer
-answered o event address number length ended =
+-- the answer to a probe: its event, on success the address, packet number, length and wait (else 0), and if the contention ended
+abbrev pub answered : Open → ℕ → ℕ → ℕ → ℕ → ℕ → ℕ → Answer
+answered o event address number length wait ended =
     record {
       refusal = 0;
       drops = o .drops;
@@ -113,16 +116,21 @@ answered o event address number length ended =
       address = address;
       number = number;
       length = length;
+      wait = wait;
       ended = ended;
     }
 
 -- no packet was sent
 abbrev pub unsent : Open → ℕ → ℕ → Answer
-unsent o event ended = answered o event 0 0 0 ended
+unsent o event ended = answered o event 0 0 0 0 ended
+
+-- P1: 'the number of slots from there to the probe that won', from a packet's admission slot to a slot
+abbrev pub waitOf : Packet → ℕ → ℕ
+waitOf p slot = slot - p .admission .0
 
 -- a contender's packet was sent, and the contention ended
 abbrev pub sentBy : Open → Contender → Answer
-sentBy o x = answered o success (x .address) (x .packet .number) (x .packet .length) 1
+sentBy o x = answered o success (x .address) (x .packet .number) (x .packet .length) (waitOf (x .packet) (o .bus .clock)) 1
 
 -- the contention goes on with another window, one slot later
 abbrev pub goesOn : Bus → Contention → Bus

@@ -39,6 +39,10 @@ value-fits RTVC D value = eqb value 0
 abbrev pub length-fits : ℕ → Bool
 length-fits n = not (outside 1 longest-packet n)
 
+-- 'values and lengths in range', and P1's 'admission slot not above the clock'
+abbrev pub packet-fits : Discipline → ℕ → ℕ → Packet → Bool
+packet-fits d D clock p = value-fits d D (p .value) && length-fits (p .length) && leb (p .admission .0) clock
+
 -- 'numbers from 1 to the admitted count and rising'; `before` is the number before these
 abbrev pub rising : ℕ → ℕ → List Packet → Bool
 rising before admitted [] = leb before admitted
@@ -46,7 +50,11 @@ rising before admitted (p ∷ queue) = ltb before (p .number) && rising (p .numb
 
 -- whether two packets are one
 abbrev pub same-packet : Packet → Packet → Bool
-same-packet p p′ = eqb (p .number) (p′ .number) && eqb (p .value) (p′ .value) && eqb (p .length) (p′ .length)
+same-packet p p′ =
+    eqb (p .number) (p′ .number)
+    && eqb (p .value) (p′ .value)
+    && eqb (p .length) (p′ .length)
+    && eqb (p .admission .0) (p′ .admission .0)
 
 -- 'in PRI and RTVC equal to priority or capability'
 abbrev pub parameter-fits : Discipline → Station → Offer → Bool
@@ -61,12 +69,12 @@ offer-stands b s none (some o) = false
 offer-stands b s (some c) (some o) =
     some-of (same-packet (o .packet)) (s .queue) && ltb (o .parameter) (b .D) && parameter-fits (b .discipline) s o
 
--- 'in each queue at most 16 packets, numbers .., values and lengths in range', and the station's offer
+-- 'in each queue at most 16 packets, numbers .., values and lengths in range', admission slots, and the station's offer
 abbrev pub station-stands : Bus → Station → Bool
 station-stands b s =
     leb (length (s .queue)) places
     && rising 0 (b .admitted) (s .queue)
-    && each-of (λ p. value-fits (b .discipline) (b .D) (p .value) && length-fits (p .length)) (s .queue)
+    && each-of (packet-fits (b .discipline) (b .D) (b .clock)) (s .queue)
     && offer-stands b s (b .contention) (s .offer)
 
 -- 'a last winner only in RTVC and some station's capability'
@@ -106,11 +114,14 @@ ValueFits PRI D value = value < D
 ValueFits RTDG D value = value ≤ clock-end
 ValueFits RTVC D value = value ≡ 0
 
--- 'values and lengths in range'
+-- `packet-fits`
 pub record PacketStands (b : Bus) (p : Packet) : Type 0 where
+  -- 'values and lengths in range'
   pub value : ValueFits (b .discipline) (b .D) (p .value)
   pub least : 1 ≤ p .length
   pub most : p .length ≤ longest-packet
+  -- 'admission slot not above the clock'
+  pub admission : p .admission .0 ≤ b .clock
 
 -- `rising`
 abbrev pub Rising : ℕ → ℕ → List Packet → Type 0

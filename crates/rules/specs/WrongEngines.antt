@@ -1,16 +1,16 @@
 -- Engines that break the rules, each the machine with one thing changed. 'Try these and see them rejected' (paper 01, 'What the
--- histories may rely on'), and others: proofs/WrongEngines.antt refutes demand 2 of each of them, demand 3 of `firstStation`, and of
--- `oneTooLow` that numbers are answers. Assumes nothing.
-use Prim.Native.Nat.{ℕ, zero, suc, _+_, _-_, _%_}
+-- histories may rely on'), and others: proofs/WrongEngines.antt refutes demand 2 of each of them, demand 3 of `firstStation`, of `oneTooLow`
+-- that numbers are answers, and of those that count waits wrongly that waits are true. Assumes nothing.
+use Prim.Native.Nat.{ℕ, zero, suc, _+_, _-_, _%_, max}
 use mathlib.Core.Bool.{Bool, true, false, not, _||_, cond}
-use mathlib.Core.Option.{none}
+use mathlib.Core.Option.{Option, none, some}
 use mathlib.Core.List.{List, [], _∷_, map}
 use lib.Dec.{eqb}
 use Rattle.rules.specs.Lists.{keep}
-use Rattle.rules.specs.Bus.{Packet, Station, Bus, nothing}
+use Rattle.rules.specs.Bus.{Packet, Station, Contention, Bus, nothing}
 use Rattle.rules.specs.SetUp.{fault, setUp}
 use Rattle.rules.specs.Admission.{admit}
-use Rattle.rules.specs.Probe.{Contender, transmitters, Answer, refusedAnswer, Open, sentBy, withdrawn, lastWinner, heard, probe}
+use Rattle.rules.specs.Probe.{Contender, transmitters, Answer, success, refusedAnswer, Open, sentBy, withdrawn, lastWinner, heard, probe}
 use Rattle.rules.specs.Step.{opened, stepRefusal, step}
 use Rattle.rules.specs.Engine.{Engine}
 use Rattle.rules.specs.Examples.{dropping}
@@ -116,7 +116,7 @@ madeUpProbes = record { State = Bus; setUp = setUp; admit = admit; step = played
 -- arbitrates the first contention truly, and thereafter names the first listed station with a success each step, whether or not it has
 -- a packet; beside the bus it keeps whether the first contention is over
 abbrev pub firstPacket : List Packet → Packet
-firstPacket [] = record { number = 0; value = 0; length = 1 }
+firstPacket [] = record { number = 0; value = 0; length = 1; admission = record { 0 = 0 } }
 firstPacket (p ∷ queue) = p
 
 -- the first listed station, as if it alone transmitted
@@ -138,3 +138,48 @@ firstStation =
       admit = λ s a. (admit (s .0) a .0, (admit (s .0) a .1, s .1));
       step = λ s. arbitrates (s .0) (s .1);
     }
+
+-- ---- waits
+
+-- an answer with another wait, where a packet was sent
+abbrev pub waiting : ℕ → Answer → Answer
+waiting n a =
+    record {
+      refusal = a .refusal;
+      drops = a .drops;
+      slot = a .slot;
+      phase = a .phase;
+      start = a .start;
+      size = a .size;
+      event = a .event;
+      address = a .address;
+      number = a .number;
+      length = a .length;
+      wait = cond (eqb (a .event) success) n 0;
+      ended = a .ended;
+    }
+
+-- counts the wait to the packet's end
+abbrev pub waitToTheEnd : Engine
+waitToTheEnd = probing λ o. (waiting (probe o .0 .wait + probe o .0 .length) (probe o .0), probe o .1)
+
+-- counts the wait from the contention's beginning; beside the bus it keeps the slot in which that began
+abbrev pub beginning : Bus → ℕ → Option Contention → ℕ
+beginning b began none = b .clock
+beginning b began (some c) = began
+
+abbrev pub waitOfTheContention : Engine
+waitOfTheContention =
+    record {
+      State = Bus × ℕ;
+      setUp = λ r. (setUp r .0, (setUp r .1, 0));
+      admit = λ s a. (admit (s .0) a .0, (admit (s .0) a .1, s .1));
+      step = λ s.
+          let began = beginning (s .0) (s .1) (s .0 .contention) in
+          (waiting (step (s .0) .0 .slot - began) (step (s .0) .0), (step (s .0) .1, began));
+    }
+
+-- counts the wait from the arrival's time, where that is earlier than the admission: in a run whose k-th accepted arrival has the time that
+-- `times` gives for k
+abbrev pub waitFromTheArrival : (ℕ → ℕ) → Engine
+waitFromTheArrival times = probing λ o. (waiting (max (probe o .0 .wait) (probe o .0 .slot - times (probe o .0 .number))) (probe o .0), probe o .1)
