@@ -1,6 +1,6 @@
 -- The types of the lower crates (a packet, the three sorts, a state and its parts), under one name for this crate's files. Assumes nothing.
+pub use Rattle.rules.specs.declared.Slot.{Slot}
 pub use Rattle.rules.specs.declared.Packet.{Packet}
-pub use Rattle.sorts.specs.declared.Slot.{Slot}
 pub use Rattle.sorts.specs.declared.Address.{Address}
 pub use Rattle.sorts.specs.declared.Capability.{Capability}
 pub use Rattle.state.specs.declared.Settings.{Settings}

@@ -1,8 +1,8 @@
 // Beginning a contention: late packets are counted lost, each station offers one packet, and parameters and the first window are fixed.
 use crate::offering;
 use crate::waiting;
+use rules::Slot;
 use sorts::Capability;
-use sorts::Slot;
 use sorts::disciplines;
 use state::Contender;
 use state::Contention;

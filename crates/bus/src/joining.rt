@@ -1,8 +1,8 @@
 // Admission: the station with an address, refusals 11 to 16, and the answer.
 use crate::Asked;
 use rules::Admitted;
+use rules::Slot;
 use sorts::Address;
-use sorts::Slot;
 use sorts::disciplines;
 use state::Listed;
 use state::Settings;

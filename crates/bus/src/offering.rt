@@ -1,7 +1,7 @@
 // What the three disciplines do differently as a contention begins: the order of offers, parameters, and who sits out.
 use rules::Packet;
+use rules::Slot;
 use sorts::Capability;
-use sorts::Slot;
 use sorts::disciplines;
 use state::Round;
 use state::Settings;

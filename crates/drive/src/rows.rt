@@ -1,9 +1,9 @@
 // The rows of 64 places that a command lends, made of its numbers. A length above 64 is lent as it is.
 use crate::words;
 use bus::Arrivals;
+use rules::Slot;
 use sorts::Address;
 use sorts::Capability;
-use sorts::Slot;
 use state::Arrival;
 use state::Listed;
 use state::Row;

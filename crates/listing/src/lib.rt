@@ -10,10 +10,10 @@ ghost use Rattle.listing.specs.Parts.{Told, roomy, TurnTold, arrivalsFor
 use bus::Arrivals;
 use bus::Report;
 use bus::Stretch;
+use rules::Slot;
 use scenario::ARRIVAL_BYTES;
 use scenario::Record;
 use sorts::Address;
-use sorts::Slot;
 use state::Arrival;
 use state::State;
 

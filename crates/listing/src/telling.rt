@@ -9,8 +9,8 @@ ghost use Rattle.listing.specs.Text.{digit as digitOf, decimal, space, n
 ghost use Rattle.listing.specs.Parts.{Told, roomy, openingText, winnerText};
 use bus::Answer;
 use bus::Totals;
+use rules::Slot;
 use sorts::Address;
-use sorts::Slot;
 
 // One byte.
 fn put(room: &mut [u8; 65536], at: usize, byte: u8) -> usize

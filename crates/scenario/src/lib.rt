@@ -9,7 +9,7 @@ ghost use Rattle.scenario.specs.Format.{readRecord, said, outOfPlace};
 ghost use Rattle.scenario.specs.Reading.{reading, scenarioForm, readStations, set-up-bytes, stationOffset, stationsFrom};
 ghost use Rattle.scenario.specs.Reading.{refused as refusedReading};
 ghost use Rattle.scenario.specs.Parts.{endingForm, runAt, endingAt, afterPassed};
-use sorts::Slot;
+use rules::Slot;
 use state::Arrival;
 use state::Listed;
 use state::Row;

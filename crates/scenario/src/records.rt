@@ -4,9 +4,9 @@ ghost use Rattle.scenario.specs.Format.{readRecord, said, saidBy, setUpK
 ghost use Rattle.scenario.specs.Parts.{isKind, saidByKind};
 use crate::Record;
 use crate::fields;
+use rules::Slot;
 use sorts::Address;
 use sorts::Capability;
-use sorts::Slot;
 use state::Arrival;
 use state::Listed;
 use state::Settings;

@@ -1,5 +1,5 @@
 // A lent state with another clock, or with other counts.
-use sorts::Slot;
+use rules::Slot;
 use state::Segment;
 use state::State;
 

@@ -1,7 +1,7 @@
 // Lines of what the calls answer: a label, a colon, and numbers.
 use bus::Arrivals;
+use rules::Slot;
 use sorts::Address;
-use sorts::Slot;
 use state::Arrival;
 use state::Row;
 use state::Settings;

@@ -3,6 +3,7 @@
 use Rattle.window.specs.Determined.{Determines}
 use Rattle.window.proofs.Unique.{unique}
 use Rattle.sorts.proofs.before.Reads as before
+use Rattle.sorts.proofs.same_slot.Reads as same_slot
 use Rattle.sorts.proofs.slots_until.Reads as slots_until
 use Rattle.sorts.proofs.same_address.Reads as same_address
 use Rattle.sorts.proofs.address_past.Reads as address_past
@@ -18,6 +19,9 @@ use Rattle.sorts.proofs.disciplines.length_fits.Reads as length_fits
 
 pub before-determined : Determines before.Learnt
 before-determined κs args r r′ end end′ = unique
+
+pub same-slot-determined : Determines same_slot.Learnt
+same-slot-determined κs args r r′ end end′ = unique
 
 pub slots-until-determined : Determines slots_until.Learnt
 slots-until-determined κs args r r′ end end′ = unique

@@ -1,5 +1,5 @@
 // What the three disciplines hold a packet to: its value, its latest start and its length.
-use crate::Slot;
+use rules::Slot;
 ghost use mathlib.Core.Path.{_≡_};
 ghost use Rattle.rules.specs.Bus.{late};
 ghost use Rattle.rules.specs.SetUp.{disciplineOf};

@@ -1,14 +1,14 @@
 // The three sorts of numbers, each compared with its own sort and opened here; and what a discipline holds a packet's numbers to
-// (`disciplines`). Every function takes any input.
+// (`disciplines`). A slot, which a packet holds, is declared in the crate rules. Every function takes any input.
 ghost use Prim.Native.Nat.{_-_};
 ghost use mathlib.Core.Path.{_≡_};
 ghost use lib.Dec.{leb, ltb, eqb};
 
+use rules::Slot;
+
 pub mod disciplines;
 
 // 'Slots, addresses and capabilities count three separate things.'
-pub struct Slot(pub u32);
-
 pub struct Address(pub u32);
 
 pub struct Capability(pub u32);
@@ -18,6 +18,13 @@ pub fn before(t: Slot, u: Slot) -> bool
     ensures { λ r. ⌜ r ≡ ltb (t .0) (u .0) ⌝ }
 {
     t.0 < u.0
+}
+
+// Whether two slots are one.
+pub fn same_slot(t: Slot, u: Slot) -> bool
+    ensures { λ r. ⌜ r ≡ eqb (t .0) (u .0) ⌝ }
+{
+    t.0 == u.0
 }
 
 // How many slots lie from t to u; 0 where u comes first.

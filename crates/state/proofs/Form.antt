@@ -113,13 +113,15 @@ parts-padded s h =
 -- the forms of what they mean
 pub no-packet-is : (p : Packet) → no-packet p ≡ true → p ≡ noPacket
 no-packet-is p e =
-    let ab = and-true (eqb (p .number) 0 && eqb (p .value) 0) (eqb (p .length) 0) e in
+    let abc = and-true (eqb (p .number) 0 && eqb (p .value) 0 && eqb (p .length) 0) (eqb (p .admission .0) 0) e in
+    let ab = and-true (eqb (p .number) 0 && eqb (p .value) 0) (eqb (p .length) 0) (abc .0) in
     let both = and-true (eqb (p .number) 0) (eqb (p .value) 0) (ab .0) in
     λ i.
     record {
       number = eqb-true (p .number) 0 (both .0) i;
       value = eqb-true (p .value) 0 (both .1) i;
       length = eqb-true (p .length) 0 (ab .1) i;
+      admission = record { 0 = eqb-true (p .admission .0) 0 (abc .1) i };
     }
 
 pub code-discipline : (n : ℕ) → n ≤ 2 → n ≡ code (disciplineOf n)

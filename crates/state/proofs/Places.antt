@@ -1,5 +1,5 @@
 -- The places of a row: how long the arrays are, station i's places in the row, and loops that copy places. Assumes nothing.
-use Prim.Native.Nat.{ℕ, _+_, _*_, _%_, _≤_, _<_}
+use Prim.Native.Nat.{ℕ, _+_, _*_, _≤_, _<_}
 use mathlib.Core.Path.{_≡_, sym, ap, ap₂, _∙_}
 use mathlib.Core.List.{List, _++_, map, append-nil}
 use native.Mathlib.Numerals.{add-one}
@@ -9,6 +9,7 @@ use denote.Laws.{Is}
 use lib.ListN.{length, getD, take, drop, set, replicate, length-map, length-take, length-drop, List·getD-map}
 use lib.Seq.{length-take-le, take-all, take-take, take-append-add, getD-take, getD-drop}
 use lib.Seq.{paste, paste-suc, length-paste, take-paste}
+use Rattle.rules.specs.Bus.{numbersIn}
 use Rattle.state.specs.State.{Queues, Packet, noPacket, placesAt}
 use Rattle.state.specs.Parts.{Queue}
 use Rattle.state.proofs.Queues as queues
@@ -65,33 +66,30 @@ pub taken-all :
 taken-all qs i j here row done e =
     copied-all (replicate 16 noPacket) 0 (placesAt qs i) j 16 e done (places-count qs i here row) ∙ append-nil (placesAt qs i)
 
--- a packet's number as the code holds it, in 32 bits, and the numbers of packets
-abbrev cutOff : Packet → ℕ
-cutOff p = p .number % 4294967296
-
-abbrev pub cut : List Packet → List ℕ
-cut ps = map cutOff ps
+-- a packet's number
+abbrev numberOf : Packet → ℕ
+numberOf p = p .number
 
 -- the numbers of station i's packets written behind others
 module _ (qs : Queues) (i at : ℕ) (before : List ℕ) (here : i < 64) (row : length (qs .packets) ≡ 1024) (room : at + 16 ≤ length before) where
-  count : length (cut (placesAt qs i)) ≡ 16
-  count = length-map (placesAt qs i) cutOff ∙ places-count qs i here row
+  count : length (numbersIn (placesAt qs i)) ≡ 16
+  count = length-map (placesAt qs i) numberOf ∙ places-count qs i here row
 
   -- one number more
   pub written-one :
-      (j : ℕ) {ns : List ℕ} → j < 16 → ns ≡ paste before at (cut (placesAt qs i)) j
-      → set ns (at + j) (getD (qs .packets) (16 * i + j) noPacket .number % 4294967296) ≡ paste before at (cut (placesAt qs i)) (j + 1)
+      (j : ℕ) {ns : List ℕ} → j < 16 → ns ≡ paste before at (numbersIn (placesAt qs i)) j
+      → set ns (at + j) (getD (qs .packets) (16 * i + j) noPacket .number) ≡ paste before at (numbersIn (placesAt qs i)) (j + 1)
   written-one j h e =
-      let s = cut (placesAt qs i) in
-      let number = List·getD-map cutOff (placesAt qs i) j noPacket ∙ ap cutOff (place-at qs i j h) in
+      let s = numbersIn (placesAt qs i) in
+      let number = List·getD-map numberOf (placesAt qs i) j noPacket ∙ ap numberOf (place-at qs i j h) in
       rw (e, ← number, add-one j) (paste-suc before at s j 0 (omega arith) (omega (arith, count)))
 
   -- all of them: the first k behind the others
   pub written-all :
-      (j k : ℕ) {ns : List ℕ} → j ≡ 16 → k ≤ 16 → ns ≡ paste before at (cut (placesAt qs i)) j
-      → (length ns ≡ length before) × (take (at + k) ns ≡ take at before ++ cut (take k (placesAt qs i)))
+      (j k : ℕ) {ns : List ℕ} → j ≡ 16 → k ≤ 16 → ns ≡ paste before at (numbersIn (placesAt qs i)) j
+      → (length ns ≡ length before) × (take (at + k) ns ≡ take at before ++ numbersIn (take k (placesAt qs i)))
   written-all j k {ns} done few e =
-      let s = cut (placesAt qs i) in
+      let s = numbersIn (placesAt qs i) in
       let all : ns ≡ paste before at s 16 = e ∙ ap (paste before at s) done in
       let front : take (at + 16) ns ≡ take at before ++ take 16 s =
       ap (take (at + 16)) all ∙ take-paste before at s 16 (omega arith) (omega (arith, count)) in (
@@ -99,5 +97,5 @@ module _ (qs : Queues) (i at : ℕ) (before : List ℕ) (here : i < 64) (row : l
         sym (take-take (at + k) (at + 16) ns (omega arith))
             ∙ ap₂ (λ m l. take (m + k) l) (sym (length-take-le at before (omega arith))) front
             ∙ take-append-add (take at before) (take 16 s) k
-            ∙ ap (λ l. take at before ++ l) (take-take k 16 s few ∙ take-map cutOff k (placesAt qs i)),
+            ∙ ap (λ l. take at before ++ l) (take-take k 16 s few ∙ take-map numberOf k (placesAt qs i)),
       )

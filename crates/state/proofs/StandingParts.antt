@@ -19,7 +19,7 @@ use Rattle.rules.specs.Lists.{each-of, some-of, total, distinct}
 use Rattle.rules.specs.Bus as Machine
 use Rattle.rules.specs.Bus.{places, most-stations, clock-end, most-admitted, Discipline, PRI, RTDG, RTVC, waiting, numbers, numbersIn}
 use Rattle.rules.specs.SetUp.{Request, disciplineOf, setUpVerdict}
-use Rattle.rules.specs.Standing.{value-fits, length-fits, rising, same-packet, parameter-fits, offer-stands, station-stands, last-stands, contention-stands, stands, askedFor, Standing}
+use Rattle.rules.specs.Standing.{packet-fits, rising, same-packet, parameter-fits, offer-stands, station-stands, last-stands, contention-stands, stands, askedFor, Standing}
 use Rattle.rules.proofs.Laws.{clash, and-true, true-and}
 use Rattle.rules.proofs.Tests.{Whether, holds, fails}
 use Rattle.rules.proofs.Standing.{stands-exactly}
@@ -29,7 +29,7 @@ use Rattle.state.specs.Parts.{parameterFits, contenderSound, stationSoun
 use Rattle.state.proofs.State as state
 use Rattle.state.proofs.Rows.{rest-suc, rest-none, each-place-turn, each-place-end, values-take}
 use Rattle.state.proofs.Form.{padded-parts, places-length}
-use Rattle.state.proofs.Places.{queues-arrays, cut}
+use Rattle.state.proofs.Places.{queues-arrays}
 use Rattle.state.proofs.SettingUp.{set-up-pass, passes-as-asked}
 
 -- ---- tests
@@ -163,7 +163,7 @@ station-same s i =
     fits : Bool
     fits =
         each-of
-        (λ p. value-fits (disciplineOf (s .segment .settings .discipline)) (s .segment .settings .d) (p .value) && length-fits (p .length))
+        (packet-fits (disciplineOf (s .segment .settings .discipline)) (s .segment .settings .d) (s .segment .clock .0))
         (queueAt (s .queues) i)
 
     offered : Bool
@@ -467,27 +467,14 @@ not-set-up s h n = go (standing s) refl
 
 -- ---- the queues, place by place
 
--- numbers up to an admitted count in range are held whole
-cut-whole :
-    (before admitted : ℕ) (ps : List Packet) → admitted ≤ most-admitted → rising before admitted ps ≡ true
-    → (before ≤ admitted) × (cut ps ≡ numbersIn ps)
-cut-whole before admitted [] l e = (leb-true before admitted e, refl)
-cut-whole before admitted (p ∷ ps) l e =
-    let both = and-true (ltb before (p .number)) (rising (p .number) admitted ps) e in
-    let more = cut-whole (p .number) admitted ps l (both .1) in
-    (omega (arith, ltb-true before (p .number) (both .0)), ap₂ _∷_ (mod-eq-of-lt (omega arith)) (more .1))
-
 module _ (g : Segment) (qs : Queues) where
   -- the numbers from place i on
   abbrev later : ℕ → List ℕ
   later i = numbersFrom qs i (g .settings .n - i)
 
-  -- of a place that is sound: its queue has room, and its numbers come next, none past N, and are held whole
+  -- of a place that is sound: its queue has room, and its numbers come next, none past N
   abbrev Next : ℕ → Type 0
-  Next i =
-      (getD (qs .lengths) i 0 ≤ places)
-      × (later i ≡ numbersIn (queueAt qs i) ++ later (suc i))
-      × (g .admitted ≤ most-admitted → cut (queueAt qs i) ≡ numbersIn (queueAt qs i))
+  Next i = (getD (qs .lengths) i 0 ≤ places) × (later i ≡ numbersIn (queueAt qs i) ++ later (suc i))
 
   pub next : (i : ℕ) → placeSound g qs i ≡ true → Next i
   next i = go (ltb i (g .settings .n)) refl
@@ -503,7 +490,6 @@ module _ (g : Segment) (qs : Queues) where
           let both = and-true padded _ (two .0) in (
             leb-true k places (and-true (leb k places) _ (both .0) .0),
             ap (numbersFrom qs i) (rest-suc i _ (ltb-true i _ e)),
-            λ l. cut-whole 0 (g .admitted) (queueAt qs i) l (both .1) .1,
           )
       go false e h =
           let l = getD (g .listed) i nobody in
@@ -512,7 +498,7 @@ module _ (g : Segment) (qs : Queues) where
           let both = and-true (unnamed && eqb k 0) _ (two .0) in
           let none = eqb-true k 0 (and-true unnamed (eqb k 0) (both .0) .1) in
           let past = ltb-false i (g .settings .n) e in
-          (omega arith, rw (rest-none i _ past, rest-none (suc i) (g .settings .n) (omega arith), none), λ l. rw none)
+          (omega arith, rw (rest-none i _ past, rest-none (suc i) (g .settings .n) (omega arith), none))
 
   -- the test from place i on, where `seen` are the numbers before it
   abbrev pub from-place : List ℕ → ℕ → Bool
@@ -526,11 +512,11 @@ module _ (g : Segment) (qs : Queues) where
     place-fails h e = simp (each-place-turn (placeSound g qs) i most-stations h, e)
 
     pub place-passes :
-        {more : List ℕ} → i < most-stations → placeSound g qs i ≡ true → g .admitted ≤ most-admitted → more ≡ seen ++ cut (queueAt qs i)
+        {more : List ℕ} → i < most-stations → placeSound g qs i ≡ true → more ≡ seen ++ numbersIn (queueAt qs i)
         → from-place seen i ≡ from-place more (i + 1)
-    place-passes h e l same =
+    place-passes h e same =
         let order = append-assoc seen (numbersIn (queueAt qs i)) (later (suc i)) in
-        rw (same, next i e .2 l, add-one i, order, each-place-turn (placeSound g qs) i most-stations h, e, next i e .1)
+        rw (same, add-one i, order, each-place-turn (placeSound g qs) i most-stations h, e, next i e .1)
 
     pub places-end :
         {k : ℕ} → g .settings .n ≤ most-stations → most-stations ≤ i → length seen ≡ k

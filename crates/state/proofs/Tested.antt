@@ -1,14 +1,15 @@
 -- Tests as the code makes them: a callee's answer negated, and a test a turn in a loop over the places of a list from j to n. What
 -- such a loop has left at j is `slice j n xs`: `-turn` is one turn of it, `-end` its end. Assumes nothing.
 use Prim.Native.Nat.{ℕ, _+_, _≤_, _<_}
-use mathlib.Core.Path.{_≡_, sym, ap, _∙_}
+use mathlib.Core.Path.{_≡_, refl, sym, ap, _∙_}
 use mathlib.Core.Bool.{Bool, true, false, not, _&&_, _||_}
 use mathlib.Core.List.{List, [], _∷_}
 use native.Mathlib.Numerals.{add-one}
 use native.Mathlib.Omega.{arith}
 use mir.Val.{Val}
 use denote.Laws.{Is}
-use borrow.Author.Tests.{not-true, not-false}
+use borrow.Author.Tests.{not-true, not-false, ltb-true, ltb-false, le-leb, lt-leb}
+use lib.Dec.{leb, ltb}
 use lib.ListN.{length, getD, take, length-take, drop-of-length-le}
 use lib.Seq.{slice, slice-cons}
 use Rattle.rules.specs.Lists.{each-of, some-of}
@@ -23,6 +24,15 @@ denied {answer} e h = sym e ∙ not-true answer h
 
 pub granted : {answer test : Bool} → answer ≡ test → not answer ≡ false → test ≡ true
 granted {answer} e h = sym e ∙ not-false answer h
+
+-- ---- a slot that is not before another is not above it
+
+pub not-before : (t u : ℕ) → not (ltb u t) ≡ leb t u
+not-before t u = go (ltb u t) refl
+  where
+    go : (before : Bool) → ltb u t ≡ before → not before ≡ leb t u
+    go true e = sym (lt-leb t u (ltb-true u t e))
+    go false e = sym (le-leb t u (ltb-false u t e))
 
 -- ---- a test in turn: what is told where it is passed, and where it is failed
 

@@ -8,8 +8,8 @@ use Rattle.window.specs.Splitting.{placed}
 use Rattle.rules.specs.Lists.{each-of, some-of, has, distinct}
 use Rattle.rules.specs.Bus.{Discipline, PRI, RTDG, RTVC, numbersIn}
 use Rattle.rules.specs.SetUp.{Asked, disciplineOf}
-use Rattle.rules.specs.Standing.{value-fits, length-fits, rising, same-packet}
-use Rattle.state.specs.State.{Capability, Settings, Listed, Contender, Contention, Segment, Queues, State, Packet, noPacket, noContender, noContention, noRound, nobody, placesAt, queueAt, row, no-packet, queue-padded, contender-padded, round-padded, contention-padded, each-place}
+use Rattle.rules.specs.Standing.{packet-fits, rising, same-packet}
+use Rattle.state.specs.State.{Slot, Capability, Settings, Listed, Contender, Contention, Segment, Queues, State, Packet, noPacket, noContender, noContention, noRound, nobody, placesAt, queueAt, row, no-packet, queue-padded, contender-padded, round-padded, contention-padded, each-place}
 use Rattle.state.specs.SetUp.{askedOf}
 pub use Rattle.state.specs.declared.Queue.{Queue}
 pub use Rattle.state.specs.declared.Compared.{Compared}
@@ -85,11 +85,11 @@ contenderSound g begun l c packets =
     && parameterFits (disciplineOf (g .discipline)) (l .capability) c))
 
 -- `station-padded`, and `station-stands` of the rules
-abbrev pub stationTest : Settings → Bool → ℕ → Listed → Contender → Queue → Bool
-stationTest g begun admitted l c queue =
+abbrev pub stationTest : Settings → Bool → Slot → ℕ → Listed → Contender → Queue → Bool
+stationTest g begun clock admitted l c queue =
     queue-padded (queue .length) (queue .packets)
     && rising 0 admitted (packetsOf queue)
-    && each-of (λ p. value-fits (disciplineOf (g .discipline)) (g .d) (p .value) && length-fits (p .length)) (packetsOf queue)
+    && each-of (packet-fits (disciplineOf (g .discipline)) (g .d) (clock .0)) (packetsOf queue)
     && contenderSound g begun l c (packetsOf queue)
 
 -- the same, of station i
@@ -98,6 +98,7 @@ stationSound g qs i =
     stationTest
     (g .settings)
     (g .contention .begun)
+    (g .clock)
     (g .admitted)
     (getD (g .listed) i nobody)
     (getD (g .contenders) i noContender)

@@ -11,13 +11,13 @@ use lib.ListN.{length, getD, take, drop}
 use Rattle.window.specs.declared.Side.the-variants.{Left}
 use Rattle.window.specs.declared.Window.{Window}
 use Rattle.window.specs.Splitting.{sameSide}
+pub use Rattle.rules.specs.declared.Slot.{Slot}
 pub use Rattle.rules.specs.declared.Packet.{Packet}
 use Rattle.rules.specs.Lists.{each-of, total}
 use Rattle.rules.specs.Bus as Machine
 use Rattle.rules.specs.Bus.{places, most-stations, code}
 use Rattle.rules.specs.SetUp.{disciplineOf}
 use Rattle.rules.specs.Standing.{stands}
-pub use Rattle.sorts.specs.declared.Slot.{Slot}
 pub use Rattle.sorts.specs.declared.Address.{Address}
 pub use Rattle.sorts.specs.declared.Capability.{Capability}
 pub use Rattle.state.specs.declared.Settings.{Settings}
@@ -42,7 +42,7 @@ Held s =
 -- ---- what has no meaning is zero: a packet, a contender, a contention, a round's last winner, a station that are not there
 
 abbrev pub noPacket : Packet
-noPacket = record { number = 0; value = 0; length = 0 }
+noPacket = record { number = 0; value = 0; length = 0; admission = record { 0 = 0 } }
 
 abbrev pub noContender : Contender
 noContender = record { contends = false; parameter = 0; packet = noPacket }
@@ -195,7 +195,7 @@ form b = record { segment = segmentForm b; queues = queuesForm b }
 
 -- a place that no packet fills
 abbrev pub no-packet : Packet → Bool
-no-packet p = eqb (p .number) 0 && eqb (p .value) 0 && eqb (p .length) 0
+no-packet p = eqb (p .number) 0 && eqb (p .value) 0 && eqb (p .length) 0 && eqb (p .admission .0) 0
 
 -- a queue's length is within its sixteen places, and the places past its end are zero
 abbrev pub queue-padded : ℕ → List Packet → Bool

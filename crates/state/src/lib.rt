@@ -5,10 +5,10 @@ ghost use Rattle.rules.specs.Bus.{nothing};
 ghost use Rattle.state.specs.State.{form};
 ghost use Rattle.state.specs.SetUp.{settingsRefusal, codedSetUp, setUpResult, requestOf};
 use rules::Packet;
+use rules::Slot;
 use rules::Verdict;
 use sorts::Address;
 use sorts::Capability;
-use sorts::Slot;
 use window::Window;
 
 mod numbers;

@@ -11,8 +11,8 @@ use crate::numbers;
 use crate::stations;
 use crate::zeros;
 use rules::Packet;
+use rules::Slot;
 use sorts::Capability;
-use sorts::Slot;
 use sorts::disciplines;
 use window::Side;
 use window::Window;
@@ -22,9 +22,8 @@ ghost use mathlib.Core.Bool.{_&&_, cond};
 ghost use lib.Dec.{eqb, ltb};
 ghost use lib.ListN.{drop, take};
 ghost use Rattle.rules.specs.Lists.{each-of, some-of};
-ghost use Rattle.rules.specs.Bus.{most-admitted};
 ghost use Rattle.rules.specs.SetUp.{disciplineOf};
-ghost use Rattle.rules.specs.Standing.{value-fits, length-fits, rising, same-packet};
+ghost use Rattle.rules.specs.Standing.{packet-fits, rising, same-packet};
 ghost use Rattle.state.specs.State.{no-packet, no-window, standing, waitingIn};
 ghost use Rattle.state.specs.Parts.{packetsOf, no-contender, contenderSound, stationTest, nobodyTest, parameterFits, queuesSound, roundSound, contentionSound};
 
@@ -41,7 +40,10 @@ fn no_packet(p: Packet) -> bool
     if p.value != 0 {
         return false;
     }
-    p.length == 0
+    if p.length != 0 {
+        return false;
+    }
+    sorts::same_slot(p.admission, zeros::NO_PACKET.admission)
 }
 
 // Whether a place is that of a station that does not contend.
@@ -67,7 +69,10 @@ fn same_packet(p: Packet, o: Packet) -> bool
     if p.value != o.value {
         return false;
     }
-    p.length == o.length
+    if p.length != o.length {
+        return false;
+    }
+    sorts::same_slot(p.admission, o.admission)
 }
 
 // 'What has no meaning is zero: places past a queue's end'
@@ -91,7 +96,7 @@ fn rises(queue: Queue, admitted: u64) -> bool
     ensures { λ r. ⌜ r ≡ rising 0 admitted (packetsOf queue) ⌝ }
 {
     let length = queue.length;
-    let mut before = 0u64;
+    let mut before = 0u32;
     for j in 0..length {
         let p = queue.packets[j];
         if p.number <= before {
@@ -99,28 +104,31 @@ fn rises(queue: Queue, admitted: u64) -> bool
         }
         before = p.number;
     }
-    before <= admitted
+    sorts::wide(before) <= admitted
 }
 
-// Whether a packet's value and length are in range.
-fn packet_fits(discipline: u32, d: u32, p: Packet) -> bool
-    ensures { λ r. ⌜ r ≡ (value-fits (disciplineOf discipline) d (p .value) && length-fits (p .length)) ⌝ }
+// Whether a packet's value and length are in range, and its admission slot is not above the clock.
+fn packet_fits(discipline: u32, d: u32, clock: Slot, p: Packet) -> bool
+    ensures { λ r. ⌜ r ≡ packet-fits (disciplineOf discipline) d (clock .0) p ⌝ }
 {
     if !disciplines::value_fits(discipline, d, p.value) {
         return false;
     }
-    disciplines::length_fits(p.length)
+    if !disciplines::length_fits(p.length) {
+        return false;
+    }
+    !sorts::before(clock, p.admission)
 }
 
-// 'values and lengths in range'
-fn packets_fit(queue: Queue, discipline: u32, d: u32) -> bool
+// 'values and lengths in range'; 'admission slot not above the clock'
+fn packets_fit(queue: Queue, discipline: u32, d: u32, clock: Slot) -> bool
     requires { ⌜ queue .length ≤ 16 ⌝ }
-    ensures { λ r. ⌜ r ≡ each-of (λ p. value-fits (disciplineOf discipline) d (p .value) && length-fits (p .length)) (packetsOf queue) ⌝ }
+    ensures { λ r. ⌜ r ≡ each-of (packet-fits (disciplineOf discipline) d (clock .0)) (packetsOf queue) ⌝ }
 {
     let length = queue.length;
     for j in 0..length {
         let p = queue.packets[j];
-        if !packet_fits(discipline, d, p) {
+        if !packet_fits(discipline, d, clock, p) {
             return false;
         }
     }
@@ -176,16 +184,17 @@ fn contender_stands(settings: Settings, begun: bool, l: Listed, c: Contender, qu
     parameter_fits(settings.discipline, l.capability, c)
 }
 
-// 'in each queue at most 16 packets, numbers .., values and lengths in range', and the station's place among the contenders
+// 'in each queue at most 16 packets, numbers .., values and lengths in range', admission slots, and the station's place among the contenders
 fn station_stands(
     settings: Settings,
     begun: bool,
+    clock: Slot,
     admitted: u64,
     l: Listed,
     c: Contender,
     queue: Queue,
 ) -> bool
-    ensures { λ r. ⌜ r ≡ stationTest settings begun admitted l c queue ⌝ }
+    ensures { λ r. ⌜ r ≡ stationTest settings begun clock admitted l c queue ⌝ }
 {
     if 16 < queue.length {
         return false;
@@ -196,7 +205,7 @@ fn station_stands(
     if !rises(queue, admitted) {
         return false;
     }
-    if !packets_fit(queue, settings.discipline, settings.d) {
+    if !packets_fit(queue, settings.discipline, settings.d, clock) {
         return false;
     }
     contender_stands(settings, begun, l, c, queue)
@@ -225,16 +234,17 @@ fn nobody_at(l: Listed, c: Contender, queue: Queue) -> bool
 fn place_stands(
     settings: Settings,
     begun: bool,
+    clock: Slot,
     admitted: u64,
     i: usize,
     l: Listed,
     c: Contender,
     queue: Queue,
 ) -> bool
-    ensures { λ r. ⌜ r ≡ cond (ltb i (settings .n)) (stationTest settings begun admitted l c queue) (nobodyTest l c queue) ⌝ }
+    ensures { λ r. ⌜ r ≡ cond (ltb i (settings .n)) (stationTest settings begun clock admitted l c queue) (nobodyTest l c queue) ⌝ }
 {
     if i < settings.n {
-        return station_stands(settings, begun, admitted, l, c, queue);
+        return station_stands(settings, begun, clock, admitted, l, c, queue);
     }
     nobody_at(l, c, queue)
 }
@@ -350,11 +360,9 @@ fn contention_stands(settings: Settings, c: Contention) -> bool
 }
 
 // Each of the 64 places, 'admitted = sent + lost + waiting', and 'none twice over all queues'. The queues and their numbers are taken out in
-// the loop itself: a call copies the whole row. Those of places past a queue's end are written over by the next station's. Numbers are held
-// in 32 bits: where a place stands, none is above the admitted count.
+// the loop itself: a call copies the whole row. Those of places past a queue's end are written over by the next station's.
 fn queues_stand(g: Segment, queues: Queues) -> bool
     requires { ⌜ g .settings .n ≤ 64 ⌝ }
-    requires { ⌜ g .admitted ≤ most-admitted ⌝ }
     ensures { λ r. ⌜ r ≡ queuesSound g queues ⌝ }
 {
     let settings = g.settings;
@@ -368,14 +376,14 @@ fn queues_stand(g: Segment, queues: Queues) -> bool
         for j in 0..16 {
             let p = queues.packets[16 * i + j];
             places[j] = p;
-            numbers[waiting + j] = (p.number % 4_294_967_296) as u32;
+            numbers[waiting + j] = p.number;
         }
         let length = queues.lengths[i];
         let queue = Queue {
             packets: places,
             length,
         };
-        if !place_stands(settings, contention.begun, g.admitted, i, l, c, queue) {
+        if !place_stands(settings, contention.begun, g.clock, g.admitted, i, l, c, queue) {
             return false;
         }
         waiting += length;

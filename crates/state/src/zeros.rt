@@ -4,6 +4,7 @@ use crate::Contention;
 use crate::Listed;
 use crate::Round;
 use rules::Packet;
+use rules::Slot;
 use sorts::Address;
 use sorts::Capability;
 use window::Side;
@@ -20,6 +21,7 @@ pub const NO_PACKET: Packet = Packet {
     number: 0,
     value: 0,
     length: 0,
+    admission: Slot(0),
 };
 
 // The place of a station that does not contend.

@@ -1,19 +1,12 @@
 -- `playing::is_due` meets its contract: a time is not above the clock exactly when the clock does not come before it. Assumes nothing.
-use Prim.Native.Nat.{ℕ}
-use mathlib.Core.Path.{_≡_, refl, sym, ap, _∙_}
-use mathlib.Core.Bool.{Bool, true, false, not, _&&_}
-use lib.Dec.{leb, ltb}
+use mathlib.Core.Path.{sym, ap, _∙_}
+use mathlib.Core.Bool.{Bool, not, _&&_}
+use lib.Dec.{leb}
 use borrow.Author.Needs.{needs}
-use borrow.Author.Tests.{ltb-true, ltb-false, le-leb, lt-leb, le-ltb, lt-ltb}
+use borrow.Author.Tests.{le-ltb, lt-ltb}
+use Rattle.state.proofs.Tested.{not-before}
 use Rattle.bus.proofs.playing.is_due.Statement.{statement}
 use Rattle.bus.proofs.playing.is_due.Tie as tie
-
-not-before : (time clock : ℕ) → not (ltb clock time) ≡ leb time clock
-not-before time clock = go (ltb clock time) refl
-  where
-    go : (t : Bool) → ltb clock time ≡ t → not t ≡ leb time clock
-    go true e = sym (lt-leb time clock (ltb-true clock time e))
-    go false e = sym (le-leb time clock (ltb-false clock time e))
 
 returns : tie.Need-returns
 returns c = rw (le-ltb _ _ (c .if1 .taken))

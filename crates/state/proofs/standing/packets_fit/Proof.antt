@@ -7,22 +7,22 @@ use borrow.Author.Tests.{not-true, not-false}
 use lib.Seq.{slice}
 use Rattle.rules.specs.Lists.{each-of}
 use Rattle.rules.specs.SetUp.{disciplineOf}
-use Rattle.rules.specs.Standing.{value-fits, length-fits}
-use Rattle.state.specs.State.{Packet, noPacket}
+use Rattle.rules.specs.Standing.{packet-fits}
+use Rattle.state.specs.State.{Slot, Packet, noPacket}
 use Rattle.state.specs.Parts.{packetsOf}
 use Rattle.state.proofs.Tested.{queue-room, each-turn, each-end}
 use Rattle.state.proofs.standing.packets_fit.Statement.{statement}
 use Rattle.state.proofs.standing.packets_fit.Tie as tie
 
-abbrev fits : ℕ → ℕ → Packet → Bool
-fits discipline d p = value-fits (disciplineOf discipline) d (p .value) && length-fits (p .length)
+abbrev fits : ℕ → ℕ → Slot → Packet → Bool
+fits discipline d clock = packet-fits (disciplineOf discipline) d (clock .0)
 
 abbrev Inv-loop : tie.InvT-loop
-Inv-loop discipline d queue length j₀ j =
-    each-of (fits discipline d) (packetsOf queue) ≡ each-of (fits discipline d) (slice j length (queue .packets))
+Inv-loop discipline d clock queue length j₀ j =
+    each-of (fits discipline d clock) (packetsOf queue) ≡ each-of (fits discipline d clock) (slice j length (queue .packets))
 
 abbrev μ-loop : tie.MeasureT-loop
-μ-loop discipline d queue length j₀ j = length - j
+μ-loop discipline d clock queue length j₀ j = length - j
 
 loop-holds : tie.Need-loop-holds Inv-loop μ-loop
 loop-holds c = refl
@@ -41,7 +41,7 @@ turn :
     (c : tie.After-packet-fits Inv-loop μ-loop)
     → let at = c .before .before .before in
     let args = at .before .args in
-    let fit = each-of (fits (args .discipline) (args .d)) in
+    let fit = each-of (fits (args .discipline) (args .d) (args .clock)) in
     fit (packetsOf (args .t1)) ≡ (c .packet-fits .result && fit (slice (at .loop .j + 1) (args .t1 .length) (args .t1 .packets)))
 turn c =
     let at = c .before .before .before in

@@ -10,10 +10,11 @@ use lib.Dec.{eqb}
 use lib.ListN.{length, take}
 use lib.Seq.{length-take-le, paste, paste-zero}
 use Rattle.rules.specs.Lists.{distinct}
+use Rattle.rules.specs.Bus.{numbersIn}
 use Rattle.state.specs.State.{Segment, Queues, placesAt}
 use Rattle.state.specs.Parts.{placeSound, queuesSound}
 use Rattle.state.proofs.Tested.{denied, granted, passed, failed}
-use Rattle.state.proofs.Places.{queues-arrays, cut, taken-one, taken-all, written-one, written-all}
+use Rattle.state.proofs.Places.{queues-arrays, taken-one, taken-all, written-one, written-all}
 use Rattle.state.proofs.StandingParts.{next, from-place, place-first, place-fails, place-passes, places-end}
 use Rattle.state.proofs.standing.queues_stand.Statement.{statement}
 use Rattle.state.proofs.standing.queues_stand.Tie as tie
@@ -22,7 +23,7 @@ abbrev Inv-loop2 : tie.InvT-loop2
 Inv-loop2 g queues settings contention numbers₀ waiting i l c places₀ j₀ numbers places j =
     (j ≤ 16)
     × (places ≡ paste places₀ 0 (placesAt queues i) j)
-    × (numbers ≡ paste numbers₀ waiting (cut (placesAt queues i)) j)
+    × (numbers ≡ paste numbers₀ waiting (numbersIn (placesAt queues i)) j)
 
 abbrev μ-loop2 : tie.MeasureT-loop2
 μ-loop2 g queues settings contention numbers₀ waiting i l c places₀ j₀ numbers places j = 16 - j
@@ -65,7 +66,7 @@ element-copy-out-c c = search needs
 loop2-holds : tie.Need-loop2-holds Inv-loop2 μ-loop2 Inv-loop μ-loop
 loop2-holds c =
     let at = c .before .before .before in
-    (search needs, refl, paste-zero (at .loop .numbers) (at .loop .waiting) (cut (placesAt (row at) (at .loop .i))))
+    (search needs, refl, paste-zero (at .loop .numbers) (at .loop .waiting) (numbersIn (placesAt (row at) (at .loop .i))))
 
 mul-p : tie.Need-mul-p Inv-loop2 μ-loop2 Inv-loop μ-loop
 mul-p c = search needs
@@ -85,9 +86,6 @@ mul-places c = search needs
 array-set-from-places : tie.Need-array-set-from-places Inv-loop2 μ-loop2 Inv-loop μ-loop
 array-set-from-places c = search needs
 
-cast-numbers : tie.Need-cast-numbers Inv-loop2 μ-loop2 Inv-loop μ-loop
-cast-numbers c = search needs
-
 add-numbers : tie.Need-add-numbers Inv-loop2 μ-loop2 Inv-loop μ-loop
 add-numbers c = search needs
 
@@ -105,7 +103,7 @@ loop2-less c = search needs
 
 loop2-again : tie.Need-loop2-again Inv-loop2 μ-loop2 Inv-loop μ-loop
 loop2-again c =
-    let turn = c .before .before .before in
+    let turn = c .before .before in
     let at = turn .before .before .before .before in
     let i = at .loop .i in
     let j = turn .loop2 .j in (
@@ -126,26 +124,26 @@ place-stands-requires c κs = search needs
 -- what is told of place i
 told :
     (c : tie.After-place-stands Inv-loop2 μ-loop2 Inv-loop μ-loop)
-    → let at = c .before .before .before .before .before .before .before in c .place-stands .result ≡ placeSound (lent at) (row at) (at .loop .i)
+    → let at = c .before .before .before .before .before .before .before .before in c .place-stands .result ≡ placeSound (lent at) (row at) (at .loop .i)
 told c =
-    let inner = c .before .before .before in
+    let inner = c .before .before .before .before in
     let at = inner .before .before .before .before in
     rw (taken-all (row at) (at .loop .i) (inner .loop2 .j) (omega arith) (full at) (omega arith) (inner .loop2 .inv .1)) at (c .place-stands .ensures)
 
 sound :
     (c : tie.Else1 Inv-loop2 μ-loop2 Inv-loop μ-loop)
-    → let at = c .before .before .before .before .before .before .before .before in placeSound (lent at) (row at) (at .loop .i) ≡ true
+    → let at = c .before .before .before .before .before .before .before .before .before in placeSound (lent at) (row at) (at .loop .i) ≡ true
 sound c = granted (told (c .before)) (c .if1 .left)
 
 returns : tie.Need-returns Inv-loop2 μ-loop2 Inv-loop μ-loop
 returns c =
-    let at = c .before .before .before .before .before .before .before .before in
+    let at = c .before .before .before .before .before .before .before .before .before in
     let none = place-fails (lent at) (row at) (seen at) (at .loop .i) (omega arith) in
     sym (at .loop .inv .3 ∙ none (denied (told (c .before)) (c .if1 .taken)))
 
 add-waiting : tie.Need-add-waiting Inv-loop2 μ-loop2 Inv-loop μ-loop
 add-waiting c =
-    let at = c .before .before .before .before .before .before .before .before in
+    let at = c .before .before .before .before .before .before .before .before .before in
     omega (arith, next (lent at) (row at) (at .loop .i) (sound c) .0)
 
 add-i : tie.Need-add-i Inv-loop2 μ-loop2 Inv-loop μ-loop
@@ -156,7 +154,7 @@ loop-less c = search needs
 
 loop-again : tie.Need-loop-again Inv-loop2 μ-loop2 Inv-loop μ-loop
 loop-again c =
-    let inner = c .before .before .before .before in
+    let inner = c .before .before .before .before .before in
     let at = inner .before .before .before .before in
     let i = at .loop .i in
     let room = next (lent at) (row at) i (sound c) .0 in
@@ -168,7 +166,7 @@ loop-again c =
       omega arith,
       more .0 ∙ at .loop .inv .2,
       at .loop .inv .3
-          ∙ place-passes (lent at) (row at) (seen at) i here (sound c) (at .before .before .before .pre .1) (more .1),
+          ∙ place-passes (lent at) (row at) (seen at) i here (sound c) (more .1),
     )
 
 -- at the end: the count and the numbers are left
@@ -181,7 +179,7 @@ ended :
 ended c =
     let at = c .before in
     let count = length-take-le (at .loop .waiting) (at .loop .numbers) (omega arith) in
-    at .loop .inv .3 ∙ places-end (lent at) (row at) (seen at) (at .loop .i) (at .before .before .before .pre .0) (c .loop-test .left) count
+    at .loop .inv .3 ∙ places-end (lent at) (row at) (seen at) (at .loop .i) (at .before .before .before .pre) (c .loop-test .left) count
 
 counts-stand-requires : tie.Need-counts-stand-requires Inv-loop2 μ-loop2 Inv-loop μ-loop
 counts-stand-requires c κs = search needs
@@ -217,7 +215,6 @@ queues-stand-spec =
     element-copy-out-p
     mul-places
     array-set-from-places
-    cast-numbers
     add-numbers
     mul-numbers
     array-write-numbers

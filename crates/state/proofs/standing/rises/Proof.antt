@@ -5,7 +5,7 @@ use mathlib.Core.Path.{_≡_, refl, sym, ap, _∙_}
 use mathlib.Core.Bool.{_&&_}
 use borrow.Author.Needs.{needs}
 use borrow.Author.Tests.{lt-ltb, le-ltb}
-use lib.Dec.{ltb}
+use lib.Dec.{leb, ltb}
 use lib.ListN.{getD}
 use lib.Seq.{slice}
 use Rattle.rules.specs.Standing.{rising}
@@ -57,8 +57,15 @@ loop-less c = search needs
 loop-again : tie.Need-loop-again Inv-loop μ-loop
 loop-again c = turn (c .before .before .before) ∙ rw (lt-ltb _ _ (c .if1 .left))
 
+wide-requires : tie.Need-wide-requires Inv-loop μ-loop
+wide-requires c κs = search needs
+
 returns-2 : tie.Need-returns-2 Inv-loop μ-loop
-returns-2 c = sym (c .before .loop .inv ∙ ap (rising (c .before .loop .before) _) (left-end _ _ _ (c .loop-test .left)))
+returns-2 c =
+    let at = c .before .before in
+    let admitted = at .before .args .admitted in
+    ap (λ n. leb n admitted) (c .wide .ensures)
+    ∙ sym (at .loop .inv ∙ ap (rising (at .loop .before) admitted) (left-end _ _ _ (c .before .loop-test .left)))
 
 pub rises-spec : {M : Type 1} → statement M
 rises-spec =
@@ -73,4 +80,5 @@ rises-spec =
     add-j
     loop-less
     loop-again
+    wide-requires
     returns-2)

@@ -83,7 +83,7 @@ returns-5 c = sym (failed _ (after-round (c .before .before .before)) (denied (c
 queues-stand-requires : tie.Need-queues-stand-requires
 queues-stand-requires c κs =
     let three = c .before .before .before .before .before .before in
-    (few (three .before .before .before .before), three .if3 .left)
+    few (three .before .before .before .before)
 
 returns-6 : tie.Need-returns-6
 returns-6 c =
