@@ -191,7 +191,7 @@ module _ (s : State) (r : Lent s) (place : ℕ) (address : Address) (sought : pl
 
     module _ (number : ℕ) (next : number ≡ suc (s .segment .admitted)) (room : getD (s .queues .lengths) place 0 < places) where
       abbrev packet : Packet
-      packet = record { number = number; value = value; length = len }
+      packet = record { number = number; value = value; length = len; admission = s .segment .clock }
 
       abbrev longer : List Packet
       longer = queueAt (s .queues) place ++ (packet ∷ [])
@@ -210,7 +210,7 @@ module _ (s : State) (r : Lent s) (place : ℕ) (address : Address) (sought : pl
               ≡ cond t (queued (newPacket (meaning s) arrival) (stationAt s j)) (stationAt s j)
           go true e =
               ap₂
-              (λ i n. stationWith (s .segment) j (queueAt (s .queues) i ++ (record { number = n; value = value; length = len } ∷ [])))
+              (λ i n. stationWith (s .segment) j (queueAt (s .queues) i ++ (record { number = n; value = value; length = len; admission = s .segment .clock } ∷ [])))
               (sym (eqb-true j place e))
               next
           go false e = refl
@@ -334,7 +334,7 @@ abbrev pub joinedAt : State → ℕ → ℕ → ℕ → ℕ → State
 joinedAt s place number value len =
     record {
       segment = counted s number .segment;
-      queues = rowWith (s .queues) place (record { number = number; value = value; length = len });
+      queues = rowWith (s .queues) place (record { number = number; value = value; length = len; admission = s .segment .clock });
     }
 
 -- what is given back with this number and this state
@@ -365,7 +365,7 @@ module _
         → taken number (joinedAt s place number value len) ≡ admissionResult (codedAdmit s (arrivalOf address value len))
     joined-in-place number e =
         let next = e ∙ add-one (s .segment .admitted) in
-        let packet : Packet = record { number = number; value = value; length = len } in
+        let packet : Packet = record { number = number; value = value; length = len; admission = s .segment .clock } in
         let formed = queue-formed s (r .held) (r .zeros) place in-row in
         ap (λ queues. taken number (record { segment = counted s number .segment; queues = queues }))
         (row-joined (s .queues) place packet in-row (r .held .packets) formed room-at)

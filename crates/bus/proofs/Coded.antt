@@ -207,6 +207,7 @@ ending a n =
       address = a .address;
       number = a .number;
       length = a .length;
+      wait = a .wait;
       ended = n;
     }
 

@@ -19,7 +19,7 @@ use Rattle.rules.specs.Bus as Machine
 use Rattle.rules.specs.Bus.{Discipline, PRI, RTDG, RTVC, Station, Bus, places, most-stations}
 use Rattle.rules.specs.Standing.{OfferStands, StationStands, WindowStands, ContentionStands}
 use Rattle.rules.specs.Probe as Probe
-use Rattle.rules.specs.Probe.{contending, contenders, transmits, transmitters, phaseOf, tie-phase, parameter-phase, idle, collision, success, answered, unsent, sentBy, goesOn, withdrawn, unwon, left, lastWinner, tiedAt, split, heard, probe}
+use Rattle.rules.specs.Probe.{contending, contenders, transmits, transmitters, phaseOf, tie-phase, parameter-phase, idle, collision, success, waitOf, answered, unsent, sentBy, goesOn, withdrawn, unwon, left, lastWinner, tiedAt, split, heard, probe}
 use Rattle.rules.proofs.Laws.{and-true, true-and, count-some, count-le, total-among}
 use Rattle.bus.specs.Types.{Packet, Address, Capability, Listed, Contention, Round, Segment, Queues, State}
 use Rattle.state.specs.State.{Held, noPacket, noContender, noRound, noContention, nobody, queueAt, offerOf, stationWith, stationAt, valuesFrom, stationsOf, lastOf, tieOf, contentionOf, meaning, form, contender-padded, no-station, round-padded, no-window, contention-padded}
@@ -405,10 +405,10 @@ phase-is c = go (c .tied)
     go false = refl
 
 answer-is :
-    (s : State) (drops event : ℕ) (address : Address) (number length ended : ℕ)
-    → answerAt (progressOf (s .segment)) drops event address number length (not (eqb ended 0))
-    ≡ answerForm (answered (openOf s drops) event (address .0) number length ended)
-answer-is s drops event address number length ended =
+    (s : State) (drops event : ℕ) (address : Address) (number length wait ended : ℕ)
+    → answerAt (progressOf (s .segment)) drops event address number length wait (not (eqb ended 0))
+    ≡ answerForm (answered (openOf s drops) event (address .0) number length wait ended)
+answer-is s drops event address number length wait ended =
     λ i.
     record {
       refusal = 0;
@@ -421,6 +421,7 @@ answer-is s drops event address number length ended =
       address = address;
       number = number;
       length = length;
+      wait = wait;
       ended = not (eqb ended 0);
     }
 
@@ -530,7 +531,7 @@ module _ (s : State) (r : Lent s) (begun : s .segment .contention .begun ≡ tru
         let c = now s in
         λ i.
         record {
-          answer = answer-is s drops idle (record { 0 = 0 }) 0 0 0 i;
+          answer = answer-is s drops idle (record { 0 = 0 }) 0 0 0 0 i;
           state =
               goes-on
               s
@@ -544,7 +545,7 @@ module _ (s : State) (r : Lent s) (begun : s .segment .contention .begun ≡ tru
     unheard-is Right =
         λ i.
         record {
-          answer = answer-is s drops idle (record { 0 = 0 }) 0 0 1 i;
+          answer = answer-is s drops idle (record { 0 = 0 }) 0 0 0 1 i;
           state = unwon-is s r i;
         }
 
@@ -554,7 +555,7 @@ module _ (s : State) (r : Lent s) (begun : s .segment .contention .begun ≡ tru
     collided-is =
         λ i.
         record {
-          answer = answer-is s drops collision (record { 0 = 0 }) 0 0 0 i;
+          answer = answer-is s drops collision (record { 0 = 0 }) 0 0 0 0 i;
           state = goes-on s r (splitNow s) (split (meaning s) (under-way s)) (split-padded s r) (split-is s) i;
         }
 
@@ -566,7 +567,17 @@ module _ (s : State) (r : Lent s) (begun : s .segment .contention .begun ≡ tru
         let x = contenderAt (s .segment) (first s) in
         λ i.
         record {
-          answer = answer-is s drops success (getD (s .segment .listed) (first s) nobody .address) (x .packet .number) (x .packet .length) 1 i;
+          answer =
+              answer-is
+              s
+              drops
+              success
+              (getD (s .segment .listed) (first s) nobody .address)
+              (x .packet .number)
+              (x .packet .length)
+              (waitOf (x .packet) (s .segment .clock .0))
+              1
+              i;
           state = won-is s r (first s) l i;
         }
 

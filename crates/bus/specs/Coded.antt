@@ -57,6 +57,7 @@ answerForm a =
       address = record { 0 = a .address };
       number = a .number;
       length = a .length;
+      wait = a .wait;
       ended = not (eqb (a .ended) 0);
     }
 
@@ -74,6 +75,7 @@ answerOf a =
       address = a .address .0;
       number = a .number;
       length = a .length;
+      wait = a .wait;
       ended = bit (a .ended);
     }
 

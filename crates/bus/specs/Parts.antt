@@ -15,7 +15,7 @@ use Rattle.rules.specs.Standing.{value-fits, length-fits}
 use Rattle.rules.specs.Begin.{sits-out, choice}
 use Rattle.rules.specs.declared.Admitted.{Admitted}
 use Rattle.rules.specs.Probe as Probe
-use Rattle.rules.specs.Probe.{lies-in, able, idle, collision, success, parameter-phase, tie-phase}
+use Rattle.rules.specs.Probe.{lies-in, able, idle, collision, success, parameter-phase, tie-phase, waitOf}
 use Rattle.bus.specs.Types.{Slot, Address, Capability, Settings, Listed, Contender, Contention, Round, Segment, Queues, Queue, Packet}
 use Rattle.state.specs.Parts.{noContenders}
 use Rattle.state.specs.State.{noPacket, noContender, noContention, noRound, nobody, row, queueAt, lastOf, tieOf}
@@ -179,8 +179,8 @@ abbrev pub heardIn : Segment → Heard
 heardIn g = heardBy g (nextTransmitter g 0)
 
 -- an answer to a probe, by the progress so far
-abbrev pub answerAt : Progress → ℕ → ℕ → Address → ℕ → ℕ → Bool → Answer
-answerAt p drops event address number length ended =
+abbrev pub answerAt : Progress → ℕ → ℕ → Address → ℕ → ℕ → ℕ → Bool → Answer
+answerAt p drops event address number length wait ended =
     record {
       refusal = 0;
       drops = drops;
@@ -192,6 +192,7 @@ answerAt p drops event address number length ended =
       address = address;
       number = number;
       length = length;
+      wait = wait;
       ended = ended;
     }
 
@@ -211,7 +212,7 @@ splitOf a c large tied =
 abbrev pub collidedOn : ℕ → Progress → ℕ → Moved
 collidedOn a p drops =
     record {
-      answer = answerAt p drops collision (record { 0 = 0 }) 0 0 false;
+      answer = answerAt p drops collision (record { 0 = 0 }) 0 0 0 false;
       progress = wentOn p (splitOf a (p .contention) (leb 2 (p .contention .window .size)) (p .contention .tied));
     }
 
@@ -219,7 +220,7 @@ collidedOn a p drops =
 abbrev pub unheardOn : Progress → ℕ → Side → Moved
 unheardOn p drops Left =
     record {
-      answer = answerAt p drops idle (record { 0 = 0 }) 0 0 false;
+      answer = answerAt p drops idle (record { 0 = 0 }) 0 0 0 false;
       progress =
           wentOn
           p
@@ -227,7 +228,7 @@ unheardOn p drops Left =
     }
 unheardOn p drops Right =
     record {
-      answer = answerAt p drops idle (record { 0 = 0 }) 0 0 true;
+      answer = answerAt p drops idle (record { 0 = 0 }) 0 0 0 true;
       progress = record { clock = record { 0 = p .clock .0 + 1 }; sent = p .sent; round = noRound; contention = noContention };
     }
 
@@ -241,7 +242,7 @@ roundAfter RTVC c = record { won = true; last = c }
 abbrev pub wonOn : Discipline → Progress → ℕ → Listed → Packet → Moved
 wonOn d p drops l packet =
     record {
-      answer = answerAt p drops success (l .address) (packet .number) (packet .length) true;
+      answer = answerAt p drops success (l .address) (packet .number) (packet .length) (waitOf packet (p .clock .0)) true;
       progress =
           record {
             clock = record { 0 = p .clock .0 + packet .length };

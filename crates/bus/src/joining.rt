@@ -7,7 +7,7 @@ use sorts::disciplines;
 use state::Listed;
 use state::Settings;
 use state::standing;
-ghost use Prim.Native.Nat.{_<_, _≤_};
+ghost use Prim.Native.Nat.{_≤_};
 ghost use mathlib.Core.Path.{_≡_};
 ghost use mathlib.Core.Bool.{true};
 ghost use lib.Dec.{eqb};
@@ -77,7 +77,6 @@ pub fn asked(
     length: u32,
 ) -> Asked
     requires { ⌜ (stands ≡ true → settings .n ≤ 64) ⌝ }
-    requires { ⌜ (stands ≡ true → admitted < 18446744073709551615) ⌝ }
     ensures { λ r. ⌜ r ≡ askedIf stands settings listed clock admitted lengths address value length ⌝ }
 {
     if !stands {
@@ -95,7 +94,7 @@ pub fn asked(
     }
     let answer = Admitted {
         refusal: 0,
-        number: admitted + 1,
+        number: (admitted + 1) as u32,
     };
     Asked { place, answer }
 }

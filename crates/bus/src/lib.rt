@@ -40,6 +40,7 @@ const NO_ANSWER: Answer = Answer {
     address: Address(0),
     number: 0,
     length: 0,
+    wait: 0,
     ended: false,
 };
 
@@ -50,7 +51,7 @@ pub struct Admission {
 }
 
 // A step's answer: phase 0 is the parameter phase, 1 the tie phase; event 0 idle, 1 collision, 2 success. The address, the packet's
-// number and its length are 0 unless one succeeded.
+// number, its length and its wait, the number of slots from its admission slot to the slot probed, are 0 unless one succeeded.
 pub struct Answer {
     pub refusal: u32,
     pub drops: u64,
@@ -60,8 +61,9 @@ pub struct Answer {
     pub size: u64,
     pub event: u32,
     pub address: Address,
-    pub number: u64,
+    pub number: u32,
     pub length: u32,
+    pub wait: u32,
     pub ended: bool,
 }
 
@@ -114,7 +116,7 @@ pub struct Totals {
 // Which packets leave a queue: in a discipline, those whose latest start is below a slot; or the one with a number.
 enum Leaving {
     Late(u32, Slot),
-    Sent(u64),
+    Sent(u32),
 }
 
 // The packet that a station offers, if it has one.
@@ -178,14 +180,16 @@ pub fn admit(s: State, address: Address, value: u32, length: u32) -> Admission
         let place = asked.place;
         let waiting = lengths[place];
         let at = 16 * place + waiting;
+        let clock = g.clock;
         let packet = Packet {
             number: answer.number,
             value,
             length,
+            admission: clock,
         };
         queues.packets[at] = packet;
         queues.lengths[place] = waiting + 1;
-        g.admitted = answer.number;
+        g.admitted = answer.number as u64;
     }
     let state = State { segment: g, queues };
     Admission { answer, state }

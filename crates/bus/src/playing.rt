@@ -145,10 +145,11 @@ pub fn calls(s: State, stands: bool, arrivals: Arrivals, steps: u32) -> Stretch
                 number: admitted.number,
                 value: a.value,
                 length: a.length,
+                admission: clock,
             };
             queues.packets[at] = packet;
             queues.lengths[place] = length + 1;
-            g.admitted = admitted.number;
+            g.admitted = admitted.number as u64;
             continue;
         }
         let refusal = crate::step_refusal(stands, clock);

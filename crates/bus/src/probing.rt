@@ -90,9 +90,9 @@ pub fn heard(g: Segment) -> Heard
 
 // The answer to a probe without a winner.
 fn unsent(progress: Progress, drops: u64, event: u32, ended: bool) -> Answer
-    ensures { λ r. ⌜ r ≡ answerAt progress drops event (record { 0 = 0 }) 0 0 ended ⌝ }
+    ensures { λ r. ⌜ r ≡ answerAt progress drops event (record { 0 = 0 }) 0 0 0 ended ⌝ }
 {
-    answer_to(progress, drops, event, Address(0), 0, 0, ended)
+    answer_to(progress, drops, event, Address(0), 0, 0, 0, ended)
 }
 
 // The answer to a probe.
@@ -101,11 +101,12 @@ fn answer_to(
     drops: u64,
     event: u32,
     address: Address,
-    number: u64,
+    number: u32,
     length: u32,
+    wait: u32,
     ended: bool,
 ) -> Answer
-    ensures { λ r. ⌜ r ≡ answerAt progress drops event address number length ended ⌝ }
+    ensures { λ r. ⌜ r ≡ answerAt progress drops event address number length wait ended ⌝ }
 {
     let contention = progress.contention;
     let window = contention.window;
@@ -125,6 +126,7 @@ fn answer_to(
         address,
         number,
         length,
+        wait,
         ended,
     }
 }
@@ -248,7 +250,8 @@ fn round_after(discipline: u32, capability: Capability) -> Round
     }
 }
 
-// 'One transmits: success. .. The probed slot is its first, so the clock moves on by its length.'
+// 'One transmits: success. .. The probed slot is its first, so the clock moves on by its length.' P1: 'the number of slots from there to the
+// probe that won', from the packet's admission slot.
 fn won(discipline: u32, progress: Progress, drops: u64, l: Listed, packet: Packet) -> Moved
     requires { ⌜ progress .clock .0 + packet .length ≤ 4294967295 ⌝ }
     requires { ⌜ progress .sent < 4294967295 ⌝ }
@@ -256,6 +259,7 @@ fn won(discipline: u32, progress: Progress, drops: u64, l: Listed, packet: Packe
 {
     let clock = later(progress.clock, packet.length);
     let round = round_after(discipline, l.capability);
+    let wait = sorts::slots_until(packet.admission, progress.clock);
     let answer = answer_to(
         progress,
         drops,
@@ -263,6 +267,7 @@ fn won(discipline: u32, progress: Progress, drops: u64, l: Listed, packet: Packe
         l.address,
         packet.number,
         packet.length,
+        wait,
         true,
     );
     let next = Progress {

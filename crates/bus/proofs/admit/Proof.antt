@@ -19,10 +19,8 @@ sound! c =
 asked-requires : tie.Need-asked-requires
 asked-requires c κs =
     let tested = c .before .before .before .before .before in
-    let start = tested .before in (
-      λ e. lent (start .args .s) _ (start .good .0) (sym (tested .stands .ensures) ∙ e) .few,
-      λ e. omega (arith, lent (start .args .s) _ (start .good .0) (sym (tested .stands .ensures) ∙ e) .stands .admitted-in),
-    )
+    let start = tested .before in
+    λ e. lent (start .args .s) _ (start .good .0) (sym (tested .stands .ensures) ∙ e) .few
 
 -- the packet's place
 taken! :
@@ -52,22 +50,25 @@ add-at : tie.Need-add-at
 add-at c = let h = taken! c .in-row in let k = taken! c .room in search needs
 
 mul-packet : tie.Need-mul-packet
-mul-packet c = let h = taken! c .in-row in let k = taken! c .room in search needs
+mul-packet c = let h = taken! (c .before) .in-row in let k = taken! (c .before) .room in search needs
 
 element-set-from-packet : tie.Need-element-set-from-packet
-element-set-from-packet c = let h = taken! c .in-row in let k = taken! c .room in search needs
+element-set-from-packet c = let h = taken! (c .before) .in-row in let k = taken! (c .before) .room in search needs
 
 add-queues : tie.Need-add-queues
-add-queues c = let h = taken! c .in-row in let k = taken! c .room in search needs
+add-queues c = let h = taken! (c .before) .in-row in let k = taken! (c .before) .room in search needs
 
 mul-queues : tie.Need-mul-queues
-mul-queues c = let h = taken! c .in-row in search needs
+mul-queues c = let h = taken! (c .before) .in-row in search needs
 
 element-write-queues : tie.Need-element-write-queues
-element-write-queues c = taken! c .in-row
+element-write-queues c = taken! (c .before) .in-row
+
+cast-g : tie.Need-cast-g
+cast-g c = search needs
 
 returns : tie.Need-returns
-returns c = taken! c .is
+returns c = taken! (c .before .before) .is
 
 returns-2 : tie.Need-returns-2
 returns-2 c =
@@ -91,5 +92,6 @@ admit-spec =
     add-queues
     mul-queues
     element-write-queues
+    cast-g
     returns
     returns-2)

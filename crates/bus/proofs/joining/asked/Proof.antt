@@ -1,10 +1,16 @@
 -- `joining::asked` meets its contract. Assumes nothing.
-use Prim.Native.Nat.{ℕ, _+_}
+use Prim.Native.Nat.{ℕ, _+_, _<_}
 use mathlib.Core.Path.{_≡_, refl, sym, ap, _∙_}
-use mathlib.Core.Bool.{Bool, true, false, cond}
+use mathlib.Core.Bool.{Bool, true, false, not, cond}
+use mathlib.Core.List.{[], _∷_}
 use native.Mathlib.Omega.{arith}
-use lib.Dec.{eqb}
-use borrow.Author.Tests.{ne-eqb, eq-eqb}
+use lib.Dec.{eqb, leb}
+use lib.ListN.{getD}
+use borrow.Author.Tests.{leb-false, ne-eqb, eq-eqb}
+use Rattle.rules.specs.Lists.{firstOf}
+use Rattle.rules.specs.Bus.{places, most-admitted, late}
+use Rattle.rules.specs.SetUp.{disciplineOf}
+use Rattle.rules.specs.Standing.{value-fits, length-fits}
 use Rattle.bus.specs.Parts.{Asked, answered, refusalAt, askedIf}
 use Rattle.state.proofs.Tested.{denied, granted}
 use Rattle.bus.proofs.joining.asked.Statement.{statement}
@@ -14,10 +20,10 @@ returns : tie.Need-returns
 returns c = let no : c .before .args .stands ≡ false = denied refl (c .if1 .taken) in rw no
 
 station-of-requires : tie.Need-station-of-requires
-station-of-requires c κs = c .before .pre .0 (granted refl (c .if1 .left))
+station-of-requires c κs = c .before .pre (granted refl (c .if1 .left))
 
 refusal-requires : tie.Need-refusal-requires
-refusal-requires c κs = c .before .before .pre .0 (granted refl (c .before .if1 .left))
+refusal-requires c κs = c .before .before .pre (granted refl (c .before .if1 .left))
 
 -- the number that is answered, by whether there is a refusal
 told :
@@ -60,10 +66,38 @@ told c t e =
 returns-2 : tie.Need-returns-2
 returns-2 c = told (c .before) false (ne-eqb (c .before .refusal .result) 0 (c .if2 .taken))
 
+-- where none of 11 to 16 is given, 16 is not
+none-given :
+    (t11 t12 t13 t14 t15 t16 : Bool) 
+    → _≡_ {A = ℕ} (firstOf 0 ((11, t11) ∷ (12, t12) ∷ (13, t13) ∷ (14, t14) ∷ (15, t15) ∷ (16, t16) ∷ [])) 0 → t16 ≡ false
+none-given true t12 t13 t14 t15 t16 e = absurd (omega arith)
+none-given false true t13 t14 t15 t16 e = absurd (omega arith)
+none-given false false true t14 t15 t16 e = absurd (omega arith)
+none-given false false false true t15 t16 e = absurd (omega arith)
+none-given false false false false true t16 e = absurd (omega arith)
+none-given false false false false false true e = absurd (omega arith)
+none-given false false false false false false e = refl
+
+-- so that the number is in range
+count-left : (c : tie.Else2) → c .before .before .before .before .args .admitted < most-admitted
+count-left c =
+    let args = c .before .before .before .before .args in
+    let place = c .before .before .station-of .result in
+    leb-false most-admitted (args .admitted)
+    (none-given
+    (leb (args .settings .n) place)
+    (not (value-fits (disciplineOf (args .settings .discipline)) (args .settings .d) (args .value)))
+    (not (length-fits (args .length)))
+    (late (disciplineOf (args .settings .discipline)) (args .clock .0) (args .value))
+    (leb places (getD (args .lengths) place 0))
+    (leb most-admitted (args .admitted))
+    (sym (c .before .refusal .ensures) ∙ c .if2 .left))
+
 add-t16 : tie.Need-add-t16
-add-t16 c =
-    let else1 = c .before .before .before in
-    record { fits = omega (arith, else1 .before .pre .1 (granted refl (else1 .if1 .left))) }
+add-t16 c = record { fits = omega (arith, count-left c) }
+
+cast-t17 : tie.Need-cast-t17
+cast-t17 c = record { fits = omega (arith, count-left c) }
 
 returns-3 : tie.Need-returns-3
 returns-3 c =
@@ -72,4 +106,4 @@ returns-3 c =
 
 pub asked-spec : {M : Type 1} → statement M
 asked-spec =
-    tie.close (tie.spec returns station-of-requires refusal-requires returns-2 add-t16 returns-3)
+    tie.close (tie.spec returns station-of-requires refusal-requires returns-2 add-t16 cast-t17 returns-3)

@@ -119,10 +119,8 @@ is-due-requires c κs = search needs
 
 asked-requires : tie.Need-asked-requires Inv-loop2 μ-loop2 Inv-loop μ-loop
 asked-requires c κs =
-    let t = c .before .before .before .before .before .before .before in (
-      λ e. subst (λ b. Sound b (s t)) e (sound! t) .few,
-      λ e. omega (arith, subst (λ b. Sound b (s t)) e (sound! t) .stands .admitted-in),
-    )
+    let t = c .before .before .before .before .before .before .before in
+    λ e. subst (λ b. Sound b (s t)) e (sound! t) .few
 
 of-arrival-requires : tie.Need-of-arrival-requires Inv-loop2 μ-loop2 Inv-loop μ-loop
 of-arrival-requires c κs = search needs
@@ -196,17 +194,20 @@ mul-queues c = let h = taken! c .in-row in search needs
 element-write-queues : tie.Need-element-write-queues Inv-loop2 μ-loop2 Inv-loop μ-loop
 element-write-queues c = taken! c .in-row
 
+cast-g : tie.Need-cast-g Inv-loop2 μ-loop2 Inv-loop μ-loop
+cast-g c = search needs
+
 loop-less-2 : tie.Need-loop-less-2 Inv-loop2 μ-loop2 Inv-loop μ-loop
-loop-less-2 c = let h = turned (c .before .before .before .before .before .before .before .before .before .before .before .before) .0 in search needs
+loop-less-2 c = let h = turned (c .before .before .before .before .before .before .before .before .before .before .before .before .before) .0 in search needs
 
 loop-again-2 : tie.Need-loop-again-2 Inv-loop2 μ-loop2 Inv-loop μ-loop
 loop-again-2 c =
-    let told = c .before .before .before .before in
+    let told = c .before .before .before .before .before in
     let t = the-turn told in
     let o = told .asked .result in
-    by-arrival t (came-due told) (record { answer = o .answer; state = joinedAt (s t) (o .place) (o .answer .number) (a t .value) (a t .length) }) (taken! c .is)
-    (c .before .before .of-arrival .result)
-    (c .before .before .of-arrival .ensures)
+    by-arrival t (came-due told) (record { answer = o .answer; state = joinedAt (s t) (o .place) (o .answer .number) (a t .value) (a t .length) }) (taken! (c .before) .is)
+    (c .before .before .before .of-arrival .result)
+    (c .before .before .before .of-arrival .ensures)
 
 -- ---- a step
 
@@ -498,8 +499,8 @@ mul-p c = let h = here! (c .before .before .before) in search needs
 element-copy-out-p : tie.Need-element-copy-out-p Inv-loop2 μ-loop2 Inv-loop μ-loop
 element-copy-out-p c = let h = here! (c .before .before .before) in search needs
 
-mul-t100 : tie.Need-mul-t100 Inv-loop2 μ-loop2 Inv-loop μ-loop
-mul-t100 c = let h = here! (c .before .before .before .before) in search needs
+mul-t101 : tie.Need-mul-t101 Inv-loop2 μ-loop2 Inv-loop μ-loop
+mul-t101 c = let h = here! (c .before .before .before .before) in search needs
 
 element-set-from-queues : tie.Need-element-set-from-queues Inv-loop2 μ-loop2 Inv-loop μ-loop
 element-set-from-queues c = let h = here! (c .before .before .before .before) in search needs
@@ -616,6 +617,7 @@ calls-spec =
     add-queues
     mul-queues
     element-write-queues
+    cast-g
     loop-less-2
     loop-again-2
     step-refusal-requires
@@ -651,7 +653,7 @@ calls-spec =
     add-at-2
     mul-p
     element-copy-out-p
-    mul-t100
+    mul-t101
     element-set-from-queues
     add-free
     mul-p-2
