@@ -13,7 +13,7 @@ use Rattle.scenario.specs.Reading.{accepted, reading}
 use Rattle.scenario.specs.Writing.{Bytes, written, Good}
 use Rattle.listing.specs.Run.{listing, answersOf}
 use Rattle.listing.specs.Turns.{Play, opened, turn, roomWith, handed, turnsLeft, played}
-use Rattle.listing.specs.Worked.{worked-input, worked-output, worked-request, worked-arrivals, timed-input, timed-output}
+use Rattle.listing.specs.Worked.{worked-input, worked-output, worked-request, worked-arrivals, timed-input, timed-output, waited-input, waited-output}
 use Rattle.listing.proofs.Stores as Stores
 use Rattle.listing.proofs.Handed as Handed
 use Rattle.listing.proofs.NeverRefused as NeverRefused
@@ -56,3 +56,7 @@ worked-good = Worked.worked-good
 -- an example whose arrivals come later
 pub timed : listing timed-input ≡ timed-output
 timed = Worked.timed
+
+-- and so of one that is admitted after its time: its wait is counted from the admission (P1)
+pub waited : listing waited-input ≡ waited-output
+waited = Worked.waited

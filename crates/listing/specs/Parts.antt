@@ -7,7 +7,7 @@ use Rattle.state.specs.declared.Arrival.{Arrival}
 use Rattle.bus.specs.declared.Arrivals.{Arrivals}
 use Rattle.bus.specs.Stretch.{row-places, noArrival}
 use Rattle.listing.specs.Turns.{Turn, Outcome, room-bytes}
-use Rattle.listing.specs.Text.{space, decimal, fields, phaseLetter, eventLetter, winnerFields}
+use Rattle.listing.specs.Text.{space, decimal, fields, phaseLetter, eventLetter, winnerOf, winnerFields}
 use lib.ListN.{length, replicate}
 use lib.Seq.{sets}
 use Rattle.rules.specs.Probe.{Answer}
@@ -34,9 +34,9 @@ openingText a =
     ((decimal (a .slot) ++ (space ∷ phaseLetter (a .phase) ∷ [])) ++ fields (a .start ∷ a .size ∷ []))
     ++ (space ∷ eventLetter (a .event) ∷ [])
 
--- 'S with address, packet number, length'
+-- what follows 'S'
 abbrev pub winnerText : Answer → List ℕ
-winnerText a = winnerFields (a .event) (a .address ∷ a .number ∷ a .length ∷ [])
+winnerText a = winnerFields (a .event) (winnerOf a)
 
 -- a turn with this play and text, which stands at the start of the room
 pub record TurnTold (before after : List ℕ) (t : Turn) (o : Outcome) : Type 0 where

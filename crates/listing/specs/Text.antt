@@ -77,7 +77,10 @@ phaseLetter phase = cond (eqb phase 0) 80 84
 abbrev pub eventLetter : ℕ → ℕ
 eventLetter event = cond (eqb event 0) 73 (cond (eqb event 1) 67 83)
 
--- 'S with address, packet number, length'
+-- 'S with address, packet number, length', and P1: 'prints the wait as a fourth number after S'
+abbrev pub winnerOf : Answer → List ℕ
+winnerOf a = a .address ∷ a .number ∷ a .length ∷ a .wait ∷ []
+
 abbrev pub winnerFields : ℕ → List ℕ → List ℕ
 winnerFields event winner = cond (ltb event 2) [] (fields winner)
 
@@ -97,5 +100,5 @@ abbrev pub probedText : Answer → List ℕ
 probedText a =
     cond
     (eqb (a .refusal) 0)
-    (probeText (a .slot) (a .phase) (a .start) (a .size) (a .event) (a .address ∷ a .number ∷ a .length ∷ []))
+    (probeText (a .slot) (a .phase) (a .start) (a .size) (a .event) (winnerOf a))
     []

@@ -1,5 +1,5 @@
--- The worked example of paper 01, 'The scenario and its listing': the bytes of its input and of its output, and
--- what it asks for; and a second example, whose arrivals come later. Assumes nothing.
+-- The worked example of paper 01, 'The scenario and its listing': the bytes of its input and of its output, with P1's waits, and
+-- what it asks for; a second example, whose arrivals come later; and a third, with an arrival that is admitted after its time. Assumes nothing.
 use Prim.Native.Nat.{ℕ}
 use mathlib.Core.List.{List, [], _∷_}
 use Rattle.rules.specs.SetUp.{Request}
@@ -43,18 +43,18 @@ worked-output =
     53 ∷ 32 ∷ 84 ∷ 32 ∷ 48 ∷ 32 ∷ 52 ∷ 32 ∷ 73 ∷ 10 ∷
     -- 6 T 4 4 C
     54 ∷ 32 ∷ 84 ∷ 32 ∷ 52 ∷ 32 ∷ 52 ∷ 32 ∷ 67 ∷ 10 ∷
-    -- 7 T 4 2 S 5 1 3
-    55 ∷ 32 ∷ 84 ∷ 32 ∷ 52 ∷ 32 ∷ 50 ∷ 32 ∷ 83 ∷ 32 ∷ 53 ∷ 32 ∷ 49 ∷ 32 ∷ 51 ∷ 10 ∷
+    -- 7 T 4 2 S 5 1 3 7
+    55 ∷ 32 ∷ 84 ∷ 32 ∷ 52 ∷ 32 ∷ 50 ∷ 32 ∷ 83 ∷ 32 ∷ 53 ∷ 32 ∷ 49 ∷ 32 ∷ 51 ∷ 32 ∷ 55 ∷ 10 ∷
     -- 10 P 0 4 C
     49 ∷ 48 ∷ 32 ∷ 80 ∷ 32 ∷ 48 ∷ 32 ∷ 52 ∷ 32 ∷ 67 ∷ 10 ∷
     -- 11 P 0 2 I
     49 ∷ 49 ∷ 32 ∷ 80 ∷ 32 ∷ 48 ∷ 32 ∷ 50 ∷ 32 ∷ 73 ∷ 10 ∷
     -- 12 P 2 2 C
     49 ∷ 50 ∷ 32 ∷ 80 ∷ 32 ∷ 50 ∷ 32 ∷ 50 ∷ 32 ∷ 67 ∷ 10 ∷
-    -- 13 P 2 1 S 6 2 1
-    49 ∷ 51 ∷ 32 ∷ 80 ∷ 32 ∷ 50 ∷ 32 ∷ 49 ∷ 32 ∷ 83 ∷ 32 ∷ 54 ∷ 32 ∷ 50 ∷ 32 ∷ 49 ∷ 10 ∷
-    -- 14 P 0 4 S 1 3 2
-    49 ∷ 52 ∷ 32 ∷ 80 ∷ 32 ∷ 48 ∷ 32 ∷ 52 ∷ 32 ∷ 83 ∷ 32 ∷ 49 ∷ 32 ∷ 51 ∷ 32 ∷ 50 ∷ 10 ∷
+    -- 13 P 2 1 S 6 2 1 13
+    49 ∷ 51 ∷ 32 ∷ 80 ∷ 32 ∷ 50 ∷ 32 ∷ 49 ∷ 32 ∷ 83 ∷ 32 ∷ 54 ∷ 32 ∷ 50 ∷ 32 ∷ 49 ∷ 32 ∷ 49 ∷ 51 ∷ 10 ∷
+    -- 14 P 0 4 S 1 3 2 14
+    49 ∷ 52 ∷ 32 ∷ 80 ∷ 32 ∷ 48 ∷ 32 ∷ 52 ∷ 32 ∷ 83 ∷ 32 ∷ 49 ∷ 32 ∷ 51 ∷ 32 ∷ 50 ∷ 32 ∷ 49 ∷ 52 ∷ 10 ∷
     -- 16 P 0 4 I
     49 ∷ 54 ∷ 32 ∷ 80 ∷ 32 ∷ 48 ∷ 32 ∷ 52 ∷ 32 ∷ 73 ∷ 10 ∷
     -- END 17 3 3 0 0
@@ -103,10 +103,36 @@ timed-output =
     48 ∷ 32 ∷ 80 ∷ 32 ∷ 48 ∷ 32 ∷ 50 ∷ 32 ∷ 73 ∷ 10 ∷
     -- R 1 1 11
     82 ∷ 32 ∷ 49 ∷ 32 ∷ 49 ∷ 32 ∷ 49 ∷ 49 ∷ 10 ∷
-    -- 1 P 0 2 S 0 1 1
-    49 ∷ 32 ∷ 80 ∷ 32 ∷ 48 ∷ 32 ∷ 50 ∷ 32 ∷ 83 ∷ 32 ∷ 48 ∷ 32 ∷ 49 ∷ 32 ∷ 49 ∷ 10 ∷
+    -- 1 P 0 2 S 0 1 1 0
+    49 ∷ 32 ∷ 80 ∷ 32 ∷ 48 ∷ 32 ∷ 50 ∷ 32 ∷ 83 ∷ 32 ∷ 48 ∷ 32 ∷ 49 ∷ 32 ∷ 49 ∷ 32 ∷ 48 ∷ 10 ∷
     -- 2 P 0 2 I
     50 ∷ 32 ∷ 80 ∷ 32 ∷ 48 ∷ 32 ∷ 50 ∷ 32 ∷ 73 ∷ 10 ∷
     -- END 3 1 1 0 0
     69 ∷ 78 ∷ 68 ∷ 32 ∷ 51 ∷ 32 ∷ 49 ∷ 32 ∷ 49 ∷ 32 ∷ 48 ∷ 32 ∷ 48 ∷ 10 ∷
+    []
+
+-- The wait is counted from the admission and not from the arrival's time: the second arrival, with time 1, is admitted at slot 10, as the packet
+-- of 10 slots ends, and wins at once.
+abbrev pub waited-input : List ℕ
+waited-input =
+    -- a set-up: discipline 0 (PRI), D 2, A 2, q 1, N 1
+    14 ∷ 0 ∷ 1 ∷ 0 ∷ 0 ∷ 2 ∷ 0 ∷ 0 ∷ 0 ∷ 2 ∷ 0 ∷ 0 ∷ 0 ∷ 1 ∷ 0 ∷ 1 ∷
+    -- a station: address 0, capability 0
+    6 ∷ 0 ∷ 2 ∷ 0 ∷ 0 ∷ 0 ∷ 0 ∷ 0 ∷
+    -- an arrival: time 0, address 0, value 0, packet length 10
+    14 ∷ 0 ∷ 3 ∷ 0 ∷ 0 ∷ 0 ∷ 0 ∷ 0 ∷ 0 ∷ 0 ∷ 0 ∷ 0 ∷ 0 ∷ 0 ∷ 10 ∷ 0 ∷
+    -- an arrival: time 1, address 0, value 0, packet length 1
+    14 ∷ 0 ∷ 3 ∷ 0 ∷ 1 ∷ 0 ∷ 0 ∷ 0 ∷ 0 ∷ 0 ∷ 0 ∷ 0 ∷ 0 ∷ 0 ∷ 1 ∷ 0 ∷
+    -- a run: 2 steps
+    4 ∷ 0 ∷ 4 ∷ 0 ∷ 2 ∷ 0 ∷
+    []
+
+abbrev pub waited-output : List ℕ
+waited-output =
+    -- 0 P 0 2 S 0 1 10 0
+    48 ∷ 32 ∷ 80 ∷ 32 ∷ 48 ∷ 32 ∷ 50 ∷ 32 ∷ 83 ∷ 32 ∷ 48 ∷ 32 ∷ 49 ∷ 32 ∷ 49 ∷ 48 ∷ 32 ∷ 48 ∷ 10 ∷
+    -- 10 P 0 2 S 0 2 1 0
+    49 ∷ 48 ∷ 32 ∷ 80 ∷ 32 ∷ 48 ∷ 32 ∷ 50 ∷ 32 ∷ 83 ∷ 32 ∷ 48 ∷ 32 ∷ 50 ∷ 32 ∷ 49 ∷ 32 ∷ 48 ∷ 10 ∷
+    -- END 11 2 2 0 0
+    69 ∷ 78 ∷ 68 ∷ 32 ∷ 49 ∷ 49 ∷ 32 ∷ 50 ∷ 32 ∷ 50 ∷ 32 ∷ 48 ∷ 32 ∷ 48 ∷ 10 ∷
     []

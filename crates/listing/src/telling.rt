@@ -187,23 +187,24 @@ fn opening(room: &mut [u8; 65536], at: usize, answer: Answer) -> usize
     letter(room, size, event_letter(answer.event))
 }
 
-// 'S with address, packet number, length'
+// 'S with address, packet number, length', and the wait 'as a fourth number after S'
 fn winner(room: &mut [u8; 65536], at: usize, answer: Answer) -> usize
-    requires { ⌜ roomy at 43 ⌝ }
-    ensures { λ r. ⌜ Told (now (room .entry)) (now (room .exit)) at r (winnerText (answerOf answer)) 43 ⌝ }
+    requires { ⌜ roomy at 44 ⌝ }
+    ensures { λ r. ⌜ Told (now (room .entry)) (now (room .exit)) at r (winnerText (answerOf answer)) 44 ⌝ }
 {
     if answer.event < 2 {
         return at;
     }
     let address = short_field(room, at, answer.address.0);
-    let number = field(room, address, answer.number);
-    short_field(room, number, answer.length)
+    let number = short_field(room, address, answer.number);
+    let length = short_field(room, number, answer.length);
+    short_field(room, length, answer.wait)
 }
 
 // The line of a probe; a refused step has none.
 fn probed(room: &mut [u8; 65536], at: usize, answer: Answer) -> usize
-    requires { ⌜ roomy at 100 ⌝ }
-    ensures { λ r. ⌜ Told (now (room .entry)) (now (room .exit)) at r (probedText (answerOf answer)) 100 ⌝ }
+    requires { ⌜ roomy at 101 ⌝ }
+    ensures { λ r. ⌜ Told (now (room .entry)) (now (room .exit)) at r (probedText (answerOf answer)) 101 ⌝ }
 {
     if answer.refusal != 0 {
         return at;

@@ -9,7 +9,7 @@ use Rattle.listing.proofs.telling.probed.Tie as tie
 returns : tie.Need-returns
 returns c =
     let refusal = c .before .before .args .answer .refusal in
-    rw (ne-eqb refusal 0 (c .if1 .taken)) (told-none _ _ 100)
+    rw (ne-eqb refusal 0 (c .if1 .taken)) (told-none _ _ 101)
 
 opening-requires : tie.Need-opening-requires
 opening-requires c κs = search needs
