@@ -36,14 +36,16 @@ fn admission(s: State, address: u64, value: u64, length: u64) -> State {
     let station = Address(words::low(address));
     let r = bus::admit(s, station, words::low(value), words::low(length));
     let a = r.answer;
-    let numbers = [a.refusal as u64, a.number];
+    let numbers = [a.refusal as u64, a.number as u64];
     lines::write(b"A", &numbers);
     r.state
 }
 
-// 'S refusal drops slot phase start size event address number length ended'
+// 'S refusal drops slot phase start size event address number length wait ended'
 fn answer(a: Answer) {
+    let number = a.number as u64;
     let length = a.length as u64;
+    let wait = a.wait as u64;
     let ended = lines::of_flag(a.ended);
     let numbers = [
         a.refusal as u64,
@@ -54,8 +56,9 @@ fn answer(a: Answer) {
         a.size,
         a.event as u64,
         a.address.0 as u64,
-        a.number,
+        number,
         length,
+        wait,
         ended,
     ];
     lines::write(b"S", &numbers);

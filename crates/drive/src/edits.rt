@@ -58,13 +58,15 @@ pub fn edited(s: State, field: u64, index: u64, value: u64) -> State {
         19 => g.contention.tie = value,
         20 => g.contenders[i].contends = flag,
         21 => g.contenders[i].parameter = value,
-        22 => g.contenders[i].packet.number = value,
+        22 => g.contenders[i].packet.number = half,
         23 => g.contenders[i].packet.value = half,
         24 => g.contenders[i].packet.length = half,
         25 => q.lengths[i] = value as usize,
-        26 => q.packets[j].number = value,
+        26 => q.packets[j].number = half,
         27 => q.packets[j].value = half,
         28 => q.packets[j].length = half,
+        29 => g.contenders[i].packet.admission.0 = half,
+        30 => q.packets[j].admission.0 = half,
         _ => {}
     }
     State {

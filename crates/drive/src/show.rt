@@ -72,7 +72,7 @@ fn stations(row: [Listed; 64]) {
     }
 }
 
-// 'contender i contends parameter number value length'
+// 'contender i contends parameter number value length admission'
 fn contender(i: usize, c: Contender) {
     let contends = lines::of_flag(c.contends);
     let p = c.packet;
@@ -80,9 +80,10 @@ fn contender(i: usize, c: Contender) {
         i as u64,
         contends,
         c.parameter,
-        p.number,
+        p.number as u64,
         p.value as u64,
         p.length as u64,
+        p.admission.0 as u64,
     ];
     lines::write_place(b"contender", &numbers);
 }
@@ -107,9 +108,15 @@ fn lengths(row: [usize; 64]) {
     }
 }
 
-// 'packet j number value length'
+// 'packet j number value length admission'
 fn packet(j: usize, p: Packet) {
-    let numbers = [j as u64, p.number, p.value as u64, p.length as u64];
+    let numbers = [
+        j as u64,
+        p.number as u64,
+        p.value as u64,
+        p.length as u64,
+        p.admission.0 as u64,
+    ];
     lines::write_place(b"packet", &numbers);
 }
 

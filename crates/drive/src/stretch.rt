@@ -2,11 +2,14 @@
 use crate::lines;
 use bus::Report;
 
-// 'call i admission clock address refusal number refusal drops slot phase start size event address number length ended'
+// 'call i admission clock address refusal number refusal drops slot phase start size event address number length wait ended'
 fn report(i: usize, r: Report) {
     let admitted = r.admitted;
     let a = r.answer;
+    let answered = admitted.number as u64;
+    let number = a.number as u64;
     let length = a.length as u64;
+    let wait = a.wait as u64;
     let ended = lines::of_flag(a.ended);
     let numbers = [
         i as u64,
@@ -14,7 +17,7 @@ fn report(i: usize, r: Report) {
         r.clock.0 as u64,
         r.address.0 as u64,
         admitted.refusal as u64,
-        admitted.number,
+        answered,
         a.refusal as u64,
         a.drops,
         a.slot.0 as u64,
@@ -23,8 +26,9 @@ fn report(i: usize, r: Report) {
         a.size,
         a.event as u64,
         a.address.0 as u64,
-        a.number,
+        number,
         length,
+        wait,
         ended,
     ];
     lines::write_place(b"call", &numbers);

@@ -49,7 +49,7 @@ pub fn admitted(text: &[u8], s: State, address: u32, value: u32, length: u32) {
     let a = r.answer;
     label(text);
     number(a.refusal);
-    word(a.number);
+    number(a.number);
     newline();
 }
 
@@ -66,8 +66,9 @@ pub fn stepped(text: &[u8], s: State) {
     word(a.size);
     number(a.event);
     number(a.address.0);
-    word(a.number);
+    number(a.number);
     number(a.length);
+    number(a.wait);
     if a.ended {
         word(1);
     } else {

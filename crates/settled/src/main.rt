@@ -58,11 +58,25 @@ fn full_addresses() {
     lines::stepped(b"7 wins", segments::step(fourth));
 }
 
+// P1: 'at one PRI station, arrivals (time 0, length 10) and (time 1, length 1): the second is admitted at slot 10 and its wait is 0'; had it
+// been admitted with the first, its wait would be 10. An admission slot above the clock gives 1.
+fn waits() {
+    let s = segments::admit(segments::pri(), 5, 2, 10);
+    let after = segments::step(s);
+    let later = segments::admit(after, 5, 2, 1);
+    lines::stepped(b"admitted at slot 10, sent in it", later);
+    let both = segments::admit(s, 5, 2, 1);
+    lines::stepped(b"admitted at slot 0, sent in slot 10", segments::step(both));
+    lines::lent(b"0, admission slot 10 at clock 10", later);
+    lines::lent(b"1, admission slot 10 at clock 9", edits::with_clock(later, 9));
+}
+
 fn main() {
     clock_end();
     lengths();
     seventeenth();
     latest_start();
     full_addresses();
+    waits();
     refusals::each();
 }
