@@ -58,8 +58,8 @@ fn full_addresses() {
     lines::stepped(b"7 wins", segments::step(fourth));
 }
 
-// P1: 'at one PRI station, arrivals (time 0, length 10) and (time 1, length 1): the second is admitted at slot 10 and its wait is 0'; had it
-// been admitted with the first, its wait would be 10. An admission slot above the clock gives 1.
+// P1: the wait is counted from the admission slot. Of two packets of a station the second is admitted at slot 10, once the first has been
+// sent, and its wait is 0; admitted with the first, its wait is 10. 'admission slot not above the clock'.
 fn waits() {
     let s = segments::admit(segments::pri(), 5, 2, 10);
     let after = segments::step(s);
