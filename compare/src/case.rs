@@ -85,7 +85,7 @@ fn are_answers(answers: &[Option<String>], text: &str) -> bool {
 
 /// The answers of an admission, a step, the two of a stretch and the closing numbers that are refused with 1.
 fn all_refused(clock: &str, address: u64) -> String {
-    let zeros = "0 0 0 0 0 0 0 0 0 0";
+    let zeros = "0 0 0 0 0 0 0 0 0 0 0";
     let calls = format!("call 0 1 {clock} {address} 1 0 0 {zeros}\ncall 1 0 {clock} 0 0 0 1 {zeros}\n");
     format!("A 1 0\nS 1 {zeros}\n{calls}R 2 1 0\nT 1 0 0 0 0 0\n")
 }

@@ -7,7 +7,7 @@ use crate::state::{
 };
 
 /// Admits a packet into any lent state; the packet's number is the answer.
-pub fn admit(state: &mut State, address: u32, value: u32, length: u32) -> Result<u64, Refusal> {
+pub fn admit(state: &mut State, address: u32, value: u32, length: u32) -> Result<u32, Refusal> {
     if !stands(state) {
         return Err(Refusal::LentState);
     }
@@ -20,7 +20,7 @@ pub(crate) fn admit_standing(
     address: u32,
     value: u32,
     length: u32,
-) -> Result<u64, Refusal> {
+) -> Result<u32, Refusal> {
     let Some(place) = station_with(state, address) else {
         return Err(Refusal::NoStation);
     };
@@ -62,15 +62,18 @@ pub(crate) fn length_in_range(length: u32) -> bool {
     (1..=LONGEST).contains(&length)
 }
 
-/// "An accepted packet is numbered 1, 2, 3 and so on".
-fn join_queue(state: &mut State, place: usize, value: u32, length: u32) -> u64 {
+/// "An accepted packet is numbered 1, 2, 3 and so on", and keeps "its admission slot".
+fn join_queue(state: &mut State, place: usize, value: u32, length: u32) -> u32 {
     let end = state.queue_length(place);
     state.admitted += 1;
-    let number = state.admitted;
+    // 32 bits hold it: no more than 4,294,967,295 are admitted.
+    let number = state.admitted as u32;
+    let admission = state.clock;
     state.places_mut(place)[end] = Packet {
         number,
         value,
         length,
+        admission,
     };
     state.waiting[place] += 1;
     number

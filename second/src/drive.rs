@@ -4,6 +4,7 @@ use std::io::Write;
 
 use crate::admission::admit;
 use crate::lines::Lines;
+use crate::refusal::Refusal;
 use crate::set_up::set_up;
 use crate::state::{Contender, Packet, Settings, Side, State, Station, PLACES, STATIONS};
 use crate::step::{step, Answer, Event};
@@ -22,10 +23,10 @@ const CALLS: usize = 512;
 const ARRIVALS: usize = 64;
 
 /// The numbers of a report after its place.
-type Report = [u64; 16];
+type Report = [u64; 17];
 
 /// "what it does not have is zero".
-const ZERO_REPORT: Report = [0; 16];
+const ZERO_REPORT: Report = [0; 17];
 
 /// Plays a whole script; "At the script's end the state is written once more".
 pub fn drive<W: Write>(script: &[u8], lines: &mut Lines<W>) {
@@ -151,7 +152,7 @@ fn play_admission<W: Write>(state: &mut State, script: &mut Script, lines: &mut 
 /// Admits; "the two numbers of an `A` line".
 fn admission_numbers(state: &mut State, address: u32, value: u32, length: u32) -> [u64; 2] {
     match admit(state, address, value, length) {
-        Ok(number) => [0, number],
+        Ok(number) => [0, u64::from(number)],
         Err(refusal) => [u64::from(refusal.number()), 0],
     }
 }
@@ -161,25 +162,24 @@ fn play_step<W: Write>(state: &mut State, lines: &mut Lines<W>) {
     lines.word("S").numbers(&step_numbers(state)).close();
 }
 
-/// Steps; "the eleven numbers of an `S` line", "zero in the answer's other fields" for a refusal.
-fn step_numbers(state: &mut State) -> [u64; 11] {
+/// Steps; "the twelve numbers of an `S` line", "zero in the answer's other fields" for a refusal.
+fn step_numbers(state: &mut State) -> [u64; 12] {
     match step(state) {
         Ok(answer) => answer_numbers(&answer),
-        Err(refusal) => [u64::from(refusal.number()), 0, 0, 0, 0, 0, 0, 0, 0, 0, 0],
+        Err(refusal) => refused_numbers(refusal),
     }
 }
 
+/// The number of a refused step, and zeros.
+fn refused_numbers(refusal: Refusal) -> [u64; 12] {
+    let mut numbers = [0; 12];
+    numbers[0] = u64::from(refusal.number());
+    numbers
+}
+
 /// The fields of a step that was not refused.
-fn answer_numbers(answer: &Answer) -> [u64; 11] {
-    let (event, address, number, length) = match answer.event {
-        Event::Idle => (0, 0, 0, 0),
-        Event::Collision => (1, 0, 0, 0),
-        Event::Success {
-            address,
-            number,
-            length,
-        } => (2, u64::from(address), number, u64::from(length)),
-    };
+fn answer_numbers(answer: &Answer) -> [u64; 12] {
+    let [event, address, number, length, wait] = event_numbers(&answer.event);
     [
         0,
         answer.drops,
@@ -191,8 +191,23 @@ fn answer_numbers(answer: &Answer) -> [u64; 11] {
         address,
         number,
         length,
+        wait,
         u64::from(answer.ended),
     ]
+}
+
+/// "event 0 idle, 1 collision, 2 success"; address, packet number, length and wait "on success, else 0".
+fn event_numbers(event: &Event) -> [u64; 5] {
+    match *event {
+        Event::Idle => [0, 0, 0, 0, 0],
+        Event::Collision => [1, 0, 0, 0, 0],
+        Event::Success {
+            address,
+            number,
+            length,
+            wait,
+        } => [2, address, number, length, wait].map(u64::from),
+    }
 }
 
 /// An arrival of a stretch.
@@ -288,7 +303,7 @@ fn admission_report(state: &mut State, arrival: &Arrival) -> Report {
     report
 }
 
-/// "the clock before the call", and "of a step the eleven numbers of an `S` line".
+/// "the clock before the call", and "of a step the twelve numbers of an `S` line".
 fn step_report(state: &mut State) -> Report {
     let mut report = ZERO_REPORT;
     report[1] = u64::from(state.clock);
@@ -324,11 +339,11 @@ fn play_change(state: &mut State, script: &mut Script) {
         7 => state.stations[place].capability = value as u32,
         8..=13 => change_counts(state, field, value),
         14..=19 => change_contention(state, field, value),
-        20..=24 => change_contender(&mut state.contenders[place], field, value),
+        20..=24 | 29 => change_contender(&mut state.contenders[place], field, value),
         25 => state.waiting[place] = value,
-        26..=28 => {
+        26..=28 | 30 => {
             let packet = &mut state.packets[(index % PLACES as u64) as usize];
-            change_packet(packet, field - 26, value);
+            change_packet(packet, field, value as u32);
         }
         _ => {}
     }
@@ -370,21 +385,23 @@ fn change_contention(state: &mut State, field: u64, value: u64) {
     }
 }
 
-/// Fields 20 to 24.
+/// Fields 20 to 24, and 29.
 fn change_contender(contender: &mut Contender, field: u64, value: u64) {
     match field {
         20 => contender.contends = yes(value),
         21 => contender.parameter = value,
-        _ => change_packet(&mut contender.packet, field - 22, value),
+        _ => change_packet(&mut contender.packet, field, value as u32),
     }
 }
 
-/// A packet's number, value or length.
-fn change_packet(packet: &mut Packet, field: u64, value: u64) {
+/// Number, value, length and admission slot: 22, 23, 24 and 29 of an offered packet, 26, 27, 28 and 30
+/// of a queued one.
+fn change_packet(packet: &mut Packet, field: u64, value: u32) {
     match field {
-        0 => packet.number = value,
-        1 => packet.value = value as u32,
-        _ => packet.length = value as u32,
+        22 | 26 => packet.number = value,
+        23 | 27 => packet.value = value,
+        24 | 28 => packet.length = value,
+        _ => packet.admission = value,
     }
 }
 
@@ -410,10 +427,7 @@ fn write_state<W: Write>(state: &State, lines: &mut Lines<W>) {
         write_place("station", place, &fields, lines);
     }
     for (place, contender) in state.contenders.iter().enumerate() {
-        let [number, value, length] = packet_fields(&contender.packet);
-        let contends = u64::from(contender.contends);
-        let fields = [contends, contender.parameter, number, value, length];
-        write_place("contender", place, &fields, lines);
+        write_place("contender", place, &contender_fields(contender), lines);
     }
     for (place, &waiting) in state.waiting.iter().enumerate() {
         write_place("queue", place, &[waiting], lines);
@@ -457,12 +471,23 @@ fn write_single_fields<W: Write>(state: &State, lines: &mut Lines<W>) {
         .close();
 }
 
-fn packet_fields(packet: &Packet) -> [u64; 3] {
+/// "contender i contends parameter number value length admission".
+fn contender_fields(contender: &Contender) -> [u64; 6] {
+    let [number, value, length, admission] = packet_fields(&contender.packet);
+    let contends = u64::from(contender.contends);
     [
-        packet.number,
-        u64::from(packet.value),
-        u64::from(packet.length),
+        contends,
+        contender.parameter,
+        number,
+        value,
+        length,
+        admission,
     ]
+}
+
+/// "packet j number value length admission".
+fn packet_fields(packet: &Packet) -> [u64; 4] {
+    [packet.number, packet.value, packet.length, packet.admission].map(u64::from)
 }
 
 /// A line "for each place ... where not all of its numbers after the place are zero".

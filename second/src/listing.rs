@@ -83,7 +83,7 @@ fn list_answer<W: Write>(answer: &Answer, lines: &mut Lines<W>) {
     lines.close();
 }
 
-/// "event I, C, or S with address, packet number, length".
+/// "event I, C, or S with address, packet number, length", and "the wait as a fourth number after S".
 fn list_event<W: Write>(event: &Event, lines: &mut Lines<W>) {
     match *event {
         Event::Idle => lines.word("I"),
@@ -92,11 +92,13 @@ fn list_event<W: Write>(event: &Event, lines: &mut Lines<W>) {
             address,
             number,
             length,
+            wait,
         } => lines
             .word("S")
             .number(address)
             .number(number)
-            .number(length),
+            .number(length)
+            .number(wait),
     };
 }
 

@@ -38,7 +38,7 @@ fn queues_stand(state: &State) -> bool {
     (0..state.listed()).all(|place| queue_stands(state, place))
 }
 
-/// "at most 16 packets, numbers ... rising, ... values and lengths in range", and zero "past a queue's end".
+/// "at most 16 packets, numbers ... rising", each packet by itself, and zero "past a queue's end".
 fn queue_stands(state: &State, place: usize) -> bool {
     if state.waiting[place] > QUEUE_PLACES as u64 {
         return false;
@@ -49,16 +49,18 @@ fn queue_stands(state: &State, place: usize) -> bool {
         && past_end.iter().all(|packet| *packet == Packet::ZERO)
 }
 
-/// "numbers from 1 to the admitted count", "values and lengths in range".
+/// "numbers from 1 to the admitted count", "values and lengths in range", "admission slot not above the
+/// clock".
 fn packet_stands(state: &State, packet: &Packet) -> bool {
-    (1..=state.admitted).contains(&packet.number)
+    (1..=state.admitted).contains(&u64::from(packet.number))
         && value_in_range(&state.settings, packet.value)
         && length_in_range(packet.length)
+        && packet.admission <= state.clock
 }
 
 /// "none twice over all queues", for queues that stand by themselves.
 fn none_twice(state: &State) -> bool {
-    let mut numbers = [0u64; PLACES];
+    let mut numbers = [0u32; PLACES];
     let mut taken = 0;
     for place in 0..state.listed() {
         for packet in state.queue(place) {
@@ -121,7 +123,8 @@ fn contenders_stand(state: &State) -> bool {
     (0..state.listed()).all(|place| contender_stands(state, place))
 }
 
-/// Who contends does so in a contention; who does not has no parameter and no packet.
+/// Who contends does so in a contention, with a packet that is wholly one of its queue; who does not has
+/// no parameter and no packet.
 fn contender_stands(state: &State, place: usize) -> bool {
     let contender = &state.contenders[place];
     if !contender.contends {

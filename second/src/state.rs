@@ -39,9 +39,12 @@ pub struct Station {
 
 #[derive(Clone, Copy, Debug, PartialEq, Eq)]
 pub struct Packet {
-    pub number: u64,
+    /// "at most 4,294,967,295", so 32 bits hold it.
+    pub number: u32,
     pub value: u32,
     pub length: u32,
+    /// "Keep with each packet its admission slot": the clock as it was admitted.
+    pub admission: u32,
 }
 
 /// What is recorded of one station for the contention under way.
@@ -118,6 +121,7 @@ impl Packet {
         number: 0,
         value: 0,
         length: 0,
+        admission: 0,
     };
 }
 

@@ -15,8 +15,10 @@ pub enum Event {
     Collision,
     Success {
         address: u32,
-        number: u64,
+        number: u32,
         length: u32,
+        /// The slots from the packet's admission slot to this probe.
+        wait: u32,
     },
 }
 
@@ -182,6 +184,7 @@ fn in_window(state: &State, place: usize, contender: &Contender) -> bool {
 /// "That packet leaves its queue and is counted sent ... the clock moves on by its length."
 fn success(state: &mut State, place: usize) -> Event {
     let packet = state.contenders[place].packet;
+    let wait = waited(&packet, state.clock);
     leave_queue(state, place, packet.number);
     state.sent += 1;
     state.clock += packet.length;
@@ -194,11 +197,17 @@ fn success(state: &mut State, place: usize) -> Event {
         address: state.stations[place].address,
         number: packet.number,
         length: packet.length,
+        wait,
     }
 }
 
+/// "the number of slots from there to the probe that won"; no admission slot is above the clock.
+fn waited(packet: &Packet, probed: u32) -> u32 {
+    probed - packet.admission
+}
+
 /// Takes one packet out of a queue; the later ones close up.
-fn leave_queue(state: &mut State, place: usize, number: u64) {
+fn leave_queue(state: &mut State, place: usize, number: u32) {
     let Some(at) = state.queue(place).iter().position(|p| p.number == number) else {
         return;
     };

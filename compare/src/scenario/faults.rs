@@ -115,7 +115,9 @@ pub fn sizes() -> Vec<Case> {
         line("no step", run(0, 0), "END 0 0 0 0 0"),
         line("one step", run(1, 0), "END 1 0 0 0 0"),
         line("arrivals due at the end", run(2, 3), "END 3 1 1 0 0"),
-        line("300 packets", each_slot(300, 300).bytes(), "299 P 0 8 S 263 300 1"),
+        line("300 packets", each_slot(300, 300).bytes(), "299 P 0 8 S 263 300 1 0"),
+        line("a packet that waits past slot 65,536", long_wait(), "65552 P 0 8 S 299 17 1 65552"),
+        line("a packet admitted after its time", after_its_time(), "4096 P 0 8 S 263 2 1 0"),
         refused("time falls at the 100th", each_slot(100, 50).bytes(), 21, offset(&each_slot(100, 50).records(), 103)),
         line("a refused arrival at slot 65,536", late_arrival(), "R 65536 263 12"),
         line("65,535 steps", run(u16::MAX, 0), "END 65535 0 0 0 0"),
@@ -134,6 +136,19 @@ fn late_arrival() -> Vec<u8> {
     let long = Arrival { length: 4_096, ..plain(PRI).arrivals[0] };
     let arrivals = [vec![long; 16], vec![Arrival { time: 65_536, value: 5, ..long }]].concat();
     Scenario { arrivals, ..plain(PRI) }.bytes()
+}
+
+/// Sixteen packets of 4,096 slots each, and one that is less urgent, all at once; each of the sixteen takes a collision more.
+fn long_wait() -> Vec<u8> {
+    let long = Arrival { value: 3, length: 4_096, ..plain(PRI).arrivals[0] };
+    let waits = Arrival { time: 0, address: 299, value: 4, length: 1 };
+    Scenario { arrivals: [vec![long; 16], vec![waits]].concat(), ..plain(PRI) }.bytes()
+}
+
+/// A packet of 4,096 slots, and one whose time comes while it is sent.
+fn after_its_time() -> Vec<u8> {
+    let long = Arrival { length: 4_096, ..plain(PRI).arrivals[0] };
+    Scenario { arrivals: vec![long, Arrival { time: 1, length: 1, ..long }], ..plain(PRI) }.bytes()
 }
 
 /// 64 circuits of which one is at fault: its address or capability is past its space, or that of an earlier one.

@@ -1,6 +1,6 @@
 //! Seeded scripts, for what no table foresees. A class is a line; the classes go in rotation.
 
-use super::lent::{Lent, CLOCK, DISCIPLINE, LENGTH, PHASES};
+use super::lent::{Lent, ADMISSION, CLOCK, DISCIPLINE, PHASES};
 use super::text::{set_up_of, Admission, Script};
 use crate::case::{Case, Shows};
 use crate::records::{Scenario, LAST_NUMBER, LAST_SLOT, LAST_STEP};
@@ -99,7 +99,7 @@ fn lent(numbers: &mut Numbers, script: &mut Script) {
 fn edited(numbers: &mut Numbers, script: &mut Script) {
     let lent = drawn_state(numbers, script);
     for _ in 0..3 {
-        let field = numbers.between((DISCIPLINE, LENGTH));
+        let field = numbers.between((DISCIPLINE, ADMISSION));
         let place = numbers.pick(&lent.spots(field));
         let values: Vec<u64> = lent.tried(field, place).into_iter().collect();
         script.edit(field, place, numbers.pick(&values));

@@ -19,14 +19,15 @@ mod field {
     pub const TIE_VALUE: u64 = 19; pub const CONTENDS: u64 = 20; pub const PARAMETER: u64 = 21;
     pub const OFFERED_NUMBER: u64 = 22; pub const OFFERED_VALUE: u64 = 23; pub const OFFERED_LENGTH: u64 = 24;
     pub const QUEUE: u64 = 25; pub const NUMBER: u64 = 26; pub const VALUE: u64 = 27; pub const LENGTH: u64 = 28;
+    pub const OFFERED_ADMISSION: u64 = 29; pub const ADMISSION: u64 = 30;
 }
 pub use field::*;
 
 /// How many of a field a state has.
 pub fn places(field: u64) -> usize {
     match field {
-        ADDRESS | CAPABILITY | CONTENDS..=QUEUE => STATIONS,
-        NUMBER..=LENGTH => STATIONS * QUEUE_PLACES,
+        ADDRESS | CAPABILITY | CONTENDS..=QUEUE | OFFERED_ADMISSION => STATIONS,
+        NUMBER..=LENGTH | ADMISSION => STATIONS * QUEUE_PLACES,
         _ => 1,
     }
 }
@@ -35,7 +36,7 @@ pub fn places(field: u64) -> usize {
 pub fn bits(field: u64) -> u32 {
     match field {
         WON | BEGUN | SIDE | TIED | CONTENDS => 1,
-        LISTED | ADMITTED | SENT | LOST | START | SIZE | TIE_VALUE | PARAMETER | OFFERED_NUMBER | QUEUE | NUMBER => 64,
+        LISTED | ADMITTED | SENT | LOST | START | SIZE | TIE_VALUE | PARAMETER | QUEUE => 64,
         _ => 32,
     }
 }
@@ -127,8 +128,16 @@ impl Lent {
             self.set(QUEUE, station, &[length]);
             for (place, number) in (QUEUE_PLACES * station..).zip(own) {
                 self.set(NUMBER, place, &[number + 1, self.value(numbers), numbers.pick(&[1, 1, 2, 5, 4_096])]);
+                self.set(ADMISSION, place, &[self.slot(numbers)]);
             }
         }
+    }
+
+    /// A slot that a packet may have been admitted in: the first, the present one, or any up to it.
+    fn slot(&self, numbers: &mut Numbers) -> u64 {
+        let clock = self.one(CLOCK);
+        let any = numbers.between((0, clock));
+        numbers.pick(&[0, 0, clock, any])
     }
 
     /// A value that a packet may have. In RTDG it is near the clock, on either side.
@@ -147,13 +156,14 @@ impl Lent {
             return;
         }
         let place = filled.start + numbers.place(filled.len());
-        let [number, value, length] = [NUMBER, VALUE, LENGTH].map(|field| self.get(field, place));
+        let [number, value, length, slot] = [NUMBER, VALUE, LENGTH, ADMISSION].map(|field| self.get(field, place));
         let parameter = match self.one(DISCIPLINE) as u8 {
             PRI => value,
             RTVC => self.get(CAPABILITY, station),
             _ => numbers.pick(&[0, 1, space - 1, station as u64 / 2 % space]),
         };
         self.set(CONTENDS, station, &[1, parameter, number, value, length]);
+        self.set(OFFERED_ADMISSION, station, &[slot]);
     }
 
     /// A window that stands, often one that a contender is in, and in a tie often that contender's parameter.
@@ -216,6 +226,7 @@ impl Lent {
             OFFERED_NUMBER | NUMBER => others(NUMBER, self.filled(0)).chain([(1, admitted)]).collect(),
             OFFERED_VALUE | VALUE => vec![(0, parameters - 1), (self.one(CLOCK), LAST_SLOT.into())],
             OFFERED_LENGTH | LENGTH => vec![(1, LONGEST_PACKET.into())],
+            OFFERED_ADMISSION | ADMISSION => others(ADMISSION, self.filled(0)).chain([(0, self.one(CLOCK))]).collect(),
             QUEUE => vec![(0, QUEUE_PLACES as u64)],
             _ => Vec::new(),
         };

@@ -1,9 +1,11 @@
 //! Made-up histories and lent states: accepted calls keep the conditions, refused ones the state.
 
+use std::collections::BTreeMap;
+
 use second::admission::admit;
 use second::standing::stands;
 use second::state::{first_window, State};
-use second::step::step;
+use second::step::{step, Event};
 use second::totals::totals;
 
 use crate::worlds::{fresh, played};
@@ -61,13 +63,15 @@ fn histories_stand_and_count_right() {
     for history in 0..300 {
         let mut state = made_up(&mut numbers, history % 3);
         let (mut sent, mut lost, mut probes) = (0, 0, 0);
+        let mut slots = BTreeMap::new();
         for _ in 0..120 {
             if numbers.below(3) > 0 {
                 let address = numbers.below(9) as u32;
                 let value = value(&mut numbers, &state);
                 let lent = state.clone();
-                if admit(&mut state, address, value, 1 + numbers.below(6) as u32).is_err() {
-                    assert!(state == lent);
+                match admit(&mut state, address, value, 1 + numbers.below(6) as u32) {
+                    Ok(number) => drop(slots.insert(number, lent.clock)),
+                    Err(_) => assert!(state == lent),
                 }
             } else {
                 let answer = step(&mut state).expect("accepted");
@@ -77,6 +81,9 @@ fn histories_stand_and_count_right() {
                 assert!(probes <= most_probes(&state));
                 if answer.ended {
                     probes = 0;
+                }
+                if let Event::Success { number, wait, .. } = answer.event {
+                    assert_eq!(Some(answer.slot - wait), slots.remove(&number));
                 }
             }
             assert!(stands(&state));
@@ -118,7 +125,7 @@ fn scripts_of_any_content_are_played() {
                 2 => script += "A 1 50 2 ",
                 3 => script += "R 9 3 2 0 1 50 2 12 2 60 1 ",
                 _ => {
-                    let field = 1 + numbers.below(28);
+                    let field = 1 + numbers.below(30);
                     let index = numbers.below(4);
                     let value = values[numbers.below(values.len() as u64) as usize];
                     script += &format!("E {field} {index} {value} S ");

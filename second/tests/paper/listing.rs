@@ -55,8 +55,32 @@ fn a_newcomer_does_not_join_midway() {
         run_record(5),
     ]
     .concat();
-    let expected = "0 P 0 4 C\n1 P 0 2 I\n2 P 2 2 C\n3 P 2 1 S 1 1 1\n4 P 0 4 C\nEND 5 3 1 0 2\n";
+    let expected = "0 P 0 4 C\n1 P 0 2 I\n2 P 2 2 C\n3 P 2 1 S 1 1 1 3\n4 P 0 4 C\nEND 5 3 1 0 2\n";
     assert_eq!(listing_of(&input), expected);
+}
+
+/// One PRI station, its arrivals of priority 0 by time and length, and as many steps.
+fn one_station(arrivals: &[(u32, u16)]) -> String {
+    let arrivals = arrivals
+        .iter()
+        .map(|&(time, length)| arrival_record(time, 1, 0, length));
+    let records = [set_up_record(0, 4, 8, 1, 1), station_record(1, 0)];
+    let run = run_record(arrivals.len() as u16);
+    let input: Vec<u8> = records
+        .into_iter()
+        .chain(arrivals)
+        .chain([run])
+        .flatten()
+        .collect();
+    listing_of(&input)
+}
+
+#[test]
+fn the_wait_is_from_the_admission_and_not_from_the_arrivals_time() {
+    let expected = "0 P 0 4 S 1 1 10 0\n10 P 0 4 S 1 2 1 0\nEND 11 2 2 0 0\n";
+    assert_eq!(one_station(&[(0, 10), (1, 1)]), expected);
+    let expected = "0 P 0 4 S 1 1 10 0\n10 P 0 4 S 1 2 1 10\nEND 11 2 2 0 0\n";
+    assert_eq!(one_station(&[(0, 10), (0, 1)]), expected);
 }
 
 #[test]

@@ -11,7 +11,7 @@ fn the_empty_script() {
 #[test]
 fn calls_on_a_zero_state() {
     let expected =
-        format!("A 1 0\nS 1 0 0 0 0 0 0 0 0 0 0\nT 1 0 0 0 0 0\n{WRITTEN_ZERO}{WRITTEN_ZERO}");
+        format!("A 1 0\nS 1 0 0 0 0 0 0 0 0 0 0 0\nT 1 0 0 0 0 0\n{WRITTEN_ZERO}{WRITTEN_ZERO}");
     assert_eq!(played("A 1 2 3 S T P"), expected);
 }
 
@@ -23,14 +23,14 @@ U 0 0
 A 0 1
 A 0 2
 A 0 3
-S 0 0 0 0 0 4 1 0 0 0 0
-S 0 0 1 0 0 2 0 0 0 0 0
-S 0 0 2 0 2 2 1 0 0 0 0
-S 0 0 3 0 2 1 1 0 0 0 0
-S 0 0 4 1 0 8 1 0 0 0 0
-S 0 0 5 1 0 4 0 0 0 0 0
-S 0 0 6 1 4 4 1 0 0 0 0
-S 0 0 7 1 4 2 2 5 1 3 1
+S 0 0 0 0 0 4 1 0 0 0 0 0
+S 0 0 1 0 0 2 0 0 0 0 0 0
+S 0 0 2 0 2 2 1 0 0 0 0 0
+S 0 0 3 0 2 1 1 0 0 0 0 0
+S 0 0 4 1 0 8 1 0 0 0 0 0
+S 0 0 5 1 0 4 0 0 0 0 0 0
+S 0 0 6 1 4 4 1 0 0 0 0 0
+S 0 0 7 1 4 2 2 5 1 3 7 1
 T 0 10 3 1 0 2
 settings 0 4 8 1 3
 clock 10
@@ -42,8 +42,8 @@ station 1 5 0
 station 2 6 0
 queue 0 1
 queue 2 1
-packet 0 3 3 2
-packet 32 2 2 1
+packet 0 3 3 2 0
+packet 32 2 2 1 0
 end
 ";
     assert_eq!(played(script), expected);
@@ -101,20 +101,22 @@ fn every_field() {
         ("E 17 9 4294967303", "contention 0 0 0 1 0 0"),
         ("E 18 9 4294967303", "contention 0 0 0 0 1 0"),
         ("E 19 9 4294967303", "contention 0 0 0 0 0 4294967303"),
-        ("E 20 65 4294967303", "contender 1 1 0 0 0 0"),
-        ("E 21 65 4294967303", "contender 1 0 4294967303 0 0 0"),
-        ("E 22 65 4294967303", "contender 1 0 0 4294967303 0 0"),
-        ("E 23 65 4294967303", "contender 1 0 0 0 7 0"),
-        ("E 24 65 4294967303", "contender 1 0 0 0 0 7"),
+        ("E 20 65 4294967303", "contender 1 1 0 0 0 0 0"),
+        ("E 21 65 4294967303", "contender 1 0 4294967303 0 0 0 0"),
+        ("E 22 65 4294967303", "contender 1 0 0 7 0 0 0"),
+        ("E 23 65 4294967303", "contender 1 0 0 0 7 0 0"),
+        ("E 24 65 4294967303", "contender 1 0 0 0 0 7 0"),
         ("E 25 65 4294967303", "queue 1 4294967303"),
-        ("E 26 1025 4294967303", "packet 1 4294967303 0 0"),
-        ("E 27 1025 4294967303", "packet 1 0 7 0"),
-        ("E 28 1025 4294967303", "packet 1 0 0 7"),
+        ("E 26 1025 4294967303", "packet 1 7 0 0 0"),
+        ("E 27 1025 4294967303", "packet 1 0 7 0 0"),
+        ("E 28 1025 4294967303", "packet 1 0 0 7 0"),
+        ("E 29 65 4294967303", "contender 1 0 0 0 0 0 7"),
+        ("E 30 1025 4294967303", "packet 1 0 0 0 7"),
     ];
     for (change, line) in expected {
         assert_eq!(changed(change), [line], "{change}");
     }
-    for change in ["E 0 1 1", "E 29 1 1", "E 18446744073709551615 1 1"] {
+    for change in ["E 0 1 1", "E 31 1 1", "E 18446744073709551615 1 1"] {
         assert!(changed(change).is_empty());
     }
 }

@@ -48,6 +48,14 @@ fn between() -> State {
     state
 }
 
+/// The same at slot 70,000, its last packet admitted in that slot.
+fn later() -> State {
+    let mut state = between();
+    state.clock = 70_000;
+    state.packets[18].admission = 70_000;
+    state
+}
+
 /// PRI in the parameter phase at the left half 0 to 1 of the first window.
 fn in_parameter_phase() -> State {
     let mut state = between();
@@ -167,9 +175,24 @@ fn queues() {
             |s| s.packets[16].value = 4,
             |s| s.packets[16].length = 0,
             |s| s.packets[16].length = 4_097,
+            |s| s.packets[16].admission = 1,
+            |s| s.packets[18].admission = 1,
+            |s| s.packets[33].admission = u32::MAX,
         ],
     );
     breaks(&in_laxities(), &[|s| s.packets[0].value = 1_073_741_825]);
+    keeps(
+        &later(),
+        &[|s| s.clock = 1_073_741_824, |s| s.packets[18].admission = 0],
+    );
+    breaks(
+        &later(),
+        &[
+            |s| s.clock = 69_999,
+            |s| s.packets[17].admission = 70_001,
+            |s| s.packets[17].admission = 131_072,
+        ],
+    );
     breaks(&in_round(), &[|s| s.packets[32].value = 1]);
 }
 
@@ -232,6 +255,8 @@ fn contenders() {
         &[
             |s| s.contenders[1].packet.number = 2,
             |s| s.contenders[1].packet.length = 1,
+            |s| s.contenders[1].packet.admission = 1,
+            |s| s.packets[16].admission = 1,
             |s| s.contenders[1].packet = s.contenders[2].packet,
             |s| s.contenders[1].parameter = 3,
             |s| s.contenders[0].contends = true,
@@ -261,6 +286,7 @@ fn what_has_no_meaning() {
                     number: 6,
                     value: 0,
                     length: 1,
+                    admission: 0,
                 };
             },
             |s| s.packets[1_023].length = 1,
@@ -278,7 +304,20 @@ fn what_has_no_meaning() {
     );
     breaks(
         &in_parameter_phase(),
-        &[|s| s.contenders[3].contends = true],
+        &[
+            |s| s.contenders[3].contends = true,
+            |s| s.contenders[0].packet.admission = 1,
+            |s| s.contenders[3].packet.admission = 1,
+        ],
+    );
+    breaks(
+        &later(),
+        &[
+            |s| s.packets[19].admission = 1,
+            |s| s.packets[0].admission = 70_000,
+            |s| s.packets[1_023].admission = 1,
+            |s| s.contenders[1].packet.admission = 70_000,
+        ],
     );
 }
 
@@ -291,6 +330,14 @@ fn what_is_not_named_is_accepted() {
             |s| {
                 s.contenders[1].packet = s.packets[17];
                 s.contenders[1].parameter = 3;
+            },
+            |s| {
+                s.packets[17].admission = 4;
+                s.packets[18].admission = 3;
+            },
+            |s| {
+                s.contenders[1].packet.admission = 4;
+                s.packets[16].admission = 4;
             },
         ],
     );

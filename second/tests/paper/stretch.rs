@@ -16,12 +16,12 @@ fn answers(script: &str) -> String {
 
 /// The line of a call that was an admission at slot 0.
 fn admission(place: u32, address: u32, refusal: u32, number: u32) -> String {
-    format!("call {place} 1 0 {address} {refusal} {number} 0 0 0 0 0 0 0 0 0 0 0\n")
+    format!("call {place} 1 0 {address} {refusal} {number} 0 0 0 0 0 0 0 0 0 0 0 0\n")
 }
 
 /// The line of a call that was a step of `ONE` with nothing queued.
 fn idle(place: u32, slot: u32) -> String {
-    format!("call {place} 0 {slot} 0 0 0 0 0 {slot} 0 0 4 0 0 0 0 1\n")
+    format!("call {place} 0 {slot} 0 0 0 0 0 {slot} 0 0 4 0 0 0 0 0 1\n")
 }
 
 #[test]
@@ -29,23 +29,23 @@ fn it_ends_by_its_steps() {
     let script = "U 0 4 8 1 3 3 3 1 0 5 0 6 0 R 14 3 3 0 5 2 3 0 6 2 1 0 1 3 2";
     let expected = "\
 U 0 0
-call 0 1 0 5 0 1 0 0 0 0 0 0 0 0 0 0 0
-call 1 1 0 6 0 2 0 0 0 0 0 0 0 0 0 0 0
-call 2 1 0 1 0 3 0 0 0 0 0 0 0 0 0 0 0
-call 3 0 0 0 0 0 0 0 0 0 0 4 1 0 0 0 0
-call 4 0 1 0 0 0 0 0 1 0 0 2 0 0 0 0 0
-call 5 0 2 0 0 0 0 0 2 0 2 2 1 0 0 0 0
-call 6 0 3 0 0 0 0 0 3 0 2 1 1 0 0 0 0
-call 7 0 4 0 0 0 0 0 4 1 0 8 1 0 0 0 0
-call 8 0 5 0 0 0 0 0 5 1 0 4 0 0 0 0 0
-call 9 0 6 0 0 0 0 0 6 1 4 4 1 0 0 0 0
-call 10 0 7 0 0 0 0 0 7 1 4 2 2 5 1 3 1
-call 11 0 10 0 0 0 0 0 10 0 0 4 1 0 0 0 0
-call 12 0 11 0 0 0 0 0 11 0 0 2 0 0 0 0 0
-call 13 0 12 0 0 0 0 0 12 0 2 2 1 0 0 0 0
-call 14 0 13 0 0 0 0 0 13 0 2 1 2 6 2 1 1
-call 15 0 14 0 0 0 0 0 14 0 0 4 2 1 3 2 1
-call 16 0 16 0 0 0 0 0 16 0 0 4 0 0 0 0 1
+call 0 1 0 5 0 1 0 0 0 0 0 0 0 0 0 0 0 0
+call 1 1 0 6 0 2 0 0 0 0 0 0 0 0 0 0 0 0
+call 2 1 0 1 0 3 0 0 0 0 0 0 0 0 0 0 0 0
+call 3 0 0 0 0 0 0 0 0 0 0 4 1 0 0 0 0 0
+call 4 0 1 0 0 0 0 0 1 0 0 2 0 0 0 0 0 0
+call 5 0 2 0 0 0 0 0 2 0 2 2 1 0 0 0 0 0
+call 6 0 3 0 0 0 0 0 3 0 2 1 1 0 0 0 0 0
+call 7 0 4 0 0 0 0 0 4 1 0 8 1 0 0 0 0 0
+call 8 0 5 0 0 0 0 0 5 1 0 4 0 0 0 0 0 0
+call 9 0 6 0 0 0 0 0 6 1 4 4 1 0 0 0 0 0
+call 10 0 7 0 0 0 0 0 7 1 4 2 2 5 1 3 7 1
+call 11 0 10 0 0 0 0 0 10 0 0 4 1 0 0 0 0 0
+call 12 0 11 0 0 0 0 0 11 0 0 2 0 0 0 0 0 0
+call 13 0 12 0 0 0 0 0 12 0 2 2 1 0 0 0 0 0
+call 14 0 13 0 0 0 0 0 13 0 2 1 2 6 2 1 13 1
+call 15 0 14 0 0 0 0 0 14 0 0 4 2 1 3 2 14 1
+call 16 0 16 0 0 0 0 0 16 0 0 4 0 0 0 0 0 1
 R 17 3 0
 settings 0 4 8 1 3
 clock 17
@@ -73,12 +73,12 @@ fn arrivals_come_later() {
     let script = "U 0 4 8 1 2 2 2 1 0 2 0 R 4 3 3 2 1 3 2 3 2 0 1 9 1 0 1";
     let expected = "\
 U 0 0
-call 0 0 0 0 0 0 0 0 0 0 0 4 0 0 0 0 1
-call 1 0 1 0 0 0 0 0 1 0 0 4 0 0 0 0 1
-call 2 1 2 1 0 1 0 0 0 0 0 0 0 0 0 0 0
-call 3 0 2 0 0 0 0 0 2 0 0 4 2 1 1 2 1
-call 4 1 4 2 0 2 0 0 0 0 0 0 0 0 0 0 0
-call 5 0 4 0 0 0 0 0 4 0 0 4 2 2 2 1 1
+call 0 0 0 0 0 0 0 0 0 0 0 4 0 0 0 0 0 1
+call 1 0 1 0 0 0 0 0 1 0 0 4 0 0 0 0 0 1
+call 2 1 2 1 0 1 0 0 0 0 0 0 0 0 0 0 0 0
+call 3 0 2 0 0 0 0 0 2 0 0 4 2 1 1 2 0 1
+call 4 1 4 2 0 2 0 0 0 0 0 0 0 0 0 0 0 0
+call 5 0 4 0 0 0 0 0 4 0 0 4 2 2 2 1 0 1
 R 6 2 0
 settings 0 4 8 1 2
 clock 5
@@ -103,15 +103,15 @@ fn a_contention_goes_on_in_the_next_stretch() {
     let script = "U 0 4 8 1 3 3 3 1 0 2 0 3 0 R 1 2 2 0 1 2 1 0 2 3 1 R 4 1 1 1 3 0 1";
     let expected = "\
 U 0 0
-call 0 1 0 1 0 1 0 0 0 0 0 0 0 0 0 0 0
-call 1 1 0 2 0 2 0 0 0 0 0 0 0 0 0 0 0
-call 2 0 0 0 0 0 0 0 0 0 0 4 1 0 0 0 0
+call 0 1 0 1 0 1 0 0 0 0 0 0 0 0 0 0 0 0
+call 1 1 0 2 0 2 0 0 0 0 0 0 0 0 0 0 0 0
+call 2 0 0 0 0 0 0 0 0 0 0 4 1 0 0 0 0 0
 R 3 2 0
-call 0 1 1 3 0 3 0 0 0 0 0 0 0 0 0 0 0
-call 1 0 1 0 0 0 0 0 1 0 0 2 0 0 0 0 0
-call 2 0 2 0 0 0 0 0 2 0 2 2 1 0 0 0 0
-call 3 0 3 0 0 0 0 0 3 0 2 1 2 1 1 1 1
-call 4 0 4 0 0 0 0 0 4 0 0 4 1 0 0 0 0
+call 0 1 1 3 0 3 0 0 0 0 0 0 0 0 0 0 0 0
+call 1 0 1 0 0 0 0 0 1 0 0 2 0 0 0 0 0 0
+call 2 0 2 0 0 0 0 0 2 0 2 2 1 0 0 0 0 0
+call 3 0 3 0 0 0 0 0 3 0 2 1 2 1 1 1 3 1
+call 4 0 4 0 0 0 0 0 4 0 0 4 1 0 0 0 0 0
 R 5 1 0
 settings 0 4 8 1 3
 clock 5
@@ -121,12 +121,12 @@ contention 1 0 2 0 0 0
 station 0 1 0
 station 1 2 0
 station 2 3 0
-contender 1 1 3 2 3 1
-contender 2 1 0 3 0 1
+contender 1 1 3 2 3 1 0
+contender 2 1 0 3 0 1 1
 queue 1 1
 queue 2 1
-packet 16 2 3 1
-packet 32 3 0 1
+packet 16 2 3 1 0
+packet 32 3 0 1 1
 end
 ";
     assert_eq!(played(script), expected);
@@ -137,14 +137,14 @@ fn a_refused_arrival_is_taken() {
     let script = "U 1 2 8 1 2 2 2 1 0 2 0 R 4 5 5 0 1 0 1 0 2 1 1 0 3 1 1 3 1 2 1 99 1 200 1";
     let expected = "\
 U 0 0
-call 0 1 0 1 0 1 0 0 0 0 0 0 0 0 0 0 0
-call 1 1 0 2 0 2 0 0 0 0 0 0 0 0 0 0 0
-call 2 1 0 3 11 0 0 0 0 0 0 0 0 0 0 0 0
-call 3 0 0 0 0 0 0 0 0 0 0 2 1 0 0 0 0
-call 4 0 1 0 0 0 0 0 1 0 0 1 0 0 0 0 0
-call 5 0 2 0 0 0 0 0 2 0 1 1 0 0 0 0 1
-call 6 1 3 1 14 0 0 0 0 0 0 0 0 0 0 0 0
-call 7 0 3 0 0 0 0 2 3 0 0 2 0 0 0 0 1
+call 0 1 0 1 0 1 0 0 0 0 0 0 0 0 0 0 0 0
+call 1 1 0 2 0 2 0 0 0 0 0 0 0 0 0 0 0 0
+call 2 1 0 3 11 0 0 0 0 0 0 0 0 0 0 0 0 0
+call 3 0 0 0 0 0 0 0 0 0 0 2 1 0 0 0 0 0
+call 4 0 1 0 0 0 0 0 1 0 0 1 0 0 0 0 0 0
+call 5 0 2 0 0 0 0 0 2 0 1 1 0 0 0 0 0 1
+call 6 1 3 1 14 0 0 0 0 0 0 0 0 0 0 0 0 0
+call 7 0 3 0 0 0 0 2 3 0 0 2 0 0 0 0 0 1
 R 8 4 0
 settings 1 2 8 1 2
 clock 4
@@ -162,10 +162,10 @@ end
 fn places_past_k_are_zero_arrivals() {
     let expected = "\
 U 0 0
-call 0 1 0 1 0 1 0 0 0 0 0 0 0 0 0 0 0
-call 1 1 0 0 11 0 0 0 0 0 0 0 0 0 0 0 0
-call 2 1 0 0 11 0 0 0 0 0 0 0 0 0 0 0 0
-call 3 0 0 0 0 0 0 0 0 0 0 4 2 1 1 3 1
+call 0 1 0 1 0 1 0 0 0 0 0 0 0 0 0 0 0 0
+call 1 1 0 0 11 0 0 0 0 0 0 0 0 0 0 0 0 0
+call 2 1 0 0 11 0 0 0 0 0 0 0 0 0 0 0 0 0
+call 3 0 0 0 0 0 0 0 0 0 0 4 2 1 1 3 0 1
 R 4 3 0
 ";
     assert_eq!(answers(&format!("{ONE} R 1 3 1 0 1 2 3")), expected);
@@ -197,7 +197,7 @@ fn a_full_row_ends_it() {
     let expected = format!("U 0 0\n{}R 64 64 5\nT 0 0 64 0 0 64\n", admissions(64));
     assert_eq!(answers(&format!("{FOUR} R 5 64 64 {fours} T")), expected);
     assert_eq!(answers(&format!("{FOUR} R 5 99 99 {fours} T")), expected);
-    let collision = "call 63 0 0 0 0 0 0 0 0 0 0 4 1 0 0 0 0\n";
+    let collision = "call 63 0 0 0 0 0 0 0 0 0 0 4 1 0 0 0 0 0\n";
     let expected = format!("U 0 0\n{}{collision}R 64 63 0\n", admissions(63));
     assert_eq!(answers(&format!("{FOUR} R 1 63 64 {fours}")), expected);
 }
@@ -218,9 +218,9 @@ fn it_ends_after_512_calls() {
 #[test]
 fn a_state_that_does_not_stand() {
     let expected = "\
-call 0 1 0 7 1 0 0 0 0 0 0 0 0 0 0 0 0
-call 1 0 0 0 0 0 1 0 0 0 0 0 0 0 0 0 0
-call 2 0 0 0 0 0 1 0 0 0 0 0 0 0 0 0 0
+call 0 1 0 7 1 0 0 0 0 0 0 0 0 0 0 0 0 0
+call 1 0 0 0 0 0 1 0 0 0 0 0 0 0 0 0 0 0
+call 2 0 0 0 0 0 1 0 0 0 0 0 0 0 0 0 0 0
 R 3 1 0
 ";
     assert_eq!(
@@ -228,9 +228,9 @@ R 3 1 0
         format!("{expected}{WRITTEN_ZERO}")
     );
     let expected = "\
-call 0 1 4294967295 7 1 0 0 0 0 0 0 0 0 0 0 0 0
-call 1 1 4294967295 6 1 0 0 0 0 0 0 0 0 0 0 0 0
-call 2 0 4294967295 0 0 0 1 0 0 0 0 0 0 0 0 0 0
+call 0 1 4294967295 7 1 0 0 0 0 0 0 0 0 0 0 0 0 0
+call 1 1 4294967295 6 1 0 0 0 0 0 0 0 0 0 0 0 0 0
+call 2 0 4294967295 0 0 0 1 0 0 0 0 0 0 0 0 0 0 0
 R 3 2 0
 ";
     let state = WRITTEN_ZERO.replace("clock 0", "clock 4294967295");
@@ -239,7 +239,7 @@ R 3 2 0
         format!("{expected}{state}")
     );
     let refused: String = (0..512)
-        .map(|place| format!("call {place} 0 0 0 0 0 1 0 0 0 0 0 0 0 0 0 0\n"))
+        .map(|place| format!("call {place} 0 0 0 0 0 1 0 0 0 0 0 0 0 0 0 0 0\n"))
         .collect();
     assert_eq!(answers("R 600 0 0"), format!("{refused}R 512 0 88\n"));
 }
@@ -249,11 +249,11 @@ fn the_clock_at_its_end() {
     let script = format!("{ONE} E 8 0 1073737728 R 3 2 2 0 1 0 4096 1073741824 1 0 1");
     let expected = "\
 U 0 0
-call 0 1 1073737728 1 0 1 0 0 0 0 0 0 0 0 0 0 0
-call 1 0 1073737728 0 0 0 0 0 1073737728 0 0 4 2 1 1 4096 1
-call 2 1 1073741824 1 0 2 0 0 0 0 0 0 0 0 0 0 0
-call 3 0 1073741824 0 0 0 17 0 0 0 0 0 0 0 0 0 0
-call 4 0 1073741824 0 0 0 17 0 0 0 0 0 0 0 0 0 0
+call 0 1 1073737728 1 0 1 0 0 0 0 0 0 0 0 0 0 0 0
+call 1 0 1073737728 0 0 0 0 0 1073737728 0 0 4 2 1 1 4096 0 1
+call 2 1 1073741824 1 0 2 0 0 0 0 0 0 0 0 0 0 0 0
+call 3 0 1073741824 0 0 0 17 0 0 0 0 0 0 0 0 0 0 0
+call 4 0 1073741824 0 0 0 17 0 0 0 0 0 0 0 0 0 0 0
 R 5 2 0
 settings 0 4 8 1 1
 clock 1073741824
@@ -262,7 +262,7 @@ round 0 0
 contention 0 0 0 0 0 0
 station 0 1 0
 queue 0 1
-packet 0 2 0 1
+packet 0 2 0 1 1073741824
 end
 ";
     assert_eq!(played(&script), expected);
@@ -271,7 +271,7 @@ end
 #[test]
 fn numbers_of_a_stretch() {
     let reduced = "R 4294967297 1 1 4294967296 4294967297 4294967298 4294967299";
-    let success = "call 1 0 0 0 0 0 0 0 0 0 0 4 2 1 1 3 1\n";
+    let success = "call 1 0 0 0 0 0 0 0 0 0 0 4 2 1 1 3 0 1\n";
     let expected = format!("U 0 0\n{}{success}R 2 1 0\n", admission(0, 1, 0, 1));
     assert_eq!(answers(&format!("{ONE} {reduced}")), expected);
 
