@@ -234,7 +234,7 @@ QueuedAsAnswered =
 abbrev pub answers-with : ℕ → Admitted → Bool
 answers-with k a = eqb (a .refusal) 0 && eqb (a .number) k
 
--- the slots that all steps took before the admission that answered k; a refused call takes none
+-- the slots that all steps took before the admission that answered k, or before the end where none did; a refused call takes none
 abbrev pub slotsBefore : ℕ → List Reply → ℕ
 slotsBefore k [] = 0
 slotsBefore k (admitted a ∷ rs) = cond (answers-with k a) 0 (slotsBefore k rs)

@@ -142,8 +142,8 @@ firstStation =
 -- ---- waits
 
 -- an answer with another wait, where a packet was sent
-abbrev pub waiting : ℕ → Answer → Answer
-waiting n a =
+abbrev pub withWait : ℕ → Answer → Answer
+withWait n a =
     record {
       refusal = a .refusal;
       drops = a .drops;
@@ -161,7 +161,7 @@ waiting n a =
 
 -- counts the wait to the packet's end
 abbrev pub waitToTheEnd : Engine
-waitToTheEnd = probing λ o. (waiting (probe o .0 .wait + probe o .0 .length) (probe o .0), probe o .1)
+waitToTheEnd = probing λ o. (withWait (probe o .0 .wait + probe o .0 .length) (probe o .0), probe o .1)
 
 -- counts the wait from the contention's beginning; beside the bus it keeps the slot in which that began
 abbrev pub beginning : Bus → ℕ → Option Contention → ℕ
@@ -176,10 +176,10 @@ waitOfTheContention =
       admit = λ s a. (admit (s .0) a .0, (admit (s .0) a .1, s .1));
       step = λ s.
           let began = beginning (s .0) (s .1) (s .0 .contention) in
-          (waiting (step (s .0) .0 .slot - began) (step (s .0) .0), (step (s .0) .1, began));
+          (withWait (step (s .0) .0 .slot - began) (step (s .0) .0), (step (s .0) .1, began));
     }
 
 -- counts the wait from the arrival's time, where that is earlier than the admission: in a run whose k-th accepted arrival has the time that
 -- `times` gives for k
 abbrev pub waitFromTheArrival : (ℕ → ℕ) → Engine
-waitFromTheArrival times = probing λ o. (waiting (max (probe o .0 .wait) (probe o .0 .slot - times (probe o .0 .number))) (probe o .0), probe o .1)
+waitFromTheArrival times = probing λ o. (withWait (max (probe o .0 .wait) (probe o .0 .slot - times (probe o .0 .number))) (probe o .0), probe o .1)
