@@ -81,6 +81,7 @@ eventLetter event = cond (eqb event 0) 73 (cond (eqb event 1) 67 83)
 abbrev pub winnerOf : Answer → List ℕ
 winnerOf a = a .address ∷ a .number ∷ a .length ∷ a .wait ∷ []
 
+-- what follows the event: nothing unless it is a success
 abbrev pub winnerFields : ℕ → List ℕ → List ℕ
 winnerFields event winner = cond (ltb event 2) [] (fields winner)
 

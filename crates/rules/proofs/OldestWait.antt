@@ -2,7 +2,7 @@
 use Prim.Native.Nat.{ℕ, zero, suc, _+_, _≤_, _<_}
 use mathlib.Core.Path.{_≡_, refl, sym, ap, _∙_, subst}
 use mathlib.Core.Logic.{_⊎_, inl, inr}
-use mathlib.Core.Bool.{Bool, true, false, _&&_, cond}
+use mathlib.Core.Bool.{Bool, true, false, cond}
 use mathlib.Core.List.{List, [], _∷_}
 use native.Mathlib.Omega.{arith}
 use lib.Dec.{eqb}
@@ -14,7 +14,7 @@ use Rattle.rules.specs.Standing.{Standing}
 use Rattle.rules.specs.Probe.{Answer, refusedAnswer, Contender, Open, success, heard, probe}
 use Rattle.rules.specs.Step.{opened, stepRefusal, step}
 use Rattle.rules.specs.Engine.{Engine, machine, Call, admission, one-step, next, replies, reach, answers}
-use Rattle.rules.specs.Demands.{Demand2, slotsOf, slotsIn, adds-admitted, slotsBefore, transmittersAt, sends, upTo, CircuitWaits, OldestWaits, WaitOfTheOldest}
+use Rattle.rules.specs.Demands.{Demand2, slotsOf, slotsIn, adds-admitted, slotsBefore, transmittersAt, sends, upTo, OldestWaits, WaitOfTheOldest}
 use Rattle.rules.proofs.Laws.{clash, and-true, among-cases, among-none}
 use Rattle.rules.proofs.Reach.{standing-reached, answers-agree}
 use Rattle.rules.proofs.Counts.{call-rise, countsAreTrue}

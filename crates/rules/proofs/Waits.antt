@@ -3,13 +3,13 @@
 use Prim.Native.Nat.{ℕ, zero, suc, _+_, _-_, _≤_, _<_}
 use mathlib.Core.Path.{_≡_, refl, sym, ap, _∙_, subst, subst₂}
 use mathlib.Core.Logic.{_⊎_, inl, inr}
-use mathlib.Core.Bool.{Bool, true, false, not, _&&_, cond}
+use mathlib.Core.Bool.{Bool, true, false, not, cond}
 use mathlib.Core.Option.{Option, none, some}
 use mathlib.Core.List.{List, [], _∷_, map}
 use native.Mathlib.Omega.{arith}
 use lib.Dec.{eqb}
 use lib.ListN.{take}
-use borrow.Author.Tests.{eqb-true, ne-eqb, eq-eqb}
+use borrow.Author.Tests.{ne-eqb, eq-eqb}
 use Rattle.window.specs.declared.Side.{Side}
 use Rattle.window.specs.declared.Side.the-variants.{Left, Right}
 use Rattle.rules.specs.Lists.{keep, total, countUp, Among, at-head, in-tail, All, Some}
@@ -17,8 +17,8 @@ use Rattle.rules.specs.Bus.{Packet, Station, Contention, Bus, nothing}
 use Rattle.rules.specs.SetUp.{Asked, Request, setUpVerdict, freshStation, freshBus, setUp}
 use Rattle.rules.specs.Standing.{Standing}
 use Rattle.rules.specs.Admission.{Arrival, Admitted, named, newPacket, queued, joined, withPacket}
-use Rattle.rules.specs.Begin.{entered, begin}
-use Rattle.rules.specs.Probe.{Contender, transmitters, Answer, refusedAnswer, Open, success, left, withdrawn, unheard, heard, probe}
+use Rattle.rules.specs.Begin.{entered}
+use Rattle.rules.specs.Probe.{Contender, Answer, refusedAnswer, Open, success, left, withdrawn, unheard, heard, probe}
 use Rattle.rules.specs.Step.{openedBy, opened, stepRefusal, step}
 use Rattle.rules.specs.Engine.{Engine, machine, Call, Reply, admitted, stepped, reply, next, after, replies, reach}
 use Rattle.rules.specs.Demands.{Demand2, adds-admitted, numbersAnswered, slotsBefore, Waited, WaitsAreTrue, transmittersAt}

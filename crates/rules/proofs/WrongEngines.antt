@@ -1,7 +1,7 @@
 -- Demand 2 rules out each wrong engine of specs/WrongEngines.antt, by a script of calls to which its replies are not the machine's; demand 3
 -- rules out the one that names the first station, that numbers are answers the one that answers one too low, and that waits are true those
 -- that count them wrongly. Assumes nothing.
-use Prim.Native.Nat.{ℕ, suc, _+_, _-_}
+use Prim.Native.Nat.{ℕ, suc, _+_}
 use mathlib.Core.Path.{_≡_, refl, sym, ap, _∙_}
 use mathlib.Core.Option.{none}
 use mathlib.Core.List.{List, [], _∷_}
@@ -17,7 +17,7 @@ use Rattle.rules.specs.Probe.{Answer}
 use Rattle.rules.specs.Engine.{Engine, machine, Call, Reply, reach, stepsIn, answers}
 use Rattle.rules.specs.Demands.{Demand2, adds-lost, numbersAnswered, NumbersAreAnswers, WaitsAreTrue, Served, Demand3}
 use Rattle.rules.specs.Examples.{arrives, steps, listing, circuits, apart, admittedLater}
-use Rattle.rules.specs.WrongEngines.{refusesAll, refusesCalls, untouched, oneTooLow, alwaysIdle, madeUpDrops, madeUpSent, lowByte, madeUpProbes, firstStation, waitToTheEnd, waitOfTheContention, waitFromTheArrival}
+use Rattle.rules.specs.WrongEngines.{refusesAll, refusesCalls, untouched, oneTooLow, alwaysIdle, madeUpDrops, madeUpSent, lowByte, madeUpProbes, firstStation, waitToTheEnd, waitOfTheContention, waitFromTheArrival, arrivalTimes}
 use Rattle.rules.proofs.Laws.{clash, each-view}
 use Rattle.rules.proofs.Computing.{Brings, Same, number, bus, test, pair, computed, bus-same, test-same, number-same, pair-same, computed-replies}
 
@@ -122,9 +122,6 @@ waitOfTheContention-untrue holds =
     let z : _≡_ {A = ℕ} 1 0 = holds .succeeds listing (arrives 1 0 1 ∷ arrives 1 0 1 ∷ steps 1) refl .waited in omega arith
 
 -- of arrivals with times 0 and 1 and lengths 10 and 1 the second is admitted at slot 10, and has waited for no slot
-abbrev pub arrivalTimes : ℕ → ℕ
-arrivalTimes k = k - 1
-
 pub waitFromTheArrival-wrong : Demand2 (waitFromTheArrival arrivalTimes) → ⊥
 unfolding waits exponentOf isPower
 waitFromTheArrival-wrong demand =

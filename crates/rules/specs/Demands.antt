@@ -231,13 +231,13 @@ QueuedAsAnswered =
 -- ---- waits (P1)
 
 -- whether an admission was accepted and answered k
-abbrev pub answers-with : ℕ → Admitted → Bool
-answers-with k a = eqb (a .refusal) 0 && eqb (a .number) k
+abbrev pub admitted-as : ℕ → Admitted → Bool
+admitted-as k a = eqb (a .refusal) 0 && eqb (a .number) k
 
 -- the slots that all steps took before the admission that answered k, or before the end where none did; a refused call takes none
 abbrev pub slotsBefore : ℕ → List Reply → ℕ
 slotsBefore k [] = 0
-slotsBefore k (admitted a ∷ rs) = cond (answers-with k a) 0 (slotsBefore k rs)
+slotsBefore k (admitted a ∷ rs) = cond (admitted-as k a) 0 (slotsBefore k rs)
 slotsBefore k (stepped a ∷ rs) = slotsOf a + slotsBefore k rs
 
 -- What the replies `rs` since set-up tell of the success `a` that comes next: one of them answered its packet's number; the slot probed is the

@@ -163,11 +163,12 @@ withWait n a =
 abbrev pub waitToTheEnd : Engine
 waitToTheEnd = probing λ o. (withWait (probe o .0 .wait + probe o .0 .length) (probe o .0), probe o .1)
 
--- counts the wait from the contention's beginning; beside the bus it keeps the slot in which that began
+-- the slot in which the contention of the next step began, by the one in which the last one did
 abbrev pub beginning : Bus → ℕ → Option Contention → ℕ
 beginning b began none = b .clock
 beginning b began (some c) = began
 
+-- counts the wait from the contention's beginning; beside the bus it keeps the slot in which that began
 abbrev pub waitOfTheContention : Engine
 waitOfTheContention =
     record {
@@ -183,3 +184,7 @@ waitOfTheContention =
 -- `times` gives for k
 abbrev pub waitFromTheArrival : (ℕ → ℕ) → Engine
 waitFromTheArrival times = probing λ o. (withWait (max (probe o .0 .wait) (probe o .0 .slot - times (probe o .0 .number))) (probe o .0), probe o .1)
+
+-- the times of arrivals that come a slot after one another: 0 for packet 1, 1 for packet 2 and so on
+abbrev pub arrivalTimes : ℕ → ℕ
+arrivalTimes k = k - 1

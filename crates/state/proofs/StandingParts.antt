@@ -5,7 +5,7 @@ use mathlib.Core.Path.{_≡_, refl, sym, ap, ap₂, _∙_}
 use mathlib.Core.Bool.{Bool, true, false, not, _&&_, _||_, cond, and-true as and-last-true, and-false, and-assoc, and-comm}
 use mathlib.Core.Option.{none, some}
 use mathlib.Core.List.{List, [], _∷_, _++_, map, append-nil, append-assoc}
-use native.Mathlib.Nat.{zero-add, add-zero, sub-zero, suc-add, add-suc, min-eq-left, min-eq-right, mod-eq-of-lt}
+use native.Mathlib.Nat.{zero-add, add-zero, sub-zero, suc-add, add-suc, min-eq-left, min-eq-right}
 use native.Mathlib.Numerals.{add-one}
 use native.Mathlib.Omega.{arith}
 use mir.Val.{Val}
@@ -23,7 +23,7 @@ use Rattle.rules.specs.Standing.{packet-fits, rising, same-packet, parameter-fi
 use Rattle.rules.proofs.Laws.{clash, and-true, true-and}
 use Rattle.rules.proofs.Tests.{Whether, holds, fails}
 use Rattle.rules.proofs.Standing.{stands-exactly}
-use Rattle.state.specs.State.{Contender, Contention, Segment, Queues, State, Packet, Held, noContender, nobody, placesAt, queueAt, stationAt, stationsOf, valuesFrom, tieOf, meaning, no-packet, queue-padded, contender-padded, station-padded, no-station, each-place, round-padded, contention-padded, padded, standing, waitingIn}
+use Rattle.state.specs.State.{Contender, Contention, Segment, Queues, State, Held, noContender, nobody, placesAt, queueAt, stationAt, stationsOf, valuesFrom, tieOf, meaning, no-packet, queue-padded, contender-padded, station-padded, no-station, each-place, round-padded, contention-padded, padded, standing, waitingIn}
 use Rattle.state.specs.SetUp.{askedOf, requestWith}
 use Rattle.state.specs.Parts.{parameterFits, contenderSound, stationSound, nobodyAt, placeSound, numbersFrom, numbersSound, queuesSound, roundSound, contentionSound}
 use Rattle.state.proofs.State as state

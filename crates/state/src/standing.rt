@@ -18,7 +18,7 @@ use window::Side;
 use window::Window;
 ghost use Prim.Native.Nat.{_+_, _≤_, min};
 ghost use mathlib.Core.Path.{_≡_};
-ghost use mathlib.Core.Bool.{_&&_, cond};
+ghost use mathlib.Core.Bool.{cond};
 ghost use lib.Dec.{eqb, ltb};
 ghost use lib.ListN.{drop, take};
 ghost use Rattle.rules.specs.Lists.{each-of, some-of};

@@ -1,6 +1,5 @@
 -- `admit` meets its contract: it tries 1, then 11 to 16; a packet that is not refused joins its station's queue. Assumes nothing.
 use mathlib.Core.Path.{sym, _∙_}
-use native.Mathlib.Omega.{arith}
 use borrow.Author.Needs.{needs}
 use Rattle.state.proofs.Stands.{lent}
 use Rattle.state.proofs.StandingParts.{state-held}

@@ -68,7 +68,7 @@ returns-2 c = told (c .before) false (ne-eqb (c .before .refusal .result) 0 (c .
 
 -- where none of 11 to 16 is given, 16 is not
 none-given :
-    (t11 t12 t13 t14 t15 t16 : Bool) 
+    (t11 t12 t13 t14 t15 t16 : Bool)
     → _≡_ {A = ℕ} (firstOf 0 ((11, t11) ∷ (12, t12) ∷ (13, t13) ∷ (14, t14) ∷ (15, t15) ∷ (16, t16) ∷ [])) 0 → t16 ≡ false
 none-given true t12 t13 t14 t15 t16 e = absurd (omega arith)
 none-given false true t13 t14 t15 t16 e = absurd (omega arith)
