@@ -1,5 +1,5 @@
 -- How old a circuit's oldest packet can be when it wins: from demand 3, and from the waits that replies tell. Assumes nothing.
-use Prim.Native.Nat.{ℕ, zero, suc, _+_, _≤_, _<_}
+use Prim.Native.Nat.{ℕ, _+_, _≤_}
 use mathlib.Core.Path.{_≡_, refl, sym, ap, _∙_, subst}
 use mathlib.Core.Logic.{_⊎_, inl, inr}
 use mathlib.Core.Bool.{Bool, true, false, cond}
@@ -7,7 +7,7 @@ use mathlib.Core.List.{List, [], _∷_}
 use native.Mathlib.Omega.{arith}
 use lib.Dec.{eqb}
 use borrow.Author.Tests.{eqb-true}
-use Rattle.rules.specs.Lists.{total, countUp, Among, at-head, in-tail}
+use Rattle.rules.specs.Lists.{total, Among, at-head}
 use Rattle.rules.specs.Bus.{Packet, Station, Bus, nothing}
 use Rattle.rules.specs.SetUp.{Request, setUp}
 use Rattle.rules.specs.Standing.{Standing}
@@ -16,15 +16,12 @@ use Rattle.rules.specs.Step.{opened, stepRefusal, step}
 use Rattle.rules.specs.Engine.{Engine, machine, Call, admission, one-step, next, replies, reach, answers}
 use Rattle.rules.specs.Demands.{Demand2, slotsOf, slotsIn, adds-admitted, slotsBefore, transmittersAt, sends, upTo, OldestWaits, WaitOfTheOldest}
 use Rattle.rules.proofs.Laws.{clash, and-true, among-cases, among-none}
-use Rattle.rules.proofs.Reach.{standing-reached, answers-agree}
+use Rattle.rules.proofs.Reach.{standing-reached, demand2-machine, answers-agree}
 use Rattle.rules.proofs.Counts.{call-rise, countsAreTrue}
 use Rattle.rules.proofs.Numbering.{numbersAreAnswers}
 use Rattle.rules.proofs.Least.{silent-idle}
-use Rattle.rules.proofs.Waits.{Held, above-admitted, held-next, reached-since, success-names}
+use Rattle.rules.proofs.Waits.{Held, counted-in, above-admitted, held-next, reached-since, success-names}
 use Rattle.rules.proofs.Demand3.{soonerThanDemand3}
-
-meets : Demand2 machine
-meets = record { setUps = λ r. refl; calls = λ r calls. refl }
 
 -- a step in which a packet was sent took the packet's slots
 sent-slots : (b : Bus) → step b .0 .event ≡ success → slotsOf (step b .0) ≡ step b .0 .length
@@ -95,19 +92,13 @@ module _ (s : Station) (p : Packet) where
           let h = more j says in
           record { waited = h .waited; ended = omega (arith, h .ended, call-rise b one-step .in-clock) }
 
--- numbers counted from n on, m of them, are below n + m
-below-end : {k : ℕ} (n m : ℕ) → Among k (countUp n m) → k < n + m
-below-end n zero i = absurd (among-none i)
-below-end n (suc m) (at-head e) = omega arith
-below-end n (suc m) (in-tail i) = omega (arith, below-end (suc n) m i)
-
 -- a packet that waits after any calls is known
 known-reached : (s : Station) (p : Packet) (r : Request) (calls : List Call) → Held p (reach machine r calls .stations) → Known s p (reach machine r calls)
 known-reached s p r calls h =
     let since = reached-since r calls h in
-    let below = below-end 1 (total adds-admitted (replies machine (setUp r .1) calls)) (subst (Among (p .number)) (numbersAreAnswers machine meets r calls) (since .0)) in
+    let within = counted-in 1 (total adds-admitted (replies machine (setUp r .1) calls)) (subst (Among (p .number)) (numbersAreAnswers machine demand2-machine r calls) (since .0)) in
     record {
-      given = omega (arith, countsAreTrue machine meets r calls .admitted);
+      given = omega (arith, countsAreTrue machine demand2-machine r calls .admitted);
       alike = λ q i e.
           reached-since r calls i .1 ∙ ap (λ k. 0 + slotsBefore k (replies machine (setUp r .1) calls)) e ∙ sym (since .1);
     }
@@ -116,7 +107,7 @@ machine-oldest : WaitOfTheOldest machine
 machine-oldest r calls later s p h a i says =
     let held : Held p (reach machine r calls .stations) = (s, h .listed, rw (h .oldest) (at-head refl)) in
     let e = sent-ended s p (reach machine r calls) later (known-reached s p r calls held) a i says in
-    let slots = soonerThanDemand3 machine meets r calls later s p h .slots in
+    let slots = soonerThanDemand3 machine demand2-machine r calls later s p h .slots in
     let since : p .admission .0 ≤ reach machine r calls .clock = go held (standing-reached r calls) in
     omega (arith, e .waited, e .ended)
   where

@@ -87,7 +87,7 @@ promised E meets =
 -- ---- and so of the machine, which meets it
 
 pub demand2-machine : Demand2 machine
-demand2-machine = record { setUps = λ r. refl; calls = λ r calls. refl }
+demand2-machine = Reach.demand2-machine
 
 pub promised-machine : Promised machine
 promised-machine = promised machine demand2-machine

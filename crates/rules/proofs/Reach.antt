@@ -121,6 +121,10 @@ reach-holds P p₀ p₁ p₂ p₃ r calls = go (accepted-or-nothing r calls)
 
 -- ---- engines that meet demand 2
 
+-- the machine is one of them
+pub demand2-machine : Demand2 machine
+demand2-machine = record { setUps = λ r. refl; calls = λ r calls. refl }
+
 -- calls after calls
 pub after-more : (E : Engine) (s : E .State) (calls later : List Call) → after E s (calls ++ later) ≡ after E (after E s calls) later
 after-more E s [] later = refl

@@ -25,7 +25,7 @@ use Rattle.rules.specs.Demands.{Demand2, adds-admitted, numbersAnswered,
 use Rattle.rules.proofs.Laws.{among-append, among-none, map-from, keep-from}
 use Rattle.rules.proofs.Keeps.{opened-stands, opened-contention, opened-same, Sender, sender}
 use Rattle.rules.proofs.Standing.{step-accepted, step-is}
-use Rattle.rules.proofs.Reach.{Does, refuses, admits, holds, probes-one, does, replies-agree, step-agrees}
+use Rattle.rules.proofs.Reach.{Does, refuses, admits, holds, probes-one, does, demand2-machine, replies-agree, step-agrees}
 use Rattle.rules.proofs.Counts.{step-rise, fresh-zero, countsAreTrue}
 use Rattle.rules.proofs.Numbering.{calls-counted}
 use Rattle.rules.proofs.Least.{silent-idle, sent-accepted}
@@ -87,15 +87,15 @@ joined-held {p} b a h = let from = map-from (joined b a) (b .stations) (h .1) in
 abbrev pub Since : ℕ → List Reply → Packet → Type 0
 Since clock rs p = Among (p .number) (numbersAnswered rs) × (p .admission .0 ≡ clock + slotsBefore (p .number) rs)
 
--- numbers counted from n on are not below n
-not-below : {k : ℕ} (n m : ℕ) → Among k (countUp n m) → n ≤ k
-not-below n zero i = absurd (among-none i)
-not-below n (suc m) (at-head e) = omega arith
-not-below n (suc m) (in-tail i) = omega (arith, not-below (suc n) m i)
+-- of m numbers counted from n on each lies there
+pub counted-in : {k : ℕ} (n m : ℕ) → Among k (countUp n m) → (n ≤ k) × (k < n + m)
+counted-in n zero i = absurd (among-none i)
+counted-in n (suc m) (at-head e) = omega arith
+counted-in n (suc m) (in-tail i) = let later = counted-in (suc n) m i in omega arith
 
 -- the replies to calls answer numbers above the count of packets admitted before them
 pub above-admitted : {k : ℕ} (b : Bus) (calls : List Call) → Among k (numbersAnswered (replies machine b calls)) → b .admitted < k
-above-admitted {k} b calls i = not-below (suc (b .admitted)) (total adds-admitted (replies machine b calls)) (subst (Among k) (calls-counted b calls) i)
+above-admitted {k} b calls i = counted-in (suc (b .admitted)) (total adds-admitted (replies machine b calls)) (subst (Among k) (calls-counted b calls) i) .0
 
 -- one call before those replies: a packet admitted later
 since-later :
@@ -240,7 +240,7 @@ machine-waits =
       succeeds = λ r calls won.
           let h = success-names (reach machine r calls) won in
           let since = reached-since r calls (h .waits) in
-          let counted = countsAreTrue machine (record { setUps = λ r. refl; calls = λ r calls. refl }) r calls in
+          let counted = countsAreTrue machine demand2-machine r calls in
           record {
             answered = subst (λ k. Among k (numbersAnswered (replies machine (setUp r .1) calls))) (sym (h .number)) (since .0);
             probed = h .slot ∙ counted .clock;
