@@ -345,6 +345,7 @@ fn play_change(state: &mut State, script: &mut Script) {
             let packet = &mut state.packets[(index % PLACES as u64) as usize];
             change_packet(packet, field, value as u32);
         }
+        31 => change_word(&mut state.contenders, value),
         _ => {}
     }
 }
@@ -391,6 +392,14 @@ fn change_contender(contender: &mut Contender, field: u64, value: u64) {
         20 => contender.contends = yes(value),
         21 => contender.parameter = value,
         _ => change_packet(&mut contender.packet, field, value as u32),
+    }
+}
+
+/// Field 31: "the station at place i contends where bit i is set", and no other does; what a station
+/// contends with stays as it is.
+fn change_word(contenders: &mut [Contender; STATIONS], word: u64) {
+    for (place, contender) in contenders.iter_mut().enumerate() {
+        contender.contends = word & (1 << place) != 0;
     }
 }
 

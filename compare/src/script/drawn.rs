@@ -1,6 +1,6 @@
 //! Seeded scripts, for what no table foresees. A class is a line; the classes go in rotation.
 
-use super::lent::{Lent, ADMISSION, CLOCK, DISCIPLINE, PHASES};
+use super::lent::{Lent, CLOCK, DISCIPLINE, LAST_FIELD, PHASES, WORD};
 use super::text::{set_up_of, Admission, Script};
 use crate::case::{Case, Shows};
 use crate::records::{Scenario, LAST_NUMBER, LAST_SLOT, LAST_STEP};
@@ -72,12 +72,14 @@ fn stretch(numbers: &mut Numbers, script: &mut Script, clock: u64, draw: impl Fn
     script.stretch(steps, length, &fours);
 }
 
-/// A state of a drawn discipline and phase, with few stations.
+/// A state of a drawn discipline and phase, mostly with few stations, and else with about half of them or all.
 fn drawn_state(numbers: &mut Numbers, script: &mut Script) -> Lent {
     let (discipline, phase, far) = (numbers.below(3) as u8, numbers.pick(&PHASES), numbers.below(LAST_STEP.into()));
     let clock = numbers.pick(&[0, 1, 100, far, u64::from(LAST_STEP) - 5, LAST_STEP.into()]);
-    let stations = numbers.pick(&[1, 2, 3, 3, 4, 6]);
-    let lent = Lent::made(numbers, (discipline, phase), stations, clock, &[0, 1, 1, 2, 3, 5]);
+    let (stations, lengths): (&[u64], &[u64]) =
+        if numbers.once_in(6) { (&[31, 32, 33, 63, 64], &[0, 1]) } else { (&[1, 2, 3, 3, 4, 6], &[0, 1, 1, 2, 3, 5]) };
+    let stations = numbers.pick(stations);
+    let lent = Lent::made(numbers, (discipline, phase), stations, clock, lengths);
     lent.write(script);
     lent
 }
@@ -95,14 +97,14 @@ fn lent(numbers: &mut Numbers, script: &mut Script) {
     }
 }
 
-/// A lent state with one field after another edited, each call on it, and the edit taken back.
+/// A lent state with one field after another edited, the word of contenders more often than others, each call on it, and the
+/// edit taken back.
 fn edited(numbers: &mut Numbers, script: &mut Script) {
     let lent = drawn_state(numbers, script);
     for _ in 0..3 {
-        let field = numbers.between((DISCIPLINE, ADMISSION));
+        let field = if numbers.once_in(8) { WORD } else { numbers.between((DISCIPLINE, LAST_FIELD)) };
         let place = numbers.pick(&lent.spots(field));
-        let values: Vec<u64> = lent.tried(field, place).into_iter().collect();
-        script.edit(field, place, numbers.pick(&values));
+        script.edit(field, place, lent.drawn(numbers, field, place));
         let admission = lent.admission(numbers);
         script.admit(&admission);
         script.put("P S P T");
@@ -112,5 +114,21 @@ fn edited(numbers: &mut Numbers, script: &mut Script) {
         }
         script.edit(field, place, lent.get(field, place));
         script.put("T");
+    }
+}
+
+#[cfg(test)]
+mod tests {
+    use super::*;
+
+    #[test]
+    fn words_of_contenders_are_drawn() {
+        let scripts = (0..300).map(|number| String::from_utf8(drawn(1, number).input).expect("a script is text"));
+        let edit = format!("E {WORD} 0 ");
+        let words: Vec<u64> = scripts
+            .flat_map(|text| text.lines().filter_map(|line| line.strip_prefix(&edit)?.parse().ok()).collect::<Vec<_>>())
+            .collect();
+        let many = |is: fn(u64) -> bool| words.iter().filter(|word| is(**word)).count() > 20;
+        assert!(many(|word| word >> 63 == 1) && many(|word| word >> 6 == 0) && many(|word| word.count_ones() > 20));
     }
 }

@@ -19,7 +19,8 @@ mod field {
     pub const TIE_VALUE: u64 = 19; pub const CONTENDS: u64 = 20; pub const PARAMETER: u64 = 21;
     pub const OFFERED_NUMBER: u64 = 22; pub const OFFERED_VALUE: u64 = 23; pub const OFFERED_LENGTH: u64 = 24;
     pub const QUEUE: u64 = 25; pub const NUMBER: u64 = 26; pub const VALUE: u64 = 27; pub const LENGTH: u64 = 28;
-    pub const OFFERED_ADMISSION: u64 = 29; pub const ADMISSION: u64 = 30;
+    pub const OFFERED_ADMISSION: u64 = 29; pub const ADMISSION: u64 = 30; pub const WORD: u64 = 31;
+    pub const LAST_FIELD: u64 = WORD;
 }
 pub use field::*;
 
@@ -36,7 +37,7 @@ pub fn places(field: u64) -> usize {
 pub fn bits(field: u64) -> u32 {
     match field {
         WON | BEGUN | SIDE | TIED | CONTENDS => 1,
-        LISTED | ADMITTED | SENT | LOST | START | SIZE | TIE_VALUE | PARAMETER | QUEUE => 64,
+        LISTED | ADMITTED | SENT | LOST | START | SIZE | TIE_VALUE | PARAMETER | QUEUE | WORD => 64,
         _ => 32,
     }
 }
@@ -54,13 +55,20 @@ pub type State = (u8, Phase);
 
 pub const PHASES: [Phase; 3] = [Phase::Between, Phase::Parameters, Phase::Ties];
 
+/// More stations than this are many.
+const MANY: usize = 8;
+
 /// A state: the value of each field and place that is not zero.
 #[derive(Default)]
 pub struct Lent(BTreeMap<(u64, usize), u64>);
 
 impl Lent {
+    /// The word of contenders is kept as its bits.
     pub fn get(&self, field: u64, place: usize) -> u64 {
-        self.0.get(&(field, place)).copied().unwrap_or(0)
+        match field {
+            WORD => (0..STATIONS).fold(0, |word, place| word | self.get(CONTENDS, place) << place),
+            _ => self.0.get(&(field, place)).copied().unwrap_or(0),
+        }
     }
 
     /// A field that stands once.
@@ -84,20 +92,27 @@ impl Lent {
         first..first + self.get(QUEUE, station) as usize
     }
 
-    /// The set-up and an edit for every other field that is not zero.
+    /// The set-up and an edit for every other field that is not zero. Who contends is an edit for each, or where there are many
+    /// stations one of the word.
     pub fn write(&self, script: &mut Script) {
         let station = |place| [ADDRESS, CAPABILITY].map(|field| self.get(field, place));
         let row: Vec<[u64; 2]> = (0..self.stations()).map(station).collect();
         let numbers = [DISCIPLINE, PARAMETERS, ADDRESSES, LAXITY_STEP].map(|field| self.one(field));
         script.set_up(numbers, row.len() as u64, row.len() as u64, &row);
-        let rest = self.0.iter().filter(|((field, _), value)| *field >= CLOCK && **value != 0);
+        let many = row.len() > MANY;
+        let written = |field: u64| field >= CLOCK && !(many && field == CONTENDS);
+        let rest = self.0.iter().filter(|((field, _), value)| written(*field) && **value != 0);
         rest.for_each(|((field, place), value)| script.edit(*field, *place, *value));
+        if many {
+            script.edit(WORD, 0, self.one(WORD));
+        }
     }
 
     /// A state that stands, with so many stations where there is room, and queues of drawn lengths.
     pub fn made(numbers: &mut Numbers, (discipline, phase): State, stations: u64, clock: u64, lengths: &[u64]) -> Lent {
         let mut lent = Lent::default();
-        let spaces: &[u32] = if stations > 8 { &[64, 257, 65_536] } else { &[2, 3, 4, 5, 7, 8, 16, 257, 65_536] };
+        let spaces: &[u32] =
+            if stations > MANY as u64 { &[64, 257, 65_536] } else { &[2, 3, 4, 5, 7, 8, 16, 257, 65_536] };
         let (fields, row) = set_up_of(&bus(numbers, discipline, spaces, LAXITY_STEPS, stations));
         lent.set(DISCIPLINE, 0, &fields);
         lent.set(LISTED, 0, &[row.len() as u64]);
@@ -230,6 +245,70 @@ impl Lent {
             QUEUE => vec![(0, QUEUE_PLACES as u64)],
             _ => Vec::new(),
         };
-        edges(bits(field), self.get(field, place), &ranges)
+        let mut values = edges(bits(field), self.get(field, place), &ranges);
+        if field == WORD {
+            values.extend(self.words());
+        }
+        values
+    }
+
+    /// Words of contenders, the right one among them: with its bits at other places, with a half or more of it lost, with
+    /// the bit of a listed station or one about N turned, and with the bits of all listed stations, all others, or all.
+    fn words(&self) -> Vec<u64> {
+        let (word, listed) = (self.one(WORD), u64::MAX >> (STATIONS - self.stations()));
+        let (lower, reversed) = (word & u64::from(u32::MAX), word.reverse_bits());
+        let moved =
+            [word, word << 1, word >> 1, word.rotate_left(1), word.rotate_left(32), word << 32, word.swap_bytes()];
+        let in_n = reversed >> (STATIONS - self.stations());
+        let lost = [lower, word ^ lower, word & 0xFFFF, word & 0xFF, word & (u64::MAX >> 1), 0];
+        let about = self.stations().saturating_sub(2)..(self.stations() + 2).min(STATIONS);
+        let turned = about.chain([0, 1, 31, 32, STATIONS - 1]).map(|bit| word ^ (1 << bit));
+        let filled = [listed, !listed, word | !listed, word ^ listed, u64::MAX];
+        [&moved[..], &[reversed, in_n], &lost, &filled].concat().into_iter().chain(turned).collect()
+    }
+
+    /// A value for a field at a place: one of those that are tried, or for the word of contenders often any bits, of all
+    /// places or of the listed ones, more of them set or fewer.
+    pub fn drawn(&self, numbers: &mut Numbers, field: u64, place: usize) -> u64 {
+        if field == WORD && numbers.once_in(3) {
+            let (any, other) = (numbers.number(), numbers.number());
+            let bits = numbers.pick(&[any, any & other, any | other]);
+            return numbers.pick(&[bits, bits & (u64::MAX >> (STATIONS - self.stations()))]);
+        }
+        let values: Vec<u64> = self.tried(field, place).into_iter().collect();
+        numbers.pick(&values)
+    }
+}
+
+#[cfg(test)]
+mod tests {
+    use super::*;
+
+    fn made(stations: u64) -> Lent {
+        Lent::made(&mut Numbers::of(9, stations), (PRI, Phase::Parameters), stations, 100, &[0, 1, 2])
+    }
+
+    #[test]
+    fn the_word_has_the_bit_of_each_contender() {
+        for lent in [3, 33, 64].map(made) {
+            let word = lent.one(WORD);
+            assert!(word != 0 && (0..STATIONS).all(|place| word >> place & 1 == lent.get(CONTENDS, place)));
+        }
+        let written = |stations| {
+            let mut script = Script::default();
+            made(stations).write(&mut script);
+            [CONTENDS, WORD].map(|field| script.text.matches(&format!("E {field} ")).count())
+        };
+        assert_eq!(written(64), [0, 1]);
+        assert_eq!(written(3), [made(3).one(WORD).count_ones() as usize, 0]);
+    }
+
+    #[test]
+    fn right_and_wrong_words_are_tried() {
+        let lent = made(33);
+        let (word, tried) = (lent.one(WORD), lent.tried(WORD, 0));
+        let bits = [0, 1, 31, 32, 33, 34, 63].map(|bit| word ^ (1 << bit));
+        let others = [word, word << 1, word >> 1, word & 0xFFFF_FFFF, word | u64::MAX << 33, u64::MAX << 33, u64::MAX];
+        assert!(bits.iter().chain(&others).all(|value| tried.contains(value)));
     }
 }

@@ -1,6 +1,6 @@
 //! Tables of lent states: those of scripts/lent.table, and states that stand with every field at its edges and bits.
 
-use super::lent::{bits, places, Lent, State, ADMISSION, DISCIPLINE, PHASES};
+use super::lent::{bits, places, Lent, State, DISCIPLINE, LAST_FIELD, PHASES};
 use super::text::Script;
 use crate::case::{Case, Shows};
 use crate::records::{PRI, QUEUE_PLACES, RTDG, RTVC, STATIONS};
@@ -49,7 +49,7 @@ pub fn swept() -> Vec<Case> {
         let few = Lent::made(&mut numbers, state, 3, 100, &[1, 2, 3]);
         let full = Lent::made(&mut numbers, state, STATIONS as u64, 100, &[QUEUE_PLACES as u64]);
         let case = move |name, text| Case::new(format!("{name} of {state:?}"), text, vec![Shows::Stands]);
-        let each = (DISCIPLINE..=ADMISSION).map(move |field| case(format!("field {field}"), each_value(&few, field)));
+        let each = (DISCIPLINE..=LAST_FIELD).map(move |field| case(format!("field {field}"), each_value(&few, field)));
         each.chain([case("full queues".to_string(), last_of_each(&full))])
     };
     states.enumerate().flat_map(swept).collect()
@@ -65,7 +65,7 @@ fn each_value(lent: &Lent, field: u64) -> String {
 /// A state, and whether it stands with the last of each field one higher, one lower, 0 or with its top bit turned; calls.
 fn last_of_each(lent: &Lent) -> String {
     let mut script = begun(lent);
-    for field in DISCIPLINE..=ADMISSION {
+    for field in DISCIPLINE..=LAST_FIELD {
         let place = places(field) - 1;
         let now = lent.get(field, place);
         let values = [now.wrapping_add(1), now.wrapping_sub(1), 0, now ^ (1 << (bits(field) - 1))];

@@ -19,17 +19,17 @@ use Rattle.rules.specs.Admission.{Arrival, named, admissionRefusal, newPacket, 
 use Rattle.rules.proofs.Tests.{told}
 use Rattle.rules.proofs.Standing.{stands-exactly, admission-accepted, admit-is}
 use Rattle.bus.specs.Types.{Address, Packet, Queues, State, Queue}
-use Rattle.state.specs.State.{Held, queueAt, stationWith, stationAt, valuesFrom, stationsOf, meaning, form, standing, nobody}
+use Rattle.state.specs.State.{Held, recordedIn, queueAt, stationWith, stationAt, valuesFrom, stationsOf, meaning, form, standing, nobody}
 use Rattle.bus.specs.Coded.{Admission, arrivalOf, codedAdmit, admissionResult}
 use Rattle.state.specs.Parts.{queueOf}
-use Rattle.bus.specs.Parts.{queueForm, firstPlace, refusalTests, refusalAt}
+use Rattle.bus.specs.Parts.{queueForm, firstPlace, refusalTests, refusalAt, segmentCounting}
 use Rattle.state.proofs.Rows.{among-values}
 use Rattle.bus.proofs.FirstPlace.{first-place-holds, first-place-before}
 use Rattle.state.proofs.Form.{parts-padded, queue-length, to-form}
 use Rattle.bus.proofs.Coded.{hands-back-admission, admit-bears, standing-exactly-admission}
 use Rattle.bus.proofs.QueueLaws.{form-joined, withQueue}
 use Rattle.state.proofs.Stands.{Lent}
-use Rattle.bus.proofs.Changed.{queue-formed, address-of, own-address, segmentCounting, recounted, requeued, requeued-held, requeued-padded, stations-now}
+use Rattle.bus.proofs.Changed.{queue-formed, address-of, own-address, recounted, requeued, requeued-held, requeued-padded, stations-now}
 
 -- ---- a test of some value
 
@@ -111,7 +111,7 @@ module _ (s : State) (address : Address) where
 abbrev pub counted : State → ℕ → State
 counted s admitted =
     record {
-      segment = segmentCounting (s .segment) admitted (s .segment .lost) (s .segment .contention) (s .segment .contenders);
+      segment = segmentCounting (s .segment) admitted (s .segment .lost) (s .segment .contention) (recordedIn (s .segment));
       queues = s .queues;
     }
 

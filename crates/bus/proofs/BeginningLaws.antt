@@ -1,32 +1,34 @@
 -- A contention begins: late packets leave the queues, each station takes its place among the contenders, and what becomes of the state.
 -- Assumes nothing.
 use Prim.Native.Nat.{ℕ, zero, suc, _+_, _≤_, _<_}
-use mathlib.Core.Path.{_≡_, refl, sym, ap, ap₂, _∙_, subst}
+use mathlib.Core.Path.{_≡_, refl, sym, ap, _∙_, subst}
 use mathlib.Core.Bool.{Bool, true, false, not, _&&_, _||_, cond}
 use mathlib.Core.Option.{Option, none, some}
 use mathlib.Core.List.{List, [], _∷_}
-use native.Mathlib.Nat.{add-zero}
 use native.Mathlib.Omega.{arith}
 use lib.Dec.{eqb, ltb}
-use lib.ListN.{length, getD, take, set, replicate}
+use lib.ListN.{length, getD, take, set}
 use borrow.Author.Tests.{eqb-true, eqb-false, ltb-true, ltb-false, lt-ltb, le-ltb, not-true}
 use Rattle.rules.specs.Lists.{keep, count, total}
 use Rattle.rules.specs.Bus.{Discipline, PRI, RTDG, RTVC, Offer, Station, Bus, most-admitted, late}
 use Rattle.rules.specs.SetUp.{disciplineOf}
 use Rattle.rules.specs.Standing.{OfferStands}
-use Rattle.rules.specs.Begin.{sits-out, parameterOf, offers, choice, entered, dropsOf, begin}
-use Rattle.rules.proofs.Laws.{and-true, true-and, keep-all, kept-failed, count-le, total-among, total-mono}
+use Rattle.rules.specs.Begin.{sits-out, parameterOf, offers, chosen, goes-before, choice, entered, dropsOf, begin}
+use Rattle.rules.proofs.Laws.{and-true, true-and, keep-all, kept-failed, count-le, total-mono}
+use Rattle.word.specs.Word.{bitAt, setAt}
+use Rattle.word.proofs.Laws.{bit-word, word-same}
 use Rattle.bus.specs.Types.{Slot, Settings, Listed, Contender, Contention, Round, Segment, Queues, State, Packet, Queue}
-use Rattle.state.specs.State.{Held, noContender, nobody, placesAt, queueAt, offerOf, stationAt, valuesFrom, stationsOf, lastOf, contentionOf, meaning, contenderForm, form, row, waitingIn, queue-padded, contender-padded, no-station}
-use Rattle.bus.specs.Parts.{openingOf, Late, queueForm, stays, chosenForm, parameterFor, contenderOn, contenderFor}
-use Rattle.state.specs.Parts.{queueOf, packetsOf}
-use Rattle.state.proofs.Rows.{values-take, values-map, values-same, among-values, row-length, row-at, row-ext, row-replicate, row-same, row-set}
+use Rattle.state.specs.State.{Held, Recorded, recordedIn, recordedAt, recorded, noContender, nobody, placesAt, queueAt, offerOf, stationAt, valuesFrom, stationsOf, lastOf, contentionOf, meaning, contenderForm, form, row, waitingIn, queue-padded, contender-padded, no-station}
+use Rattle.bus.specs.Parts.{openingOf, Late, queueForm, stays, chosenForm, parameterFor, contenderOn, contenderFor, segmentCounting}
+use Rattle.state.specs.Parts.{queueOf, packetsOf, noContenders}
+use Rattle.state.proofs.Contenders.{recorded-held, place-recorded, recorded-ext, recorded-same}
+use Rattle.state.proofs.Rows.{values-take, values-map, values-same, among-values, row-same, row-set}
 use Rattle.state.proofs.Form.{Padded, parts-padded, contender-form, queue-length, to-form}
 use Rattle.bus.proofs.QueueLaws.{kept-room, packets-of-form, form-padded}
-use Rattle.bus.proofs.ClosingUp.{inRange, range-tells, queueIf, LeftIn, left-in, left-out}
+use Rattle.bus.proofs.ClosingUp.{inRange, queueIf, LeftIn, left-in, left-out}
 use Rattle.state.proofs.StandingParts.{held-whole}
 use Rattle.state.proofs.Stands.{Lent, few-packets}
-use Rattle.bus.proofs.Changed.{queue-formed, segmentCounting, recounted}
+use Rattle.bus.proofs.Changed.{queue-formed, recounted}
 
 -- another station is before i + 1 if it is before i
 before-more : (j i : ℕ) → ¬ (j ≡ i) → ltb j i ≡ ltb j (i + 1)
@@ -93,36 +95,103 @@ nothing-offered g qs j = go (eqb (getD (qs .lengths) j 0) 0) refl
 abbrev pub placeTo : (ℕ → Contender) → ℕ → ℕ → Contender
 placeTo f i j = cond (ltb j i) (f j) noContender
 
-abbrev pub placesTo : (ℕ → Contender) → ℕ → List Contender
-placesTo f i = row 64 (placeTo f i)
+abbrev pub placesTo : (ℕ → Contender) → ℕ → Recorded
+placesTo f i = recorded (placeTo f i)
+
+-- what is recorded, with a contender more at place i
+abbrev pub contendingAt : Recorded → ℕ → Contender → Recorded
+contendingAt r i c =
+    record {
+      word = setAt (r .word) i;
+      parameters = set (r .parameters) i (c .parameter);
+      numbers = set (r .numbers) i (c .packet .number);
+      values = set (r .values) i (c .packet .value);
+      lengths = set (r .lengths) i (c .packet .length);
+      admissions = set (r .admissions) i (c .packet .admission);
+    }
 
 module _ (f : ℕ → Contender) where
   -- before the first station
-  pub places-none : replicate 64 noContender ≡ placesTo f 0
-  places-none = row-replicate 64 noContender ∙ row-same 64 (λ j. noContender) (placeTo f 0) none-yet
+  pub places-none : noContenders ≡ placesTo f 0
+  places-none = recorded-same (λ j. noContender) (placeTo f 0) none-yet
     where
       none-yet : (j : ℕ) → j < 64 → noContender ≡ placeTo f 0 j
       none-yet j l = ap (λ t. cond t (f j) noContender) (sym (le-ltb j 0 (omega arith)))
 
-  -- one station more
-  pub places-more : (i : ℕ) → i < 64 → set (placesTo f i) i (f i) ≡ placesTo f (i + 1)
-  places-more i h =
-      row-set 64 (placeTo f i) i (f i) h
-      ∙ row-same 64 (λ j. cond (eqb j i) (f i) (placeTo f i j)) (placeTo f (i + 1)) (λ j l. place j (eqb j i) refl)
+  -- one station more: the place of station i is its own, the others stay
+  place-more : (i j : ℕ) (t : Bool) → eqb j i ≡ t → cond t (f i) (placeTo f i j) ≡ placeTo f (i + 1) j
+  place-more i j true e =
+      let same = eqb-true j i e in ap f (sym same) ∙ ap (λ t. cond t (f j) noContender) (sym (lt-ltb j (i + 1) (omega arith)))
+  place-more i j false e = ap (λ t. cond t (f j) noContender) (before-more j i (eqb-false j i e))
+
+  -- in a row of what each has
+  row-more :
+      {X : Type 0} (of : Contender → X) (i : ℕ) → i < 64
+      → set (row 64 (λ j. of (placeTo f i j))) i (of (f i)) ≡ row 64 (λ j. of (placeTo f (i + 1) j))
+  row-more of i h =
+      row-set 64 (λ j. of (placeTo f i j)) i (of (f i)) h
+      ∙ row-same
+      64
+      (λ j. cond (eqb j i) (of (f i)) (of (placeTo f i j)))
+      (λ j. of (placeTo f (i + 1) j))
+      (λ j l. go j (eqb j i) ∙ ap of (place-more i j (eqb j i) refl))
     where
-      place : (j : ℕ) (t : Bool) → eqb j i ≡ t → cond t (f i) (placeTo f i j) ≡ placeTo f (i + 1) j
-      place j true e =
-          let same = eqb-true j i e in ap f (sym same) ∙ ap (λ t. cond t (f j) noContender) (sym (lt-ltb j (i + 1) (omega arith)))
-      place j false e = ap (λ t. cond t (f j) noContender) (before-more j i (eqb-false j i e))
+      go : (j : ℕ) (t : Bool) → cond t (of (f i)) (of (placeTo f i j)) ≡ of (cond t (f i) (placeTo f i j))
+      go j true = refl
+      go j false = refl
+
+  -- in the word, where it contends
+  word-more : (i : ℕ) → f i .contends ≡ true → setAt (placesTo f i .word) i ≡ placesTo f (i + 1) .word
+  word-more i contends =
+      word-same
+      (λ j. eqb j i || bitAt (placesTo f i .word) j)
+      (λ j. placeTo f (i + 1) j .contends)
+      64
+      (λ j l.
+      ap (λ t. eqb j i || t) (bit-word (λ k. placeTo f i k .contends) 64 j l)
+      ∙ go j (eqb j i)
+      ∙ ap (λ c. c .contends) (place-more i j (eqb j i) refl))
+    where
+      go : (j : ℕ) (t : Bool) → (t || placeTo f i j .contends) ≡ cond t (f i) (placeTo f i j) .contends
+      go j true = sym contends
+      go j false = refl
+
+  pub places-more : (i : ℕ) → i < 64 → f i .contends ≡ true → contendingAt (placesTo f i) i (f i) ≡ placesTo f (i + 1)
+  places-more i h contends =
+      λ k.
+      record {
+        word = word-more i contends k;
+        parameters = row-more (λ c. c .parameter) i h k;
+        numbers = row-more (λ c. c .packet .number) i h k;
+        values = row-more (λ c. c .packet .value) i h k;
+        lengths = row-more (λ c. c .packet .length) i h k;
+        admissions = row-more (λ c. c .packet .admission) i h k;
+      }
 
   -- one station more, which does not contend
   pub places-same : (i : ℕ) → f i ≡ noContender → placesTo f i ≡ placesTo f (i + 1)
-  places-same i still = row-same 64 (placeTo f i) (placeTo f (i + 1)) (λ j l. place j (eqb j i) refl)
+  places-same i still = recorded-same (placeTo f i) (placeTo f (i + 1)) (λ j l. place j (eqb j i) refl)
     where
       place : (j : ℕ) (t : Bool) → eqb j i ≡ t → placeTo f i j ≡ placeTo f (i + 1) j
       place j true e =
           let same = eqb-true j i e in rw (le-ltb j i (omega arith), lt-ltb j (i + 1) (omega arith)) (sym (ap f same ∙ still))
       place j false e = ap (λ t. cond t (f j) noContender) (before-more j i (eqb-false j i e))
+
+-- a station that has a packet and does not sit out contends
+some-chosen : (d : Discipline) (p : Packet) (ps : List Packet) → (q : Packet) × (choice d (p ∷ ps) ≡ some q)
+some-chosen d p ps = go (choice d ps)
+  where
+    go : (rest : Option Packet) → (q : Packet) × (chosen d p rest ≡ some q)
+    go none = (p, refl)
+    go (some o) = (cond (goes-before d o p) o p, refl)
+
+pub offered-contends :
+    (g : Settings) (clock : Slot) (round : Round) (l : Listed) (ps : List Packet) → ¬ (length ps ≡ 0)
+    → sits-out (disciplineOf (g .discipline)) (lastOf round) (l .capability .0) ≡ false → contenderFor g clock round l ps .contends ≡ true
+offered-contends g clock round l [] n sits = absurd (n refl)
+offered-contends g clock round l (p ∷ ps) n sits =
+    let some-packet = some-chosen (disciplineOf (g .discipline)) p ps in
+    ap (λ o. contenderOn g clock round l o .contends) (some-packet .1) ∙ rw sits
 
 -- ---- late packets leave the queues of the stations before n
 
@@ -275,11 +344,11 @@ module _ (s : State) (r : Lent s) where
     module _ (drops : ℕ) where
       place-of :
           (j : ℕ) → j < 64
-          → getD (begunState s rest drops .segment .contenders) j noContender
+          → recordedAt (begunState s rest drops .segment) j
           ≡ placeTo (placeFor (s .segment) rest) (s .segment .settings .n) j
-      place-of j l = row-at 64 (placeTo (placeFor (s .segment) rest) (s .segment .settings .n)) j noContender l
+      place-of j l = place-recorded (placeTo (placeFor (s .segment) rest) (s .segment .settings .n)) j l
 
-      contender-zeros : (j : ℕ) → j < 64 → contender-padded (getD (begunState s rest drops .segment .contenders) j noContender) ≡ true
+      contender-zeros : (j : ℕ) → j < 64 → contender-padded (recordedAt (begunState s rest drops .segment) j) ≡ true
       contender-zeros j l = ap contender-padded (place-of j l) ∙ go (ltb j (s .segment .settings .n))
         where
           go : (t : Bool) → contender-padded (cond t (placeFor (s .segment) rest j) noContender) ≡ true
@@ -296,7 +365,7 @@ module _ (s : State) (r : Lent s) where
       past-zeros j m l =
           let who = getD (s .segment .listed) j nobody in
           let n = getD (s .queues .lengths) j 0 in
-          let c = getD (s .segment .contenders) j noContender in
+          let c = recordedAt (s .segment) j in
           let nobody-there = eqb (who .address .0) 0 && eqb (who .capability .0) 0 in
           let abc = and-true (nobody-there && eqb n 0) (not (c .contends)) (r .zeros .past-N j m l) in
           let ab = and-true nobody-there (eqb n 0) (abc .0) in
@@ -330,7 +399,7 @@ module _ (s : State) (r : Lent s) where
           }
         where
           offer :
-              offerOf (getD (begunState s rest drops .segment .contenders) j noContender)
+              offerOf (recordedAt (begunState s rest drops .segment) j)
               ≡ offers (meaning s) (stationAt s j) (choice (meaning s .discipline) (keep (inTimeAt s) (queueAt (s .queues) j)))
           offer =
               ap offerOf (place-of j (omega arith))
@@ -415,25 +484,12 @@ module _ (s : State) (r : Lent s) where
         held =
             record {
               listed = r .held .listed;
-              contenders = row-length 64 (placeTo (placeFor (s .segment) rest) (s .segment .settings .n));
+              contenders = recorded-held (placeTo (placeFor (s .segment) rest) (s .segment .settings .n));
               lengths = ls;
               packets = ps;
             }
 
 -- ---- no packet leaves
-
--- the state with nothing but the contention opened
-abbrev pub opened : State → State
-opened s =
-    record {
-      segment = segmentCounting (s .segment) (s .segment .admitted) (s .segment .lost) (openingOf (s .segment .settings .d)) (s .segment .contenders);
-      queues = s .queues;
-    }
-
--- no packets
-none-long : (ps : List Packet) → length ps ≡ 0 → ps ≡ []
-none-long [] e = refl
-none-long (p ∷ ps) e = absurd (omega arith)
 
 -- between contentions a station that stands has no offer
 none-offered : (b : Bus) (x : Station) (o : Option Offer) → OfferStands b x none o → o ≡ none
@@ -441,46 +497,15 @@ none-offered b x none h = refl
 none-offered b x (some o) h = absurd h
 
 module _ (s : State) (r : Lent s) where
-  -- outside RTDG the queues stay as they are
-  pub all-in-time : ¬ (s .segment .settings .discipline ≡ 1) → LeftIn (inTimeAt s) (s .queues) 0 (s .segment .settings .n) (s .queues)
-  all-in-time other =
-      none-late
-      (inTimeAt s)
-      (s .queues)
-      (s .segment .settings .n)
-      (in-time (s .segment .settings .discipline) (s .segment .clock) other)
-      (all-formed s r)
-
-  -- nothing waits, between contentions
-  module _ (between : s .segment .contention .begun ≡ false) (idle : s .segment .sent + s .segment .lost ≡ s .segment .admitted) where
-    none-waits : (j : ℕ) → j < s .segment .settings .n → queueAt (s .queues) j ≡ []
-    none-waits j l =
-        let among = among-values (stationAt s) 0 (s .segment .settings .n) j (omega arith) (omega arith) in
-        none-long
-        (queueAt (s .queues) j)
-        (omega (arith, r .stands .counts, total-among (λ x. length (x .queue)) (meaning s .stations) among))
-
-    -- so the queues stay as they are
-    pub left-idle : LeftIn (inTimeAt s) (s .queues) 0 (s .segment .settings .n) (s .queues)
-    left-idle j l = go (inRange 0 (s .segment .settings .n) j) refl
-      where
-        go : (t : Bool) → inRange 0 (s .segment .settings .n) j ≡ t → queueOf (s .queues) j ≡ queueIf t (inTimeAt s) (s .queues) j
-        go true e =
-            let waits = none-waits j (range-tells 0 (s .segment .settings .n) j e .1) in
-            all-formed s r j l ∙ ap queueForm (waits ∙ sym (ap (keep (inTimeAt s)) waits))
-        go false e = refl
-
-    pub none-dropped : dropsOf (meaning s) ≡ 0
-    none-dropped = omega (arith, waiting-dropped s r (s .queues) left-idle (r .held .lengths))
-
-    -- and none contends, before or after
-    none-contends : (j : ℕ) → j < 64 → getD (s .segment .contenders) j noContender ≡ noContender
+  -- between contentions none contends
+  module _ (between : s .segment .contention .begun ≡ false) where
+    none-contends : (j : ℕ) → j < 64 → recordedAt (s .segment) j ≡ noContender
     none-contends j l =
-        contender-form (getD (s .segment .contenders) j noContender) (r .zeros .contenders j l)
+        contender-form (recordedAt (s .segment) j) (r .zeros .contenders j l)
         ∙ ap contenderForm (go (ltb j (s .segment .settings .n)) refl)
       where
         place : Contender
-        place = getD (s .segment .contenders) j noContender
+        place = recordedAt (s .segment) j
 
         begun-by : Bool → Contention
         begun-by t =
@@ -510,34 +535,5 @@ module _ (s : State) (r : Lent s) where
             let still = not-true (place .contends) (and-true nothing-there (not (place .contends)) past .1) in
             ap (λ t. cond t (some (record { parameter = place .parameter; packet = place .packet })) none) still
 
-    contenders-still : s .segment .contenders ≡ placesTo (placeFor (s .segment) (s .queues)) (s .segment .settings .n)
-    contenders-still =
-        row-ext
-        64
-        (placeTo (placeFor (s .segment) (s .queues)) (s .segment .settings .n))
-        (s .segment .contenders)
-        noContender
-        (r .held .contenders)
-        (λ j l. none-contends j l ∙ sym (go j (ltb j (s .segment .settings .n)) refl))
-      where
-        go :
-            (j : ℕ) (t : Bool) → ltb j (s .segment .settings .n) ≡ t
-            → cond t (placeFor (s .segment) (s .queues) j) noContender ≡ noContender
-        go j true e =
-            ap
-            (contenderFor (s .segment .settings) (s .segment .clock) (s .segment .round) (getD (s .segment .listed) j nobody))
-            (none-waits j (ltb-true j (s .segment .settings .n) e))
-        go j false e = refl
-
-    -- the state with the opening contention is the state of the rules
-    pub begun-idle : opened s ≡ form (begin (meaning s))
-    begun-idle =
-        ap₂ (λ lost contenders. begun-with lost contenders) (sym (add-zero (s .segment .lost))) contenders-still
-        ∙ begun-is s r (s .queues) left-idle 0 (sym none-dropped) (r .held .lengths) (r .held .packets)
-      where
-        begun-with : ℕ → List Contender → State
-        begun-with lost contenders =
-            record {
-              segment = segmentCounting (s .segment) (s .segment .admitted) lost (openingOf (s .segment .settings .d)) contenders;
-              queues = s .queues;
-            }
+    pub nobody-recorded : recordedIn (s .segment) ≡ noContenders
+    nobody-recorded = recorded-ext (λ j. noContender) (recordedIn (s .segment)) (r .held .contenders) none-contends

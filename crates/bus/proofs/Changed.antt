@@ -14,8 +14,8 @@ use Rattle.rules.specs.Bus as Machine
 use Rattle.rules.specs.Bus.{Station, Bus, places, most-stations}
 use Rattle.rules.specs.Standing.{Standing}
 use Rattle.rules.proofs.Standing.{set-up-stands}
-use Rattle.bus.specs.Types.{Packet, Contention, State, Queue, Segment, Contender}
-use Rattle.state.specs.State.{Held, noContender, nobody, placesAt, queueAt, stationWith, stationAt, valuesFrom, stationsOf, meaning, queue-padded, no-station}
+use Rattle.bus.specs.Types.{Packet, State, Queue}
+use Rattle.state.specs.State.{Held, recordedAt, nobody, placesAt, queueAt, stationWith, stationAt, valuesFrom, stationsOf, meaning, queue-padded, no-station}
 use Rattle.state.specs.Parts.{queueOf, packetsOf}
 use Rattle.bus.specs.Parts.{queueForm}
 use Rattle.state.proofs.Rows.{values-map, values-same, among-values}
@@ -71,23 +71,7 @@ module _ (s : State) (h : Standing (meaning s)) where
           (address-of s j)
           (λ same. apart (address-of s) 0 n addresses-apart j i (omega arith) (omega (arith, ltb-false i j l)) (omega arith) (sym same))
 
--- ---- other counts of packets admitted and lost, and another contention
-
-abbrev pub segmentCounting : Segment → ℕ → ℕ → Contention → List Contender → Segment
-segmentCounting g admitted lost contention contenders =
-    record {
-      settings = g .settings;
-      listed = g .listed;
-      clock = g .clock;
-      admitted = admitted;
-      sent = g .sent;
-      lost = lost;
-      round = g .round;
-      contention = contention;
-      contenders = contenders;
-    }
-
--- the same of a bus, and other stations
+-- ---- other counts of packets admitted and lost, another contention, and other stations
 abbrev pub recounted : Bus → List Station → ℕ → ℕ → Option Machine.Contention → Bus
 recounted b stations admitted lost contention =
     record {
@@ -152,7 +136,7 @@ module _
             eqb (getD (s .segment .listed) j nobody .address .0) 0
             && eqb (getD (s .segment .listed) j nobody .capability .0) 0
             && eqb n 0
-            && not (getD (s .segment .contenders) j noContender .contends)
+            && not (recordedAt (s .segment) j .contends)
 
     pub requeued-padded : Padded (requeued s i ps)
     requeued-padded =

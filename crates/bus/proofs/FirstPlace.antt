@@ -44,9 +44,6 @@ found test i (suc k) = go (test i) refl (found test (suc i) k)
           holds = λ h. f .holds (omega arith);
         }
 
-pub first-place-le : (test : ℕ → Bool) (i n : ℕ) → i ≤ n → firstPlace test i (n - i) ≤ n
-first-place-le test i n h = omega (arith, found test i (n - i) .to)
-
 pub first-place-holds : (test : ℕ → Bool) (i n : ℕ) → i ≤ n → firstPlace test i (n - i) < n → test (firstPlace test i (n - i)) ≡ true
 first-place-holds test i n h l = found test i (n - i) .holds (omega arith)
 

@@ -1,23 +1,27 @@
 -- What a probe makes of a segment, by who transmits: it stores what `movedBy` (specs/Parts.antt) moves, and of a state that stands `moved`
 -- may be called. Assumes nothing.
 use Prim.Native.Nat.{ℕ, _<_, _≤_}
-use mathlib.Core.Path.{_≡_, refl, ap}
-use mathlib.Core.Bool.{Bool, true, false, cond}
+use mathlib.Core.Path.{_≡_, refl, sym, ap, _∙_, subst}
+use mathlib.Core.Bool.{true, cond}
+use mathlib.Core.List.{List, [], _∷_}
 use native.Mathlib.Omega.{arith}
-use lib.Dec.{eqb}
-use borrow.Author.Tests.{eqb-true, eqb-false, eq-eqb}
+use lib.ListN.{length}
+use borrow.Author.Tests.{eq-eqb, ne-eqb}
+use Rattle.word.specs.Word.{firstOr, countOf, lowestOf}
 use Rattle.rules.specs.Probe.{success}
 use Rattle.bus.specs.Types.{Segment, State}
-use Rattle.bus.specs.Parts.{Moved, contenderAt, transmitsAt, nextTransmitter, heardIn, movedBy, withMoved}
-use Rattle.bus.proofs.FirstPlace.{first-place-le, first-place-holds}
+use Rattle.bus.specs.Parts.{Moved, transmittersIn, movedBy, withMoved}
 use Rattle.state.proofs.Stands.{Lent}
-use Rattle.bus.proofs.ProbedSlot.{probed, heardWhere, sent-short, sent-counted, progressOf}
+use Rattle.bus.proofs.ProbedSlot.{probed, Sole, noSole, soleAt, soleOf, sole-more, heardIn, first-sends, sent-short, sent-counted, progressOf}
 
 -- ---- the parts of a probe
 
 module _ (g : Segment) (drops : ℕ) where
+  abbrev sole : Sole
+  sole = soleOf g (heardIn g)
+
   abbrev m : Moved
-  m = movedBy (g .settings) (progressOf g) drops (heardIn g)
+  m = movedBy (g .settings) (progressOf g) drops (countOf (transmittersIn g)) (sole .listed) (sole .packet)
 
   pub answer-moved : probed g drops .answer ≡ m .answer
   answer-moved = refl
@@ -25,46 +29,48 @@ module _ (g : Segment) (drops : ℕ) where
   pub segment-moved : probed g drops .segment ≡ withMoved g m
   segment-moved = refl
 
-  pub winner-moved : m .answer .event ≡ success → probed g drops .winner ≡ heardIn g .first
-  winner-moved e = ap (λ t. cond t (heardIn g .first) 0) (eq-eqb (m .answer .event) success e)
+  pub winner-moved : m .answer .event ≡ success → probed g drops .winner ≡ sole .place
+  winner-moved e = ap (λ t. cond t (sole .place) 0) (eq-eqb (m .answer .event) success e)
 
--- ---- what `moved` requires
+-- ---- what `moved` requires, of a state that stands with a contention under way
 
-module _ (g : Segment) where
-  abbrev n : ℕ
-  n = g .settings .n
-
-  abbrev first : ℕ
-  first = nextTransmitter g 0
-
-  -- the first that transmits is a station, and does so
-  found : eqb first n ≡ false → (first < n) × (transmitsAt g first ≡ true)
-  found e =
-      let other = eqb-false first n e in
-      let le = first-place-le (transmitsAt g) 0 n (omega arith) in
-      let l : first < n = omega arith in
-      (l, first-place-holds (transmitsAt g) 0 n (omega arith) l)
-
-  pub short-packet :
-      ((i : ℕ) → i < n → transmitsAt g i ≡ true → contenderAt g i .packet .length ≤ 4096) → heardIn g .packet .length ≤ 4096
-  short-packet short = go (eqb first n) refl
-    where
-      go : (none : Bool) → eqb first n ≡ none → heardWhere g none .packet .length ≤ 4096
-      go true e = omega arith
-      go false e = let at = found e in short first (at .0) (at .1)
-
-  pub one-more :
-      ((i : ℕ) → i < n → transmitsAt g i ≡ true → g .sent < 4294967295) → (heardIn g .first ≡ n → ⊥) → g .sent < 4294967295
-  one-more counted = go (eqb first n) refl
-    where
-      go : (none : Bool) → eqb first n ≡ none → (heardWhere g none .first ≡ n → ⊥) → g .sent < 4294967295
-      go true e some! = absurd (some! (eqb-true first n e))
-      go false e some! = let at = found e in counted first (at .0) (at .1)
-
--- of a state that stands with a contention under way
 module _ (s : State) (r : Lent s) (begun : s .segment .contention .begun ≡ true) where
-  pub heard-short : heardIn (s .segment) .packet .length ≤ 4096
-  heard-short = short-packet (s .segment) (sent-short s r begun)
+  pub sole-short : soleOf (s .segment) (heardIn (s .segment)) .packet .length ≤ 4096
+  sole-short = go (heardIn (s .segment)) refl
+    where
+      go : (ms : List ℕ) → heardIn (s .segment) ≡ ms → soleOf (s .segment) ms .packet .length ≤ 4096
+      go [] e = omega arith
+      go (i ∷ []) e = let at = first-sends s r e in sent-short s r begun i (at .0) (at .1)
+      go (i ∷ j ∷ ms) e = subst (λ (x : Sole). x .packet .length ≤ 4096) (sym (sole-more (s .segment) i j ms)) (omega arith)
 
-  pub heard-counted : (heardIn (s .segment) .first ≡ s .segment .settings .n → ⊥) → s .segment .sent < 4294967295
-  heard-counted = one-more (s .segment) (sent-counted s r begun)
+  pub sole-counted : countOf (transmittersIn (s .segment)) ≡ 1 → s .segment .sent < 4294967295
+  sole-counted = go (heardIn (s .segment)) refl
+    where
+      go : (ms : List ℕ) → heardIn (s .segment) ≡ ms → length ms ≡ 1 → s .segment .sent < 4294967295
+      go [] e one = absurd (omega arith)
+      go (i ∷ ms) e one = let at = first-sends s r e in sent-counted s r begun i (at .0) (at .1)
+
+  -- the lowest of them is a place of the rows
+  pub lowest-there : countOf (transmittersIn (s .segment)) ≡ 1 → lowestOf (transmittersIn (s .segment)) < 64
+  lowest-there = go (heardIn (s .segment)) refl
+    where
+      go : (ms : List ℕ) → heardIn (s .segment) ≡ ms → length ms ≡ 1 → firstOr ms < 64
+      go [] e one = absurd (omega arith)
+      go (i ∷ ms) e one = omega (arith, first-sends s r e .0, r .few)
+
+-- ---- the sole winner, as the code finds it: by the word of those who transmit, how many they are and the lowest of them
+
+module _ (g : Segment) (w count : ℕ) (w! : w ≡ transmittersIn g) (count! : count ≡ countOf w) where
+  pub counted! : count ≡ countOf (transmittersIn g)
+  counted! = count! ∙ ap countOf w!
+
+  abbrev lowest : ℕ
+  lowest = lowestOf (transmittersIn g)
+
+  pub sole-taken : count ≡ 1 → (place : ℕ) → place ≡ lowestOf w → soleAt g place ≡ soleOf g (heardIn g)
+  sole-taken one place e =
+      ap (soleAt g) (e ∙ ap lowestOf w!)
+      ∙ sym (ap (λ t. cond t (soleAt g lowest) noSole) (eq-eqb (countOf (transmittersIn g)) 1 (sym counted! ∙ one)))
+
+  pub sole-left : ¬ (count ≡ 1) → noSole ≡ soleOf g (heardIn g)
+  sole-left n = sym (ap (λ t. cond t (soleAt g lowest) noSole) (ne-eqb (countOf (transmittersIn g)) 1 (λ one. n (counted! ∙ one))))

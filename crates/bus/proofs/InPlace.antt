@@ -1,12 +1,12 @@
 -- A call made in place, on a segment and queues that are held apart: the laws that `admit`, `step` and `playing::calls` go by. Assumes nothing.
 use Prim.Native.Nat.{ℕ, _+_, _-_, _≤_, _<_}
 use mathlib.Core.Path.{_≡_, refl, sym, ap, ap₂, _∙_, subst}
-use mathlib.Core.Bool.{Bool, true, false, not, _&&_, cond}
+use mathlib.Core.Bool.{Bool, true, false, _&&_, cond}
 use mathlib.Core.List.{List}
 use native.Mathlib.Omega.{arith}
 use lib.Dec.{eqb, ltb}
 use lib.ListN.{length, getD, set, replicate}
-use borrow.Author.Tests.{ltb-false, eq-eqb, ne-eqb}
+use borrow.Author.Tests.{eq-eqb, ne-eqb}
 use Rattle.window.specs.declared.Side.{Side}
 use Rattle.window.specs.declared.Side.the-variants.{Left, Right}
 use Rattle.rules.specs.SetUp.{disciplineOf}
@@ -24,13 +24,14 @@ use Rattle.rules.proofs.Keeps.{begin-stands}
 use Rattle.rules.proofs.Laws.{clash, true-and}
 use Rattle.rules.proofs.Tests as Tests
 use Rattle.rules.proofs.Standing.{stands-exactly}
-use Rattle.bus.specs.Types.{Address, Settings, Contender, Contention, Segment, Queues, State, Arrival}
-use Rattle.state.specs.State.{noContender, Held, meaning, form, queueAt, standing}
+use Rattle.bus.specs.Types.{Address, Settings, Segment, Queues, State, Arrival}
+use Rattle.word.specs.Word.{countOf}
+use Rattle.state.specs.State.{Recorded, recordedIn, Held, meaning, form, queueAt, standing}
 use Rattle.bus.specs.Coded.{Answer, Stepped, Admission, arrivalOf, codedAdmit, codedStep, coded, admissionResult, stepResult}
 use Rattle.bus.specs.Stretch.{Arrivals, Report, noArrival, most-calls, noReport, asks, due, arrivalReport, stepReport, inRow, mayBeMore}
-use Rattle.bus.specs.Parts.{openingOf, refusalAt, answered, Asked, askedIf, begunWith, Heard, Progress, Moved, unheardOn, wonOn, collidedOn, heardIn, movedBy, withMoved, segmentWith, queueForm, stays, Sent}
+use Rattle.bus.specs.Parts.{refusalAt, answered, Asked, askedIf, begunWith, Progress, Moved, unheardOn, wonOn, collidedOn, transmittersIn, movedBy, withMoved, segmentWith, queueForm, stays, Sent}
 use Rattle.state.specs.Parts.{noContenders}
-use Rattle.state.proofs.Rows.{row-replicate}
+use Rattle.state.proofs.Contenders.{zeroed, none-recorded}
 use Rattle.state.proofs.Form.{held-form, parts-padded}
 use Rattle.state.proofs.Stands.{form-stands}
 use Rattle.bus.proofs.Coded.{next-is, next-stands}
@@ -38,12 +39,10 @@ use Rattle.state.proofs.Stands.{Lent, lent-held}
 use Rattle.bus.proofs.Admitting.{refusal-is, gives-1, gives-refusal, joinedAt, in-row, room-at, joined-in-place, addressPlace}
 use Rattle.bus.proofs.SingleCalls.{next-same}
 use Rattle.bus.proofs.ClosingUp.{LeftIn}
-use Rattle.state.proofs.Tested.{denied}
-use Rattle.bus.proofs.BeginningLaws.{inTimeAt, begunState, begun-is, begun-idle, none-dropped, all-in-time, waiting-dropped}
-use Rattle.bus.proofs.BeginningLaws.{opened as begun-state}
+use Rattle.bus.proofs.BeginningLaws.{inTimeAt, begunState, begun-is, waiting-dropped}
 use Rattle.bus.proofs.Steps as Steps
 use Rattle.bus.proofs.Steps.{gives-17, goes-on, begins, probes}
-use Rattle.bus.proofs.ProbedSlot.{Probed, probed, queuesAfter, slotWith, winner-there, probed-is, openOf, progressOf}
+use Rattle.bus.proofs.ProbedSlot.{Probed, probed, Sole, soleOf, heardIn, queuesAfter, slotWith, winner-there, probed-is, openOf, progressOf}
 use Rattle.bus.proofs.HeardLaws.{answer-moved, segment-moved, winner-moved}
 use Rattle.bus.proofs.Stretched.{So-far, at-first, row-due, took, stepped-on}
 use Rattle.bus.proofs.QueueLaws.{withQueue}
@@ -178,9 +177,11 @@ pub record Opened (s : State) (g : Segment) (queues : Queues) (drops : ℕ) : Ty
   pub ready : Lent (whole g queues)
   pub begun : g .contention .begun ≡ true
   pub clock : g .clock ≡ s .segment .clock
+  pub settings : g .settings ≡ s .segment .settings
+  pub listed : g .listed ≡ s .segment .listed
 
 pub was-open : (s : State) → Lent s → s .segment .contention .begun ≡ true → Opened s (s .segment) (s .queues) 0
-was-open s r e = record { is = goes-on s e; ready = r; begun = e; clock = refl }
+was-open s r e = record { is = goes-on s e; ready = r; begun = e; clock = refl; settings = refl; listed = refl }
 
 -- the same, of equal things
 pub opened-as :
@@ -192,60 +193,80 @@ opened-as {s} {g} {g′} {queues} {queues′} {drops} {drops′} a b c o =
 
 -- it has just begun
 now-open :
-    (s : State) → Lent s → s .segment .contention .begun ≡ false → (x : State) → x ≡ form (begin (meaning s)) → (drops : ℕ)
-    → drops ≡ dropsOf (meaning s) → Opened s (x .segment) (x .queues) drops
-now-open s r e x f drops d =
-    opened-as (ap (λ (y : State). y .segment) f) (ap (λ (y : State). y .queues) f) d
-    (record {
-      is = begins s r e;
-      ready = lent-form (begin (meaning s)) (begin-stands (meaning s) (r .stands));
-      begun = refl;
-      clock = refl;
-    })
+    (s : State) → Lent s → s .segment .contention .begun ≡ false → (x : State) → x ≡ form (begin (meaning s))
+    → x .segment .settings ≡ s .segment .settings → x .segment .listed ≡ s .segment .listed → (drops : ℕ) → drops ≡ dropsOf (meaning s) → Opened s (x .segment) (x .queues) drops
+now-open s r e x f set-up same drops d =
+    let o = begun-form in
+    record {
+      is = o .is;
+      ready = o .ready;
+      begun = o .begun;
+      clock = o .clock;
+      settings = set-up;
+      listed = same;
+    }
+  where
+    -- all but how the stations are listed, of the form
+    begun-form :
+        record {
+          is : opened (meaning s) ≡ openOf (whole (x .segment) (x .queues)) drops;
+          ready : Lent (whole (x .segment) (x .queues));
+          begun : x .segment .contention .begun ≡ true;
+          clock : x .segment .clock ≡ s .segment .clock;
+        }
+    begun-form =
+        subst
+        (λ (y : State).
+        record {
+          is : opened (meaning s) ≡ openOf (whole (y .segment) (y .queues)) drops;
+          ready : Lent (whole (y .segment) (y .queues));
+          begun : y .segment .contention .begun ≡ true;
+          clock : y .segment .clock ≡ s .segment .clock;
+        })
+        (sym f)
+        (subst
+        (λ (k : ℕ).
+        record {
+          is : opened (meaning s) ≡ openOf (form (begin (meaning s))) k;
+          ready : Lent (form (begin (meaning s)));
+          begun : form (begin (meaning s)) .segment .contention .begun ≡ true;
+          clock : form (begin (meaning s)) .segment .clock ≡ s .segment .clock;
+        })
+        (sym d)
+        (record {
+          is = begins s r e;
+          ready = lent-form (begin (meaning s)) (begin-stands (meaning s) (r .stands));
+          begun = refl;
+          clock = refl;
+        }))
 
--- a segment with another contention and other contenders
-abbrev pub contending : Segment → Contention → List Contender → Segment
-contending g k contenders = segmentWith g (g .clock .0) (g .sent) (g .round) k contenders
-
-module _ (s : State) (r : Lent s) (between : s .segment .contention .begun ≡ false) (k : Contention) (k! : k ≡ openingOf (s .segment .settings .d)) where
-  -- a contention begins where no packet waits
-  pub idle-open :
-      {waits : Bool} → waits ≡ ltb (s .segment .sent + s .segment .lost) (s .segment .admitted) → not waits ≡ true
-      → Opened s (contending (s .segment) k (s .segment .contenders)) (s .queues) 0
-  idle-open e n =
-      let none = ltb-false (s .segment .sent + s .segment .lost) (s .segment .admitted) (denied e n) in
-      let idle : s .segment .sent + s .segment .lost ≡ s .segment .admitted = omega (arith, r .stands .counts) in
-      opened-as (ap (λ (c : Contention). contending (s .segment) c (s .segment .contenders)) k!) refl refl
-      (now-open s r between (begun-state s) (begun-idle s r between idle) 0 (sym (none-dropped s r between idle)))
-
--- and where packets wait, of which these are left
+-- the packets that are left
 module _ (s : State) (r : Lent s) (between : s .segment .contention .begun ≡ false) (rest : Queues)
     (kept : LeftIn (inTimeAt s) (s .queues) 0 (s .segment .settings .n) rest) (ls : length (rest .lengths) ≡ 64) (ps : length (rest .packets) ≡ 1024) where
   pub begun-open :
       (drops : ℕ) → drops ≡ dropsOf (meaning s) → (g : Segment) → g ≡ begunWith (s .segment) rest drops → Opened s g rest drops
   begun-open drops e g f =
       opened-as f refl refl
-      (now-open s r between (begunState s rest drops) (begun-is s r rest kept drops e ls ps) drops e)
+      (now-open s r between (begunState s rest drops) (begun-is s r rest kept drops e ls ps) refl refl drops e)
 
--- nothing is late but in RTDG
+-- no packet leaves where all are in time
 pub offered-open :
-    (s : State) (r : Lent s) → s .segment .contention .begun ≡ false → ¬ (s .segment .settings .discipline ≡ 1) → (g : Segment)
-    → g ≡ begunWith (s .segment) (s .queues) 0 → Opened s g (s .queues) 0
-offered-open s r between n g f =
-    let kept = all-in-time s r n in
+    (s : State) (r : Lent s) → s .segment .contention .begun ≡ false → LeftIn (inTimeAt s) (s .queues) 0 (s .segment .settings .n) (s .queues)
+    → (g : Segment) → g ≡ begunWith (s .segment) (s .queues) 0 → Opened s g (s .queues) 0
+offered-open s r between kept g f =
     let none : 0 ≡ dropsOf (meaning s) = omega (arith, waiting-dropped s r (s .queues) kept (r .held .lengths)) in
     begun-open s r between (s .queues) kept (r .held .lengths) (r .held .packets) 0 none g f
 
 -- ---- a probe in place
 
 -- a contention that goes on has no winner
-module _ (g : Settings) (pr : Progress) (drops : ℕ) (heard : Heard) where
+module _ (g : Settings) (pr : Progress) (drops count : ℕ) (sole : Sole) where
   abbrev by : Bool → Bool → Side → Moved
   by none one side =
       cond
       none
       (unheardOn pr drops side)
-      (cond one (wonOn (disciplineOf (g .discipline)) pr drops (heard .listed) (heard .packet)) (collidedOn (g .a) pr drops))
+      (cond one (wonOn (disciplineOf (g .discipline)) pr drops (sole .listed) (sole .packet)) (collidedOn (g .a) pr drops))
 
   unended-by : (none one : Bool) (side : Side) → by none one side .answer .ended ≡ false → by none one side .answer .event ≡ success → ⊥
   unended-by true one Left f k = omega arith
@@ -253,18 +274,19 @@ module _ (g : Settings) (pr : Progress) (drops : ℕ) (heard : Heard) where
   unended-by false true side f k = clash refl f
   unended-by false false side f k = omega arith
 
-  pub unended : (m : Moved) → m ≡ movedBy g pr drops heard → m .answer .ended ≡ false → ¬ (m .answer .event ≡ success)
+  pub unended :
+      (m : Moved) → m ≡ movedBy g pr drops count (sole .listed) (sole .packet) → m .answer .ended ≡ false → ¬ (m .answer .event ≡ success)
   unended m e f k =
-      unended-by (eqb (heard .first) (g .n)) (eqb (heard .second) (g .n)) (pr .contention .window .side)
+      unended-by (eqb count 0) (eqb count 1) (pr .contention .window .side)
       (sym (ap (λ (o : Moved). o .answer .ended) e) ∙ f)
       (sym (ap (λ (o : Moved). o .answer .event) e) ∙ k)
 
 module _ (s : State) (r : Lent s) (in-time : ltb last-slot (s .segment .clock .0) ≡ false) (g : Segment) (queues : Queues) (drops : ℕ)
-    (o : Opened s g queues drops) (heard : Heard) (h : heard ≡ heardIn g) (m : Moved)
-    (e : m ≡ movedBy (g .settings) (progressOf g) drops heard) where
+    (o : Opened s g queues drops) (sole : Sole) (h : sole ≡ soleOf g (heardIn g)) (m : Moved)
+    (e : m ≡ movedBy (g .settings) (progressOf g) drops (countOf (transmittersIn g)) (sole .listed) (sole .packet)) where
   -- it is what the machine's probe makes of the bus
-  whole-moved : m ≡ movedBy (g .settings) (progressOf g) drops (heardIn g)
-  whole-moved = e ∙ ap (movedBy (g .settings) (progressOf g) drops) h
+  whole-moved : m ≡ movedBy (g .settings) (progressOf g) drops (countOf (transmittersIn g)) (soleOf g (heardIn g) .listed) (soleOf g (heardIn g) .packet)
+  whole-moved = e ∙ ap (λ (x : Sole). movedBy (g .settings) (progressOf g) drops (countOf (transmittersIn g)) (x .listed) (x .packet)) h
 
   abbrev p : Probed
   p = probed g drops
@@ -290,7 +312,7 @@ module _ (s : State) (r : Lent s) (in-time : ltb last-slot (s .segment .clock .0
       ∙ probes s r in-time (openOf (whole g queues) drops) (o .is)
 
   -- the answer, and the state with these contenders and queues
-  abbrev placed : List Contender → Queues → Stepped
+  abbrev placed : Recorded → Queues → Stepped
   placed contenders rest =
       record {
         answer = m .answer;
@@ -301,8 +323,8 @@ module _ (s : State) (r : Lent s) (in-time : ltb last-slot (s .segment .clock .0
       }
 
   contenders-of :
-      {ended : Bool} → m .answer .ended ≡ ended → (rest : Queues) → placed (cond ended noContenders (g .contenders)) rest ≡ after rest
-  contenders-of f rest = ap (λ (t : Bool). placed (cond t noContenders (g .contenders)) rest) (sym f)
+      {ended : Bool} → m .answer .ended ≡ ended → (rest : Queues) → placed (cond ended noContenders (recordedIn g)) rest ≡ after rest
+  contenders-of f rest = ap (λ (t : Bool). placed (cond t noContenders (recordedIn g)) rest) (sym f)
 
   -- no packet was sent
   pub none-sent : ¬ (m .answer .event ≡ success) → after queues ≡ stepResult (codedStep s)
@@ -310,16 +332,16 @@ module _ (s : State) (r : Lent s) (in-time : ltb last-slot (s .segment .clock .0
       after-is false (ne-eqb (p .answer .event) success (λ k. n (ap (λ (x : Answer). x .event) answer! ∙ k))) queues refl
 
   -- the winner is a station
-  winner! : m .answer .event ≡ success → heard .first ≡ p .winner
-  winner! k = ap (λ (x : Heard). x .first) h ∙ sym (winner-moved g drops (ap (λ (x : Moved). x .answer .event) (sym whole-moved) ∙ k))
+  winner! : m .answer .event ≡ success → sole .place ≡ p .winner
+  winner! k = ap (λ (x : Sole). x .place) h ∙ sym (winner-moved g drops (ap (λ (x : Moved). x .answer .event) (sym whole-moved) ∙ k))
 
-  pub winner-in : m .answer .event ≡ success → heard .first < most-stations
+  pub winner-in : m .answer .event ≡ success → sole .place < most-stations
   winner-in k = omega (arith, winner! k, winner-there (whole g queues) (o .ready) drops p refl)
 
   -- the winner's packet leaves its queue
   pub one-sent :
       m .answer .event ≡ success → (rest : Queues)
-      → rest ≡ withQueue queues (heard .first) (queueForm (keep (stays (Sent (m .answer .number))) (queueAt queues (heard .first))))
+      → rest ≡ withQueue queues (sole .place) (queueForm (keep (stays (Sent (m .answer .number))) (queueAt queues (sole .place))))
       → after rest ≡ stepResult (codedStep s)
   one-sent k rest f =
       after-is true
@@ -332,20 +354,20 @@ module _ (s : State) (r : Lent s) (in-time : ltb last-slot (s .segment .clock .0
       (ap (λ (x : Answer). x .number) answer!))
 
   -- the contention goes on; or it ends, without a winner or with one
-  pub still-on : m .answer .ended ≡ false → placed (g .contenders) queues ≡ stepResult (codedStep s)
-  still-on f = contenders-of f queues ∙ none-sent (unended (g .settings) (progressOf g) drops heard m e f)
+  pub still-on : m .answer .ended ≡ false → placed (recordedIn g) queues ≡ stepResult (codedStep s)
+  still-on f = contenders-of f queues ∙ none-sent (unended (g .settings) (progressOf g) drops (countOf (transmittersIn g)) sole m e f)
 
-  cleared : (rest : Queues) → placed (replicate 64 noContender) rest ≡ placed noContenders rest
-  cleared rest = ap (λ (os : List Contender). placed os rest) (row-replicate 64 noContender)
+  cleared : (rest : Queues) → placed zeroed rest ≡ placed noContenders rest
+  cleared rest = ap (λ (os : Recorded). placed os rest) none-recorded
 
   pub ends-unheard :
-      m .answer .ended ≡ true → ¬ (m .answer .event ≡ success) → placed (replicate 64 noContender) queues ≡ stepResult (codedStep s)
+      m .answer .ended ≡ true → ¬ (m .answer .event ≡ success) → placed zeroed queues ≡ stepResult (codedStep s)
   ends-unheard f n = cleared queues ∙ contenders-of f queues ∙ none-sent n
 
   pub ends-won :
       m .answer .ended ≡ true → m .answer .event ≡ success → (rest : Queues)
-      → rest ≡ withQueue queues (heard .first) (queueForm (keep (stays (Sent (m .answer .number))) (queueAt queues (heard .first))))
-      → placed (replicate 64 noContender) rest ≡ stepResult (codedStep s)
+      → rest ≡ withQueue queues (sole .place) (queueForm (keep (stays (Sent (m .answer .number))) (queueAt queues (sole .place))))
+      → placed zeroed rest ≡ stepResult (codedStep s)
   ends-won f k rest h′ = cleared rest ∙ contenders-of f rest ∙ one-sent k rest h′
 
 -- ---- what a stretch has come to, in place

@@ -1,34 +1,38 @@
 -- One probe of a state: what `probed` makes of the segment, with the winner's packet gone from its queue, is the form of
 -- what the machine's probe makes of the state's meaning. Assumes nothing.
 use Prim.Native.Nat.{ℕ, zero, suc, _+_, _-_, _≤_, _<_}
-use mathlib.Core.Path.{_≡_, refl, sym, ap, _∙_, subst, subst₂}
+use mathlib.Core.Path.{_≡_, refl, sym, ap, ap₂, _∙_, subst, subst₂}
 use mathlib.Core.Bool.{Bool, true, false, not, _&&_, _||_, cond}
 use mathlib.Core.Option.{Option, none, some}
-use mathlib.Core.List.{List, [], _∷_, map}
+use mathlib.Core.List.{List, [], _∷_, _++_, map, append-nil}
 use native.Mathlib.Numerals.{add-one}
 use native.Mathlib.Omega.{arith}
 use lib.Dec.{leb, eqb}
 use lib.ListN.{length, getD}
-use borrow.Author.Tests.{eqb-true, eqb-false, eq-eqb, ne-eqb}
+use borrow.Author.Tests.{eqb-true, ne-eqb}
 use Rattle.window.specs.declared.Side.{Side}
 use Rattle.window.specs.declared.Side.the-variants.{Left, Right}
-use Rattle.window.specs.Splitting.{firstWindow, leftHalf, moveRight, movedRight, placed}
+use Rattle.word.specs.Word.{bitAt, members, placesFrom, placed, firstOr}
+use Rattle.word.proofs.Laws.{members-word, places-same, places-none, places-split}
+use Rattle.window.specs.Splitting as Splitting
+use Rattle.window.specs.Splitting.{firstWindow, leftHalf, moveRight, movedRight, inWindow}
 use Rattle.window.proofs.Facts.{moved-right}
 use Rattle.rules.specs.Lists.{kept, keep, Among}
 use Rattle.rules.specs.Bus as Machine
-use Rattle.rules.specs.Bus.{Discipline, PRI, RTDG, RTVC, Station, Bus, places, most-stations}
+use Rattle.rules.specs.Bus.{Discipline, PRI, RTDG, RTVC, Station, Bus, places, most-stations, late}
+use Rattle.rules.specs.SetUp.{disciplineOf}
 use Rattle.rules.specs.Standing.{OfferStands, StationStands, WindowStands, ContentionStands}
 use Rattle.rules.specs.Probe as Probe
-use Rattle.rules.specs.Probe.{contending, contenders, transmits, transmitters, phaseOf, tie-phase, parameter-phase, idle, collision, success, waitOf, answered, unsent, sentBy, goesOn, withdrawn, unwon, left, lastWinner, tiedAt, split, heard, probe}
+use Rattle.rules.specs.Probe.{contending, contenders, lies-in, able, transmits, transmitters, phaseOf, tie-phase, parameter-phase, idle, collision, success, waitOf, answered, unsent, sentBy, goesOn, withdrawn, unwon, left, lastWinner, tiedAt, split, heard, probe}
 use Rattle.rules.proofs.Laws.{and-true, true-and, count-some, count-le, total-among}
 use Rattle.bus.specs.Types.{Packet, Address, Capability, Listed, Contention, Round, Segment, Queues, State}
-use Rattle.state.specs.State.{Held, noPacket, noContender, noRound, noContention, nobody, queueAt, offerOf, stationWith, stationAt, valuesFrom, stationsOf, lastOf, tieOf, contentionOf, meaning, form, contender-padded, no-station, round-padded, no-window, contention-padded}
+use Rattle.state.specs.State.{Held, recordedIn, recordedAt, placeIn, noPacket, noContender, noRound, noContention, nobody, queueAt, offerOf, stationWith, stationAt, valuesFrom, stationsOf, lastOf, tieOf, contentionOf, meaning, form, contender-padded, no-station, round-padded, no-window, contention-padded}
 use Rattle.bus.specs.Coded.{Answer, Stepped, answerForm, stepResult}
-use Rattle.bus.specs.Parts.{Heard, Progress, Moved, Sent, stays, queueForm, firstPlace, contenderAt, transmitsAt, nextTransmitter, answerAt, splitOf, collidedOn, unheardOn, roundAfter, wonOn, heardIn, movedBy, segmentWith, withMoved}
+use Rattle.bus.specs.Parts.{Progress, Moved, Sent, stays, queueForm, contenderAt, liesIn, addressesOf, transmittersIn, answerAt, splitOf, collidedOn, unheardOn, roundAfter, wonOn, movedBy, segmentWith, withMoved}
 use Rattle.state.specs.Parts.{noContenders}
-use Rattle.state.proofs.Rows.{values-map, values-same, row-length, row-at, among-values}
-use Rattle.bus.proofs.FirstPlace.{first-place-le}
-use Rattle.state.proofs.Form.{Padded, parts-padded, to-form}
+use Rattle.state.proofs.Rows.{values-map, values-same, row-at, among-values}
+use Rattle.state.proofs.Contenders.{recorded-held, place-recorded}
+use Rattle.state.proofs.Form.{Padded, parts-padded, to-form, bits-past-N}
 use Rattle.bus.proofs.QueueLaws.{kept-length, withQueue}
 use Rattle.state.proofs.Stands.{Lent}
 use Rattle.bus.proofs.Changed.{own-address, requeued, requeued-held, requeued-padded, stations-now}
@@ -55,40 +59,130 @@ abbrev pub progressOf : Segment → Progress
 progressOf g = record { clock = g .clock; sent = g .sent; round = g .round; contention = g .contention }
 
 abbrev probedWith : Segment → Moved → ℕ → Probed
-probedWith g m first =
-    record { answer = m .answer; segment = withMoved g m; winner = cond (eqb (m .answer .event) success) first 0 }
+probedWith g m place =
+    record { answer = m .answer; segment = withMoved g m; winner = cond (eqb (m .answer .event) success) place 0 }
+
+-- the sole winner where one transmits: its place, how it is listed, and its packet; zeros where none or more than one do
+pub record Sole : Type 0 where
+  pub place : ℕ
+  pub listed : Listed
+  pub packet : Packet
+
+abbrev pub noSole : Sole
+noSole = record { place = 0; listed = nobody; packet = noPacket }
+
+abbrev pub soleAt : Segment → ℕ → Sole
+soleAt g i = record { place = i; listed = getD (g .listed) i nobody; packet = recordedAt g i .packet }
+
+-- of the places of those who transmit
+abbrev pub soleOf : Segment → List ℕ → Sole
+soleOf g places = cond (eqb (length places) 1) (soleAt g (firstOr places)) noSole
+
+-- two or more have no sole winner
+pub sole-more : (g : Segment) (i j : ℕ) (places : List ℕ) → soleOf g (i ∷ j ∷ places) ≡ noSole
+sole-more g i j places = ap (λ t. cond t (soleAt g i) noSole) (ne-eqb (suc (suc (length places))) 1 (λ e. omega arith))
+
+abbrev probedBy : Segment → ℕ → List ℕ → Probed
+probedBy g drops places =
+    probedWith
+    g
+    (movedBy (g .settings) (progressOf g) drops (length places) (soleOf g places .listed) (soleOf g places .packet))
+    (soleOf g places .place)
+
+probed-more :
+    (g : Segment) (drops i j : ℕ) (places : List ℕ)
+    → probedBy g drops (i ∷ j ∷ places) ≡ probedWith g (collidedOn (g .settings .a) (progressOf g) drops) 0
+probed-more g drops i j places =
+    ap
+    (λ (x : Sole). probedWith g (movedBy (g .settings) (progressOf g) drops (suc (suc (length places))) (x .listed) (x .packet)) (x .place))
+    (sole-more g i j places)
+    ∙ ap₂
+    (λ none one.
+    probedWith
+    g
+    (cond
+    none
+    (unheardOn (progressOf g) drops (g .contention .window .side))
+    (cond
+    one
+    (wonOn (disciplineOf (g .settings .discipline)) (progressOf g) drops nobody noPacket)
+    (collidedOn (g .settings .a) (progressOf g) drops)))
+    0)
+    (ne-eqb (suc (suc (length places))) 0 (λ e. omega arith))
+    (ne-eqb (suc (suc (length places))) 1 (λ e. omega arith))
+
+abbrev pub heardIn : Segment → List ℕ
+heardIn g = members (transmittersIn g)
 
 abbrev pub probed : Segment → ℕ → Probed
-probed g drops = probedWith g (movedBy (g .settings) (progressOf g) drops (heardIn g)) (heardIn g .first)
+probed g drops = probedBy g drops (heardIn g)
 
 -- ---- who transmits
+
+-- the first of the places for which a test holds is one of them
+first-in :
+    (f : ℕ → Bool) (i k : ℕ) {m : ℕ} {ms : List ℕ} → placesFrom f i k ≡ m ∷ ms → (i ≤ m) × (m < i + k) × (f m ≡ true)
+first-in f i zero e = let n = ap length e in absurd (omega arith)
+first-in f i (suc k) {m} {ms} e = go (f i) refl e (first-in f (suc i) k)
+  where
+    go :
+        (t : Bool) → f i ≡ t → placed t i (placesFrom f (suc i) k) ≡ m ∷ ms
+        → (placesFrom f (suc i) k ≡ m ∷ ms → (suc i ≤ m) × (m < suc i + k) × (f m ≡ true)) → (i ≤ m) × (m < i + suc k) × (f m ≡ true)
+    go true h q later = let same = ap firstOr q in (omega arith, omega arith, ap f (sym same) ∙ h)
+    go false h q later = let r = later q in (omega (arith, r .0), omega (arith, r .1), r .2)
 
 module _ (s : State) where
   abbrev n : ℕ
   n = s .segment .settings .n
 
-  -- the first and the second station that transmit; N where there is none
-  abbrev first : ℕ
-  first = nextTransmitter (s .segment) 0
-
-  abbrev second : ℕ
-  second = nextTransmitter (s .segment) (suc first)
-
   -- the contention under way
   abbrev under-way : Machine.Contention
   under-way = record { window = s .segment .contention .window; tie = tieOf (s .segment .contention) }
+
+  -- whether station i contends and transmits
+  abbrev pub transmitsAt : ℕ → Bool
+  transmitsAt i = recordedAt (s .segment) i .contends && transmits (meaning s) under-way (contenderAt (s .segment) i)
+
+  -- which is what the numbers that a probe is lent say
+  lent-same :
+      (i : ℕ) → i < most-stations
+      → (bitAt (s .segment .contenders) i
+      && (liesIn (s .segment .contention) (getD (s .segment .parameters) i 0) (getD (addressesOf (s .segment .listed)) i 0)
+      && not (late (meaning s .discipline) (s .segment .clock .0) (getD (s .segment .values) i 0))))
+      ≡ transmitsAt i
+  lent-same i l =
+      ap
+      (λ (a : ℕ).
+      bitAt (s .segment .contenders) i
+      && (liesIn (s .segment .contention) (getD (s .segment .parameters) i 0) a
+      && not (late (meaning s .discipline) (s .segment .clock .0) (getD (s .segment .values) i 0))))
+      (row-at most-stations (λ j. getD (s .segment .listed) j nobody .address .0) i 0 l)
+      ∙ go (s .segment .contention .tied)
+    where
+      x : Probe.Contender
+      x = contenderAt (s .segment) i
+
+      go :
+          (t : Bool)
+          → (bitAt (s .segment .contenders) i
+          && (cond
+          t
+          (eqb (x .parameter) (s .segment .contention .tie) && inWindow (s .segment .contention .window) (x .address))
+          (inWindow (s .segment .contention .window) (x .parameter))
+          && able (meaning s .discipline) (s .segment .clock .0) x))
+          ≡ (bitAt (s .segment .contenders) i
+          && (lies-in (s .segment .contention .window) (cond t (some (s .segment .contention .tie)) none) x
+          && able (meaning s .discipline) (s .segment .clock .0) x))
+      go true = refl
+      go false = refl
 
   -- those who transmit of the k stations from place i on
   abbrev heardFrom : ℕ → ℕ → List Probe.Contender
   heardFrom i k = keep (transmits (meaning s) under-way) (contenders (valuesFrom (stationAt s) i k))
 
-  -- those who transmit where f is the first place of one
-  abbrev heardAt : ℕ → List Probe.Contender
-  heardAt f = cond (eqb f n) [] (contenderAt (s .segment) f ∷ heardFrom (suc f) (n - suc f))
-
   -- the station at a place comes first, if it transmits
-  heard-place : (i k : ℕ) → heardFrom i (suc k) ≡ kept (transmitsAt (s .segment) i) (contenderAt (s .segment) i) (heardFrom (suc i) k)
-  heard-place i k = go (getD (s .segment .contenders) i noContender .contends)
+  heard-place : (i k : ℕ) → heardFrom i (suc k) ≡ kept (transmitsAt i) (contenderAt (s .segment) i) (heardFrom (suc i) k)
+  heard-place i k = go (recordedAt (s .segment) i .contends)
     where
       x : Probe.Contender
       x = contenderAt (s .segment) i
@@ -105,31 +199,49 @@ module _ (s : State) where
       go true = refl
       go false = refl
 
-  heard-first : (i k : ℕ) → i + k ≡ n → heardFrom i k ≡ heardAt (firstPlace (transmitsAt (s .segment)) i k)
-  heard-first i zero e =
-      let end : i ≡ n = omega arith in
-      sym (ap (λ t. cond t [] (contenderAt (s .segment) i ∷ heardFrom (suc i) (n - suc i))) (eq-eqb i n end))
-  heard-first i (suc k) e = heard-place i k ∙ go (transmitsAt (s .segment) i) (heard-first (suc i) k (omega arith))
+  heard-places : (i k : ℕ) → heardFrom i k ≡ map (contenderAt (s .segment)) (placesFrom transmitsAt i k)
+  heard-places i zero = refl
+  heard-places i (suc k) = heard-place i k ∙ go (transmitsAt i) (heard-places (suc i) k)
     where
       go :
-          (t : Bool) → heardFrom (suc i) k ≡ heardAt (firstPlace (transmitsAt (s .segment)) (suc i) k)
-          → kept t (contenderAt (s .segment) i) (heardFrom (suc i) k) ≡ heardAt (cond t i (firstPlace (transmitsAt (s .segment)) (suc i) k))
-      go true more =
-          let rest : k ≡ n - suc i = omega arith in
-          let there : eqb i n ≡ false = ne-eqb i n (λ q. omega arith) in
-          ap (λ m. contenderAt (s .segment) i ∷ heardFrom (suc i) m) rest
-          ∙ sym (ap (λ t. cond t [] (contenderAt (s .segment) i ∷ heardFrom (suc i) (n - suc i))) there)
+          (t : Bool) → heardFrom (suc i) k ≡ map (contenderAt (s .segment)) (placesFrom transmitsAt (suc i) k)
+          → kept t (contenderAt (s .segment) i) (heardFrom (suc i) k)
+          ≡ map (contenderAt (s .segment)) (placed t i (placesFrom transmitsAt (suc i) k))
+      go true more = ap (λ xs. contenderAt (s .segment) i ∷ xs) more
       go false more = more
 
-  -- all who transmit, and those after the first
-  all-heard : transmitters (meaning s) under-way ≡ heardAt first
-  all-heard = let all : n ≡ n - 0 = omega arith in ap (heardFrom 0) all ∙ heard-first 0 (n - 0) (omega arith)
+  -- the word's members are the stations that transmit: bits at N and above are clear
+  module _ (r : Lent s) where
+    nobody-sends : (j : ℕ) → n ≤ j → j < most-stations → transmitsAt j ≡ false
+    nobody-sends j m l =
+        ap (λ t. t && transmits (meaning s) under-way (contenderAt (s .segment) j)) (bits-past-N s (r .held) (r .zeros) j m)
 
-  others-heard : first < n → heardFrom (suc first) (n - suc first) ≡ heardAt second
-  others-heard l = heard-first (suc first) (n - suc first) (omega arith)
+    pub members-are : heardIn (s .segment) ≡ placesFrom transmitsAt 0 n
+    members-are =
+        let few = r .few in
+        let all : n + (most-stations - n) ≡ most-stations = omega arith in
+        members-word lent-test
+        ∙ places-same lent-test transmitsAt 0 most-stations (λ j l m. lent-same j (omega arith))
+        ∙ ap (placesFrom transmitsAt 0) (sym all)
+        ∙ places-split transmitsAt 0 n (most-stations - n)
+        ∙ ap
+        (λ ms. placesFrom transmitsAt 0 n ++ ms)
+        (places-none transmitsAt (0 + n) (most-stations - n) (λ j l m. nobody-sends j (omega arith) (omega arith)))
+        ∙ append-nil (placesFrom transmitsAt 0 n)
+      where
+        lent-test : ℕ → Bool
+        lent-test i =
+            bitAt (s .segment .contenders) i
+            && (liesIn (s .segment .contention) (getD (s .segment .parameters) i 0) (getD (addressesOf (s .segment .listed)) i 0)
+            && not (late (disciplineOf (s .segment .settings .discipline)) (s .segment .clock .0) (getD (s .segment .values) i 0)))
 
-  first-there : eqb first n ≡ false → first < n
-  first-there e = let other = eqb-false first n e in omega (arith, first-place-le (transmitsAt (s .segment)) 0 n (omega arith))
+    -- all who transmit, as the rules have them
+    all-heard : transmitters (meaning s) under-way ≡ map (contenderAt (s .segment)) (heardIn (s .segment))
+    all-heard = heard-places 0 n ∙ sym (ap (map (contenderAt (s .segment))) members-are)
+
+    -- the first of them is a station that transmits
+    pub first-sends : {m : ℕ} {ms : List ℕ} → heardIn (s .segment) ≡ m ∷ ms → (m < n) × (transmitsAt m ≡ true)
+    first-sends e = let r = first-in transmitsAt 0 n (sym members-are ∙ e) in (omega (arith, r .1), r .2)
 
 -- ---- what a probe makes of a bus: other stations, clock, sent count, last winner and contention
 
@@ -155,7 +267,7 @@ moved b stations clock sent last contention =
 abbrev onward : State → Contention → State
 onward s c =
     let g = s .segment in
-    record { segment = segmentWith g (g .clock .0 + 1) (g .sent) (g .round) c (g .contenders); queues = s .queues }
+    record { segment = segmentWith g (g .clock .0 + 1) (g .sent) (g .round) c (recordedIn g); queues = s .queues }
 
 goes-on :
     (s : State) → Lent s → (c : Contention) (m : Machine.Contention) → contention-padded c ≡ true → contentionOf c ≡ some m
@@ -226,8 +338,8 @@ module _ (s : State) where
 
 -- ---- the contention ends
 
-nobody-contends : (j : ℕ) → j < most-stations → getD noContenders j noContender ≡ noContender
-nobody-contends j l = row-at most-stations (λ i. noContender) j noContender l
+nobody-contends : (j : ℕ) → j < most-stations → placeIn noContenders j ≡ noContender
+nobody-contends j l = place-recorded (λ i. noContender) j l
 
 -- the round after a success
 last-is : (d : Discipline) (c : Capability) (x : Probe.Contender) → c .0 ≡ x .capability → lastOf (roundAfter d c) ≡ lastWinner d x
@@ -257,7 +369,7 @@ module _ (s : State) (r : Lent s) where
   ended-held clock sent round =
       record {
         listed = r .held .listed;
-        contenders = row-length most-stations (λ i. noContender);
+        contenders = recorded-held (λ i. noContender);
         lengths = r .held .lengths;
         packets = r .held .packets;
       }
@@ -278,7 +390,7 @@ module _ (s : State) (r : Lent s) where
           let who = getD (s .segment .listed) i nobody in
           let none-there = eqb (who .address .0) 0 && eqb (who .capability .0) 0 && eqb (getD (s .queues .lengths) i 0) 0 in
           true-and
-          (and-true none-there (not (getD (s .segment .contenders) i noContender .contends)) (r .zeros .past-N i m l) .0)
+          (and-true none-there (not (recordedAt (s .segment) i .contends)) (r .zeros .past-N i m l) .0)
           (ap (λ c. not (c .contends)) (nobody-contends i l))
 
   -- without a winner: the stations withdraw
@@ -425,83 +537,44 @@ answer-is s drops event address number length wait ended =
       ended = not (eqb ended 0);
     }
 
--- who transmits, by whether one does
-abbrev pub heardWhere : Segment → Bool → Heard
-heardWhere g silent =
-    let k = nextTransmitter g 0 in
-    cond
-    silent
-    (record { first = k; second = g .settings .n; listed = nobody; packet = noPacket })
-    (record { first = k; second = nextTransmitter g (suc k); listed = getD (g .listed) k nobody; packet = contenderAt g k .packet })
-
 module _ (s : State) (drops : ℕ) where
   abbrev progress : Progress
   progress = progressOf (s .segment)
 
-  -- what is moved where one transmits, and where two or more do
-  abbrev one : Listed → Packet → Moved
-  one = wonOn (meaning s .discipline) progress drops
-
-  abbrev two : Moved
-  two = collidedOn (s .segment .settings .a) progress drops
-
-  -- what is probed, by whether nobody transmits, or one alone
-  abbrev probedWhere : Bool → Bool → Side → Probed
-  probedWhere silent alone side =
-      probedWith
-      (s .segment)
-      (cond
-      silent
-      (unheardOn progress drops side)
-      (cond alone (one (getD (s .segment .listed) (first s) nobody) (contenderAt (s .segment) (first s) .packet)) two))
-      (first s)
-
   abbrev its-side : Side
   its-side = s .segment .contention .window .side
-
-  probed-where : probed (s .segment) drops ≡ probedWhere (eqb (first s) (n s)) (eqb (second s) (n s)) its-side
-  probed-where = go (eqb (first s) (n s)) refl
-    where
-      go :
-          (silent : Bool) → eqb (first s) (n s) ≡ silent
-          → (let h = heardWhere (s .segment) silent in probedWith (s .segment) (movedBy (s .segment .settings) progress drops h) (h .first))
-          ≡ probedWhere silent (eqb (second s) (n s)) its-side
-      go true e =
-          let other = cond (eqb (n s) (n s)) (one nobody noPacket) two in
-          ap (λ t. probedWith (s .segment) (cond t (unheardOn progress drops its-side) other) (first s)) e
-      go false e = ap (λ t. probedWhere t (eqb (second s) (n s)) its-side) e
 
 -- the winner is a station, and 0 stands for none
 pub winner-there : (s : State) → Lent s → (drops : ℕ) (p : Probed) → p ≡ probed (s .segment) drops → p .winner < most-stations
 winner-there s r drops p is =
-    subst
-    (λ (q : Probed). q .winner < most-stations)
-    (sym (is ∙ probed-where s drops))
-    (go (eqb (first s) (n s)) refl (eqb (second s) (n s)) (its-side s drops))
+    subst (λ (q : Probed). q .winner < most-stations) (sym is) (go (heardIn (s .segment)) refl (its-side s drops))
   where
-    go : (t : Bool) → eqb (first s) (n s) ≡ t → (u : Bool) (side : Side) → probedWhere s drops t u side .winner < most-stations
-    go true e u Left = omega arith
-    go true e u Right = omega arith
-    go false e true side = omega (arith, first-there s e, r .few)
-    go false e false side = omega arith
+    by-side : (side : Side) → probedWith (s .segment) (unheardOn (progress s drops) drops side) 0 .winner < most-stations
+    by-side Left = omega arith
+    by-side Right = omega arith
+
+    go : (ms : List ℕ) → heardIn (s .segment) ≡ ms → (side : Side) → probedBy (s .segment) drops ms .winner < most-stations
+    go [] e side = by-side (its-side s drops)
+    go (i ∷ []) e side = omega (arith, first-sends s r e .0, r .few)
+    go (i ∷ j ∷ ms) e side = subst (λ (q : Probed). q .winner < most-stations) (sym (probed-more (s .segment) drops i j ms)) (omega arith)
 
 module _ (s : State) (r : Lent s) (begun : s .segment .contention .begun ≡ true) where
   -- the window is placed in the space of the phase
-  window-placed : (space : ℕ) × (placed space (now s .window) ≡ true)
+  window-placed : (space : ℕ) × (Splitting.placed space (now s .window) ≡ true)
   window-placed =
       go (now s .tied) (subst (λ t. ContentionStands (meaning s) (cond t (some (under-way s)) none)) begun (r .stands .window))
     where
       go :
           (t : Bool) → WindowStands (meaning s) (under-way s) (cond t (some (now s .tie)) none)
-          → (space : ℕ) × (placed space (now s .window) ≡ true)
+          → (space : ℕ) × (Splitting.placed space (now s .window) ≡ true)
       go true w = (meaning s .A, w .1)
       go false w = (meaning s .D, w)
 
-  module _ (i : ℕ) (here : i < n s) (sends : transmitsAt (s .segment) i ≡ true) where
+  module _ (i : ℕ) (here : i < n s) (sends : transmitsAt s i ≡ true) where
     -- a station that transmits does so with a packet of its queue
     queued : Among (contenderAt (s .segment) i .packet) (queueAt (s .queues) i)
     queued =
-        let c = getD (s .segment .contenders) i noContender in
+        let c = recordedAt (s .segment) i in
         subst₂
         (λ (t u : Bool).
         OfferStands
@@ -526,7 +599,8 @@ module _ (s : State) (r : Lent s) (begun : s .segment .contention .begun ≡ tru
         omega (arith, r .stands .counts, r .stands .admitted-in)
 
   module _ (drops : ℕ) where
-    unheard-is : (side : Side) → slotOf s (probedWhere s drops true false side) ≡ stepped (Probe.unheard (openOf s drops) side)
+    unheard-is :
+        (side : Side) → slotOf s (probedWith (s .segment) (unheardOn (progress s drops) drops side) 0) ≡ stepped (Probe.unheard (openOf s drops) side)
     unheard-is Left =
         let c = now s in
         λ i.
@@ -550,7 +624,7 @@ module _ (s : State) (r : Lent s) (begun : s .segment .contention .begun ≡ tru
         }
 
     collided-is :
-        slotOf s (probedWhere s drops false false (its-side s drops))
+        slotOf s (probedWith (s .segment) (collidedOn (s .segment .settings .a) (progress s drops) drops) 0)
         ≡ stepped (unsent (openOf s drops) collision 0, goesOn (meaning s) (split (meaning s) (under-way s)))
     collided-is =
         λ i.
@@ -560,11 +634,16 @@ module _ (s : State) (r : Lent s) (begun : s .segment .contention .begun ≡ tru
         }
 
     sent-is :
-        first s < n s
-        → slotOf s (probedWhere s drops false true (its-side s drops))
-        ≡ stepped (sentBy (openOf s drops) (contenderAt (s .segment) (first s)), Probe.won (meaning s) (contenderAt (s .segment) (first s)))
-    sent-is l =
-        let x = contenderAt (s .segment) (first s) in
+        (k : ℕ) → k < n s
+        → slotOf
+        s
+        (probedWith
+        (s .segment)
+        (wonOn (meaning s .discipline) (progress s drops) drops (soleAt (s .segment) k .listed) (soleAt (s .segment) k .packet))
+        k)
+        ≡ stepped (sentBy (openOf s drops) (contenderAt (s .segment) k), Probe.won (meaning s) (contenderAt (s .segment) k))
+    sent-is k l =
+        let x = contenderAt (s .segment) k in
         λ i.
         record {
           answer =
@@ -572,45 +651,25 @@ module _ (s : State) (r : Lent s) (begun : s .segment .contention .begun ≡ tru
               s
               drops
               success
-              (getD (s .segment .listed) (first s) nobody .address)
+              (getD (s .segment .listed) k nobody .address)
               (x .packet .number)
               (x .packet .length)
               (waitOf (x .packet) (s .segment .clock .0))
               1
               i;
-          state = won-is s r (first s) l i;
+          state = won-is s r k l i;
         }
 
-    -- by the first and the second station that transmit
+    -- by the places of those who transmit
     pub probed-is : (p : Probed) → p ≡ probed (s .segment) drops → slotOf s p ≡ stepped (probe (openOf s drops))
     probed-is p is =
-        ap (slotOf s) (is ∙ probed-where s drops)
-        ∙ none-or-more (eqb (first s) (n s)) refl (eqb (second s) (n s)) refl
-        ∙ sym (ap (λ xs. stepped (heard (openOf s drops) xs)) (all-heard s))
+        ap (slotOf s) is
+        ∙ go (heardIn (s .segment)) refl
+        ∙ sym (ap (λ xs. stepped (heard (openOf s drops) xs)) (all-heard s r))
       where
-        x : Probe.Contender
-        x = contenderAt (s .segment) (first s)
-
-        -- those who transmit after the second
-        more : List Probe.Contender
-        more = heardFrom s (suc (second s)) (n s - suc (second s))
-
-        one-or-more :
-            (u : Bool) → first s < n s
-            → slotOf s (probedWhere s drops false u (its-side s drops))
-            ≡ stepped (heard (openOf s drops) (x ∷ cond u [] (contenderAt (s .segment) (second s) ∷ more)))
-        one-or-more true l = sent-is l
-        one-or-more false l = collided-is
-
-        none-or-more :
-            (t : Bool) → eqb (first s) (n s) ≡ t → (u : Bool) → eqb (second s) (n s) ≡ u
-            → slotOf s (probedWhere s drops t u (its-side s drops))
-            ≡ stepped (heard (openOf s drops) (cond t [] (x ∷ heardFrom s (suc (first s)) (n s - suc (first s)))))
-        none-or-more true e u f = unheard-is (its-side s drops)
-        none-or-more false e u f =
-            let l = first-there s e in
-            one-or-more u l
-            ∙ sym
-            (ap
-            (λ xs. stepped (heard (openOf s drops) (x ∷ xs)))
-            (others-heard s l ∙ ap (λ t. cond t [] (contenderAt (s .segment) (second s) ∷ more)) f))
+        go :
+            (ms : List ℕ) → heardIn (s .segment) ≡ ms
+            → slotOf s (probedBy (s .segment) drops ms) ≡ stepped (heard (openOf s drops) (map (contenderAt (s .segment)) ms))
+        go [] e = unheard-is (its-side s drops)
+        go (k ∷ []) e = sent-is k (first-sends s r e .0)
+        go (k ∷ j ∷ ms) e = ap (slotOf s) (probed-more (s .segment) drops k j ms) ∙ collided-is

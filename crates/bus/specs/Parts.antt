@@ -1,5 +1,5 @@
 -- The parts that the calls are made of, as functions: what the contracts of the private functions cite. Assumes nothing.
-use Prim.Native.Nat.{ℕ, zero, suc, _+_, _-_, _/_, min}
+use Prim.Native.Nat.{ℕ, zero, suc, _+_, _-_, _*_, _/_, _^_, min}
 use mathlib.Core.Bool.{Bool, true, false, not, _&&_, cond}
 use mathlib.Core.Option.{Option, none, some}
 use mathlib.Core.List.{List, [], _∷_, _++_}
@@ -7,7 +7,8 @@ use lib.Dec.{leb, ltb, eqb}
 use lib.ListN.{length, getD, replicate}
 use Rattle.window.specs.declared.Side.{Side}
 use Rattle.window.specs.declared.Side.the-variants.{Left, Right}
-use Rattle.window.specs.Splitting.{firstWindow, leftHalf, movedRight}
+use Rattle.window.specs.Splitting.{firstWindow, leftHalf, movedRight, inWindow}
+use Rattle.word.specs.Word.{bitAt, wordOf}
 use Rattle.rules.specs.Lists.{firstOf}
 use Rattle.rules.specs.Bus.{places, most-admitted, Discipline, PRI, RTDG, RTVC, late}
 use Rattle.rules.specs.SetUp.{disciplineOf}
@@ -15,16 +16,15 @@ use Rattle.rules.specs.Standing.{value-fits, length-fits}
 use Rattle.rules.specs.Begin.{sits-out, choice}
 use Rattle.rules.specs.declared.Admitted.{Admitted}
 use Rattle.rules.specs.Probe as Probe
-use Rattle.rules.specs.Probe.{lies-in, able, idle, collision, success, parameter-phase, tie-phase, waitOf}
+use Rattle.rules.specs.Probe.{idle, collision, success, parameter-phase, tie-phase, waitOf}
 use Rattle.bus.specs.Types.{Slot, Address, Capability, Settings, Listed, Contender, Contention, Round, Segment, Queues, Queue, Packet}
 use Rattle.state.specs.Parts.{noContenders}
-use Rattle.state.specs.State.{noPacket, noContender, noContention, noRound, nobody, row, queueAt, lastOf, tieOf}
+use Rattle.state.specs.State.{Recorded, recordedIn, recordedAt, recorded, noPacket, noContender, noContention, noRound, nobody, row, queueAt, lastOf}
 use Rattle.bus.specs.Coded.{Answer}
 pub use Rattle.bus.specs.declared.Leaving.{Leaving}
 pub use Rattle.bus.specs.declared.Leaving.the-variants.{Late, Sent}
 pub use Rattle.bus.specs.declared.Chosen.{Chosen}
 pub use Rattle.bus.specs.declared.Asked.{Asked}
-pub use Rattle.bus.specs.declared.Heard.{Heard}
 pub use Rattle.bus.specs.declared.Progress.{Progress}
 pub use Rattle.bus.specs.declared.Moved.{Moved}
 
@@ -35,6 +35,10 @@ abbrev pub parameterFor : Discipline → Settings → Slot → Capability → Pa
 parameterFor PRI g clock capability p = p .value
 parameterFor RTDG g clock capability p = min ((p .value - clock .0) / g .q) (g .d - 1)
 parameterFor RTVC g clock capability p = capability .0
+
+-- the order of offers in PRI and RTDG as one number: 'the smallest value, the lowest packet number among equals'
+abbrev pub rankOf : Packet → ℕ
+rankOf p = p .value * 2 ^ 32 + p .number
 
 -- ---- one station's queue
 
@@ -111,31 +115,42 @@ contenderFor g clock round l queue = contenderOn g clock round l (choice (discip
 abbrev pub openingOf : ℕ → Contention
 openingOf d = record { begun = true; window = firstWindow d; tied = false; tie = 0 }
 
--- each station's place among the contenders
-abbrev pub offersOf : Segment → Queues → List Contender
-offersOf g queues =
-    row
-    64
-    (λ i.
+-- each station's place among the contenders, and nobody's past N
+abbrev pub offerAt : Segment → Queues → ℕ → Contender
+offerAt g queues i =
     cond
     (ltb i (g .settings .n))
     (contenderFor (g .settings) (g .clock) (g .round) (getD (g .listed) i nobody) (queueAt queues i))
-    noContender)
+    noContender
 
--- the segment as a contention begins, where so many late packets have left the queues
-abbrev pub begunWith : Segment → Queues → ℕ → Segment
-begunWith g queues drops =
+-- the segment with other counts, contention and contenders
+abbrev pub segmentCounting : Segment → ℕ → ℕ → Contention → Recorded → Segment
+segmentCounting g admitted lost contention r =
     record {
       settings = g .settings;
       listed = g .listed;
       clock = g .clock;
-      admitted = g .admitted;
+      admitted = admitted;
       sent = g .sent;
-      lost = g .lost + drops;
+      lost = lost;
       round = g .round;
-      contention = openingOf (g .settings .d);
-      contenders = offersOf g queues;
+      contention = contention;
+      contenders = r .word;
+      parameters = r .parameters;
+      numbers = r .numbers;
+      values = r .values;
+      lengths = r .lengths;
+      admissions = r .admissions;
     }
+
+-- each station's offer recorded
+abbrev pub offersOf : Segment → Queues → Segment
+offersOf g queues = segmentCounting g (g .admitted) (g .lost) (g .contention) (recorded (offerAt g queues))
+
+-- the segment as a contention begins, where so many late packets have left the queues
+abbrev pub begunWith : Segment → Queues → ℕ → Segment
+begunWith g queues drops =
+    segmentCounting g (g .admitted) (g .lost + drops) (openingOf (g .settings .d)) (recorded (offerAt g queues))
 
 -- ---- a slot is probed
 
@@ -144,39 +159,32 @@ abbrev pub contenderOf : Listed → Contender → Probe.Contender
 contenderOf l c =
     record { address = l .address .0; capability = l .capability .0; parameter = c .parameter; packet = c .packet }
 
--- whether it transmits, of the numbers that it reads
-abbrev pub transmitsOf : ℕ → Slot → Contention → Listed → Contender → Bool
-transmitsOf discipline clock contention l c =
-    c .contends
-    && (lies-in (contention .window) (tieOf contention) (contenderOf l c) && able (disciplineOf discipline) (clock .0) (contenderOf l c))
-
 -- the same of station i
 abbrev pub contenderAt : Segment → ℕ → Probe.Contender
-contenderAt g i = contenderOf (getD (g .listed) i nobody) (getD (g .contenders) i noContender)
+contenderAt g i = contenderOf (getD (g .listed) i nobody) (recordedAt g i)
 
-abbrev pub transmitsAt : Segment → ℕ → Bool
-transmitsAt g i =
-    transmitsOf (g .settings .discipline) (g .clock) (g .contention) (getD (g .listed) i nobody) (getD (g .contenders) i noContender)
+-- whether a parameter lies in the window; in the tie phase, whether it is the tie value and the address lies in the window
+abbrev pub liesIn : Contention → ℕ → ℕ → Bool
+liesIn c parameter address =
+    cond (c .tied) (eqb parameter (c .tie) && inWindow (c .window) address) (inWindow (c .window) parameter)
 
--- the next station from place i on that transmits; N where there is none
-abbrev pub nextTransmitter : Segment → ℕ → ℕ
-nextTransmitter g i = firstPlace (transmitsAt g) i (g .settings .n - i)
+-- the word of those who transmit, of what a probe is lent: the word of contenders, and the rows of parameters, values and addresses
+abbrev pub transmittersOf : ℕ → Slot → Contention → ℕ → List ℕ → List ℕ → List ℕ → ℕ
+transmittersOf discipline clock contention contenders parameters values addresses =
+    wordOf
+    (λ i.
+    bitAt contenders i
+    && (liesIn contention (getD parameters i 0) (getD addresses i 0) && not (late (disciplineOf discipline) (clock .0) (getD values i 0))))
+    64
 
--- who transmits, by the first that does
-abbrev pub heardBy : Segment → ℕ → Heard
-heardBy g first =
-    cond
-    (eqb first (g .settings .n))
-    (record { first = first; second = g .settings .n; listed = nobody; packet = noPacket })
-    (record {
-      first = first;
-      second = nextTransmitter g (suc first);
-      listed = getD (g .listed) first nobody;
-      packet = contenderAt g first .packet;
-    })
+-- the addresses of the stations listed, as numbers
+abbrev pub addressesOf : List Listed → List ℕ
+addressesOf listed = row 64 (λ i. getD listed i nobody .address .0)
 
-abbrev pub heardIn : Segment → Heard
-heardIn g = heardBy g (nextTransmitter g 0)
+-- those who transmit in a segment
+abbrev pub transmittersIn : Segment → ℕ
+transmittersIn g =
+    transmittersOf (g .settings .discipline) (g .clock) (g .contention) (g .contenders) (g .parameters) (g .values) (addressesOf (g .listed))
 
 -- an answer to a probe, by the progress so far
 abbrev pub answerAt : Progress → ℕ → ℕ → Address → ℕ → ℕ → ℕ → Bool → Answer
@@ -252,20 +260,17 @@ wonOn d p drops l packet =
           };
     }
 
--- what one probe moves, by who transmits
-abbrev pub movedBy : Settings → Progress → ℕ → Heard → Moved
-movedBy g p drops heard =
+-- what one probe moves, by how many transmit, and the sole winner's station and packet
+abbrev pub movedBy : Settings → Progress → ℕ → ℕ → Listed → Packet → Moved
+movedBy g p drops count l packet =
     cond
-    (eqb (heard .first) (g .n))
+    (eqb count 0)
     (unheardOn p drops (p .contention .window .side))
-    (cond
-    (eqb (heard .second) (g .n))
-    (wonOn (disciplineOf (g .discipline)) p drops (heard .listed) (heard .packet))
-    (collidedOn (g .a) p drops))
+    (cond (eqb count 1) (wonOn (disciplineOf (g .discipline)) p drops l packet) (collidedOn (g .a) p drops))
 
 -- the segment with another clock, sent count, round, contention and contenders
-abbrev pub segmentWith : Segment → ℕ → ℕ → Round → Contention → List Contender → Segment
-segmentWith g clock sent round contention contenders =
+abbrev pub segmentWith : Segment → ℕ → ℕ → Round → Contention → Recorded → Segment
+segmentWith g clock sent round contention r =
     record {
       settings = g .settings;
       listed = g .listed;
@@ -275,7 +280,12 @@ segmentWith g clock sent round contention contenders =
       lost = g .lost;
       round = round;
       contention = contention;
-      contenders = contenders;
+      contenders = r .word;
+      parameters = r .parameters;
+      numbers = r .numbers;
+      values = r .values;
+      lengths = r .lengths;
+      admissions = r .admissions;
     }
 
 -- the segment with what a probe has moved; no contenders where the contention has ended
@@ -287,4 +297,4 @@ withMoved g m =
     (m .progress .sent)
     (m .progress .round)
     (m .progress .contention)
-    (cond (m .answer .ended) noContenders (g .contenders))
+    (cond (m .answer .ended) noContenders (recordedIn g))

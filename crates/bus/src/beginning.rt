@@ -26,7 +26,7 @@ ghost use Rattle.bus.specs.Parts.{contenderFor, openingOf, offersOf, beg
 ghost use Rattle.state.specs.Parts.{packetsOf};
 
 // Whether a station has no packet, or sits out.
-fn offers_nothing(discipline: u32, round: Round, capability: Capability, length: usize) -> bool
+pub fn offers_nothing(discipline: u32, round: Round, capability: Capability, length: usize) -> bool
     ensures { λ r. ⌜ r ≡ (eqb length 0 || sits-out (disciplineOf discipline) (lastOf round) (capability .0)) ⌝ }
 {
     if length == 0 {
@@ -62,9 +62,9 @@ fn contender_for(
     }
 }
 
-// Each station's place among the contenders. Only the queues to choose from are taken out, and in the loop itself: a call that takes one
-// out copies the whole row. The listed stations are taken out once: to read one of them in the segment would copy the whole segment.
-fn offers_of(g: Segment, queues: Queues) -> [Contender; 64]
+// The segment with each station's offer recorded. Only the queues to choose from are taken out, and in the loop itself: a call that takes one
+// out copies the whole row. The listed stations are taken out once: to read one of them in a segment that came by value would copy it whole.
+fn offers_of(g: Segment, queues: Queues) -> Segment
     requires { ⌜ g .settings .n ≤ 64 ⌝ }
     requires { ⌜ ((i : ℕ) → i < g .settings .n → getD (queues .lengths) i 0 ≤ 16) ⌝ }
     requires { ⌜ 1 ≤ g .settings .q ⌝ }
@@ -75,7 +75,16 @@ fn offers_of(g: Segment, queues: Queues) -> [Contender; 64]
     let listed = g.listed;
     let round = g.round;
     let n = settings.n;
-    let mut contenders = [zeros::NO_CONTENDER; 64];
+    let parameters = [0u64; 64];
+    let none = [0u32; 64];
+    let admissions = [zeros::NO_SLOT; 64];
+    let mut next = g;
+    next.contenders = 0;
+    next.parameters = parameters;
+    next.numbers = none;
+    next.values = none;
+    next.lengths = none;
+    next.admissions = admissions;
     for i in 0..n {
         let l = listed[i];
         let length = queues.lengths[i];
@@ -92,9 +101,17 @@ fn offers_of(g: Segment, queues: Queues) -> [Contender; 64]
             packets: places,
             length,
         };
-        contenders[i] = contender_for(settings, g.clock, round, l, queue);
+        let c = contender_for(settings, g.clock, round, l, queue);
+        let p = c.packet;
+        let admission = p.admission;
+        next.contenders = word::set(next.contenders, i);
+        next.parameters[i] = c.parameter;
+        next.numbers[i] = p.number;
+        next.values[i] = p.value;
+        next.lengths[i] = p.length;
+        next.admissions[i] = admission;
     }
-    contenders
+    next
 }
 
 // 'In RTDG every queued packet with latest start below T is dropped': of how many stations late packets are looked for. Otherwise none is late.
@@ -138,11 +155,9 @@ pub fn begun(g: Segment, queues: Queues, drops: u64) -> Segment
     ensures { λ r. ⌜ r ≡ begunWith g queues drops ⌝ }
 {
     let settings = g.settings;
-    let contenders = offers_of(g, queues);
     let contention = opening(settings.d);
-    let mut next = g;
+    let mut next = offers_of(g, queues);
     next.lost = g.lost + drops;
     next.contention = contention;
-    next.contenders = contenders;
     next
 }

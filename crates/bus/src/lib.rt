@@ -13,10 +13,10 @@ use rules::Slot;
 use sorts::Address;
 use state::Arrival;
 use state::Contention;
-use state::Listed;
 use state::Round;
 use state::State;
 use state::standing;
+use state::zeros;
 
 mod beginning;
 mod joining;
@@ -131,15 +131,6 @@ struct Asked {
     pub answer: Admitted,
 }
 
-// Who transmits in a slot: the first station's place, how it is listed and its packet, and the second one's place; N and zeros where
-// there is none.
-struct Heard {
-    pub first: usize,
-    pub second: usize,
-    pub listed: Listed,
-    pub packet: Packet,
-}
-
 // What a probe moves.
 struct Progress {
     pub clock: Slot,
@@ -241,23 +232,47 @@ pub fn step(mut s: State) -> Stepped
             s.segment = beginning::begun(s.segment, s.queues, drops);
         }
         // 'Every step then probes one slot.'
-        let heard = probing::heard(s.segment);
-        let settings = s.segment.settings;
-        let clock = s.segment.clock;
-        let round = s.segment.round;
-        let contention = s.segment.contention;
+        let g = s.segment;
+        let settings = g.settings;
+        let clock = g.clock;
+        let round = g.round;
+        let contention = g.contention;
+        let addresses = probing::addresses_of(g.listed);
+        let transmitters = probing::transmitters(
+            settings.discipline,
+            clock,
+            contention,
+            g.contenders,
+            &g.parameters,
+            &g.values,
+            &addresses,
+        );
+        let count = word::count(transmitters);
+        let mut place = 0;
+        let mut listed = zeros::NOBODY;
+        let mut packet = zeros::NO_PACKET;
+        if count == 1 {
+            place = word::lowest(transmitters);
+            listed = g.listed[place];
+            let admission = g.admissions[place];
+            packet = Packet {
+                number: g.numbers[place],
+                value: g.values[place],
+                length: g.lengths[place],
+                admission,
+            };
+        }
         let progress = Progress {
             clock,
-            sent: s.segment.sent,
+            sent: g.sent,
             round,
             contention,
         };
-        let moved = probing::moved(settings, progress, drops, heard);
+        let moved = probing::moved(settings, progress, drops, count, listed, packet);
         answer = moved.answer;
-        s.segment = probing::with_moved(s.segment, moved);
+        s.segment = probing::with_moved(g, moved);
         // 'That packet leaves its queue.'
         if answer.event == probing::SUCCESS {
-            let place = heard.first;
             let leaving = Leaving::Sent(answer.number);
             s.queues = waiting::without(s.queues, place, place + 1, leaving);
         }

@@ -7,10 +7,13 @@ use state::Round;
 use state::Settings;
 ghost use Prim.Native.Nat.{_-_, _/_, _≤_, min};
 ghost use mathlib.Core.Path.{_≡_};
+ghost use mathlib.Core.Bool.{_||_, cond};
+ghost use lib.Dec.{ltb};
+ghost use Rattle.rules.specs.Bus.{late};
 ghost use Rattle.rules.specs.SetUp.{disciplineOf};
 ghost use Rattle.rules.specs.Begin.{smaller, goes-before, sits-out};
 ghost use Rattle.state.specs.State.{lastOf};
-ghost use Rattle.bus.specs.Parts.{parameterFor};
+ghost use Rattle.bus.specs.Parts.{parameterFor, rankOf};
 
 // 'the smallest value, the lowest packet number among equals'
 fn smaller(p: Packet, o: Packet) -> bool
@@ -33,6 +36,33 @@ pub fn goes_before(discipline: u32, p: Packet, o: Packet) -> bool
         return smaller(p, o);
     }
     p.number < o.number
+}
+
+// The order of offers in PRI and RTDG as one number: the value above, the packet number below.
+pub fn rank(p: Packet) -> u64
+    ensures { λ r. ⌜ r ≡ rankOf p ⌝ }
+{
+    ((p.value as u64) << 32) | (p.number as u64)
+}
+
+// How many of a queue's packets are looked at for its offer: in RTVC the first, which has the lowest number, because numbers rise.
+pub fn looked_at(discipline: u32, length: usize) -> usize
+    ensures { λ r. ⌜ r ≡ cond (ltb discipline 2) length 1 ⌝ }
+{
+    if discipline < disciplines::RTVC {
+        return length;
+    }
+    1
+}
+
+// Whether a packet that is offered is late: this one, or one before it.
+pub fn late_offered(already: bool, discipline: u32, clock: Slot, value: u32) -> bool
+    ensures { λ r. ⌜ r ≡ (already || late (disciplineOf discipline) (clock .0) value) ⌝ }
+{
+    if already {
+        return true;
+    }
+    disciplines::late(discipline, clock, value)
 }
 
 // '(latest start - T) divided by q, rounded down, and D - 1 where that is larger'

@@ -7,16 +7,16 @@ use crate::Report;
 use crate::Stretch;
 use crate::beginning;
 use crate::joining;
+use crate::offering;
 use crate::probing;
 use crate::waiting;
 use rules::Admitted;
 use rules::Packet;
 use rules::Slot;
 use sorts::Address;
-use sorts::disciplines;
 use state::State;
 use state::zeros;
-ghost use Prim.Native.Nat.{_+_, _≤_};
+ghost use Prim.Native.Nat.{_+_};
 ghost use mathlib.Core.Path.{_≡_};
 ghost use mathlib.Core.Bool.{true, false, _&&_};
 ghost use lib.Dec.{leb, ltb};
@@ -91,23 +91,16 @@ fn of_step(clock: Slot, answer: Answer) -> Report
     }
 }
 
-// Whether a packet waits in some queue: 'admitted = sent + lost + waiting'.
-fn waits(admitted: u64, sent: u64, lost: u64) -> bool
-    requires { ⌜ sent + lost ≤ admitted ⌝ }
-    ensures { λ r. ⌜ r ≡ ltb (sent + lost) admitted ⌝ }
-{
-    sent + lost < admitted
-}
-
 // The calls of a stretch. A state that does not stand comes back as lent, and each call is refused; one that stands stands after each
 // call. The segment and the queues are changed in place, because to hand them on costs more than a probe: what is handed on in a slot is
-// small, or is the segment alone, and the row goes by value only where a contention begins.
+// small, or rows of plain numbers that are lent, and the row of packets goes by value only where late ones leave it.
 pub fn calls(s: State, stands: bool, arrivals: Arrivals, steps: u32) -> Stretch
     requires { ⌜ stands ≡ standing s ⌝ }
     ensures { λ r. ⌜ r ≡ stretchForm (stretchOf s arrivals steps) ⌝ }
 {
     let mut g = s.segment;
     let mut queues = s.queues;
+    let addresses = probing::addresses_of(g.listed);
     let mut reports = [NO_REPORT; 512];
     let mut made = 0;
     let mut taken = 0;
@@ -160,16 +153,44 @@ pub fn calls(s: State, stands: bool, arrivals: Arrivals, steps: u32) -> Stretch
             left -= 1;
             continue;
         }
-        // 'If no contention is under way, a step first begins one': where no packet waits none is late and nobody contends. Late packets leave
-        // in RTDG alone.
+        // 'If no contention is under way, a step first begins one.' 'Each station then offers one packet': the search carries its place. Where no
+        // packet offered is late none is, because those offered in RTDG have the smallest latest starts.
         let mut drops = 0;
         let under_way = g.contention;
         if !under_way.begun {
-            if !waits(g.admitted, g.sent, g.lost) {
-                let opening = beginning::opening(settings.d);
-                g.contention = opening;
-            } else if settings.discipline == disciplines::RTDG {
-                let n = settings.n;
+            let n = settings.n;
+            let round = g.round;
+            let mut late = false;
+            for i in 0..n {
+                let l = g.listed[i];
+                let length = queues.lengths[i];
+                if beginning::offers_nothing(settings.discipline, round, l.capability, length) {
+                    continue;
+                }
+                let first = 16 * i;
+                let looked = offering::looked_at(settings.discipline, length);
+                let mut place = first;
+                let mut least = offering::rank(queues.packets[first]);
+                for j in 1..looked {
+                    let at = first + j;
+                    let rank = offering::rank(queues.packets[at]);
+                    if rank < least {
+                        least = rank;
+                        place = at;
+                    }
+                }
+                let packet = queues.packets[place];
+                let admission = packet.admission;
+                late = offering::late_offered(late, settings.discipline, clock, packet.value);
+                g.contenders = word::set(g.contenders, i);
+                g.parameters[i] = offering::parameter(settings, clock, l.capability, packet);
+                g.numbers[i] = packet.number;
+                g.values[i] = packet.value;
+                g.lengths[i] = packet.length;
+                g.admissions[i] = admission;
+            }
+            if late {
+                // 'In RTDG every queued packet with latest start below T is dropped', and the offers are made anew.
                 let leaving = Leaving::Late(settings.discipline, clock);
                 let lengths = queues.lengths;
                 queues = waiting::without(queues, 0, n, leaving);
@@ -177,22 +198,44 @@ pub fn calls(s: State, stands: bool, arrivals: Arrivals, steps: u32) -> Stretch
                 drops = beginning::dropped(lengths, kept, n);
                 g = beginning::begun(g, queues, drops);
             } else {
-                g = beginning::begun(g, queues, 0);
+                let opening = beginning::opening(settings.d);
+                g.contention = opening;
             }
         }
         // 'Every step then probes one slot.'
-        let heard = probing::heard(g);
-        let settings = g.settings;
-        let clock = g.clock;
         let round = g.round;
-        let contention = g.contention;
+        let probed = g.contention;
+        let transmitters = probing::transmitters(
+            settings.discipline,
+            clock,
+            probed,
+            g.contenders,
+            &g.parameters,
+            &g.values,
+            &addresses,
+        );
+        let count = word::count(transmitters);
+        let mut place = 0;
+        let mut listed = zeros::NOBODY;
+        let mut packet = zeros::NO_PACKET;
+        if count == 1 {
+            place = word::lowest(transmitters);
+            listed = g.listed[place];
+            let admission = g.admissions[place];
+            packet = Packet {
+                number: g.numbers[place],
+                value: g.values[place],
+                length: g.lengths[place],
+                admission,
+            };
+        }
         let progress = Progress {
             clock,
             sent: g.sent,
             round,
-            contention,
+            contention: probed,
         };
-        let moved = probing::moved(settings, progress, drops, heard);
+        let moved = probing::moved(settings, progress, drops, count, listed, packet);
         let answer = moved.answer;
         reports[made] = of_step(clock, answer);
         made += 1;
@@ -209,13 +252,19 @@ pub fn calls(s: State, stands: bool, arrivals: Arrivals, steps: u32) -> Stretch
         if !answer.ended {
             continue;
         }
-        let contenders = [zeros::NO_CONTENDER; 64];
-        g.contenders = contenders;
+        let parameters = [0u64; 64];
+        let none = [0u32; 64];
+        let admissions = [zeros::NO_SLOT; 64];
+        g.contenders = 0;
+        g.parameters = parameters;
+        g.numbers = none;
+        g.values = none;
+        g.lengths = none;
+        g.admissions = admissions;
         if answer.event != probing::SUCCESS {
             continue;
         }
         // 'That packet leaves its queue.'
-        let place = heard.first;
         let length = queues.lengths[place];
         let first = 16 * place;
         let mut filled = 0;

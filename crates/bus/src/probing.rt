@@ -1,6 +1,5 @@
 // Probing one slot: who transmits, what is heard, and what becomes of the window, the clock and the round.
 use crate::Answer;
-use crate::Heard;
 use crate::Moved;
 use crate::Progress;
 use rules::Packet;
@@ -8,7 +7,6 @@ use rules::Slot;
 use sorts::Address;
 use sorts::Capability;
 use sorts::disciplines;
-use state::Contender;
 use state::Contention;
 use state::Listed;
 use state::Round;
@@ -16,11 +14,17 @@ use state::Segment;
 use state::Settings;
 use state::zeros;
 use window::Side;
+use window::Window;
 ghost use Prim.Native.Nat.{_+_, _<_, _≤_};
 ghost use mathlib.Core.Path.{_≡_};
-ghost use lib.Dec.{leb};
+ghost use mathlib.Core.Bool.{not};
+ghost use denote.Ref.{now};
+ghost use lib.Dec.{leb, ltb};
+ghost use lib.ListN.{getD};
+ghost use Rattle.window.specs.Splitting.{inWindow};
+ghost use Rattle.word.specs.Word.{wordOf};
 ghost use Rattle.rules.specs.SetUp.{disciplineOf};
-ghost use Rattle.bus.specs.Parts.{transmitsOf, heardIn, answerAt, wentOn, splitOf, collidedOn, unheardOn, roundAfter, wonOn, movedBy, withMoved};
+ghost use Rattle.bus.specs.Parts.{addressesOf, transmittersOf, answerAt, wentOn, splitOf, collidedOn, unheardOn, roundAfter, wonOn, movedBy, withMoved};
 
 // The events as numbers.
 const IDLE: u32 = 0;
@@ -29,63 +33,75 @@ const COLLISION: u32 = 1;
 
 pub const SUCCESS: u32 = 2;
 
-// Whether a station transmits: 'its parameter (in the tie phase: its address) lies in the window and, in RTDG, its latest start is
-// not below the slot being probed'.
-fn transmits(discipline: u32, clock: Slot, contention: Contention, l: Listed, c: Contender) -> bool
-    ensures { λ r. ⌜ r ≡ transmitsOf discipline clock contention l c ⌝ }
+// The stations whose number in a row lies in a window, as a word.
+fn lying_in(w: Window, row: &[u64; 64]) -> u64
+    ensures { λ r. ⌜ r ≡ wordOf (λ i. inWindow w (getD (now (row .entry)) i 0)) 64 ⌝ }
 {
-    let window = contention.window;
-    if !c.contends {
-        return false;
-    }
-    if disciplines::late(discipline, clock, c.packet.value) {
-        return false;
-    }
-    let parameter = c.parameter;
-    if contention.tied {
-        if parameter != contention.tie {
-            return false;
+    let mut found = 0;
+    for i in 0..64 {
+        if window::in_window(w, row[i]) {
+            found = word::set(found, i);
         }
-        return window::in_window(window, sorts::address_number(l.address));
     }
-    window::in_window(window, parameter)
+    found
 }
 
-// Who transmits: nobody, one station, or two and maybe more.
-pub fn heard(g: Segment) -> Heard
-    requires { ⌜ g .settings .n ≤ 64 ⌝ }
-    ensures { λ r. ⌜ r ≡ heardIn g ⌝ }
+// The stations whose value in a row is not a latest start below a slot, as a word.
+fn in_time(slot: Slot, values: &[u32; 64]) -> u64
+    ensures { λ r. ⌜ r ≡ wordOf (λ i. not (ltb (getD (now (values .entry)) i 0) (slot .0))) 64 ⌝ }
 {
-    let settings = g.settings;
-    let contention = g.contention;
-    let n = settings.n;
-    let mut first = n;
-    let mut listed = zeros::NOBODY;
-    let mut packet = zeros::NO_PACKET;
-    for i in 0..n {
-        let l = g.listed[i];
-        let c = g.contenders[i];
-        if transmits(settings.discipline, g.clock, contention, l, c) {
-            if first < n {
-                return Heard {
-                    first,
-                    second: i,
-                    listed,
-                    packet,
-                };
-            }
-            first = i;
-            listed = l;
-            let p = c.packet;
-            packet = p;
+    let mut found = 0;
+    for i in 0..64 {
+        if !sorts::before(Slot(values[i]), slot) {
+            found = word::set(found, i);
         }
     }
-    Heard {
-        first,
-        second: n,
-        listed,
-        packet,
+    found
+}
+
+// The addresses of the stations listed, as numbers that windows of addresses hold.
+pub fn addresses_of(listed: [Listed; 64]) -> [u64; 64]
+    ensures { λ r. ⌜ r ≡ addressesOf listed ⌝ }
+{
+    let mut addresses = [0u64; 64];
+    for i in 0..64 {
+        let l = listed[i];
+        addresses[i] = sorts::address_number(l.address);
     }
+    addresses
+}
+
+// The word of those who transmit: 'its parameter (in the tie phase: its address) lies in the window and, in RTDG, its latest start is not
+// below the slot being probed'. The rows are lent: nothing that is only read is copied.
+pub fn transmitters<'a>(
+    discipline: u32,
+    clock: Slot,
+    contention: Contention,
+    contenders: u64,
+    parameters: &'a [u64; 64],
+    values: &'a [u32; 64],
+    addresses: &'a [u64; 64],
+) -> u64
+    ensures { λ r. ⌜ r ≡ transmittersOf discipline clock contention contenders (now (parameters .entry)) (now (values .entry)) (now (addresses .entry)) ⌝ }
+{
+    if contenders == 0 {
+        return 0;
+    }
+    let mut able = contenders;
+    if discipline == disciplines::RTDG {
+        able = contenders & in_time(clock, values);
+    }
+    let window = contention.window;
+    if contention.tied {
+        // 'among the contenders of that parameter': those in the window of size 1 that starts there
+        let tie = Window {
+            start: contention.tie,
+            size: 1,
+            side: Side::Right,
+        };
+        return able & lying_in(tie, parameters) & lying_in(window, addresses);
+    }
+    able & lying_in(window, parameters)
 }
 
 // The answer to a probe without a winner.
@@ -282,25 +298,26 @@ fn won(discipline: u32, progress: Progress, drops: u64, l: Listed, packet: Packe
     }
 }
 
-// What a probe moves, by who transmits.
-pub fn moved(settings: Settings, progress: Progress, drops: u64, heard: Heard) -> Moved
+// What a probe moves, by how many transmit: 'idle, success and collision follow from how many bits are set'. The station and the packet are the
+// sole winner's.
+pub fn moved(
+    settings: Settings,
+    progress: Progress,
+    drops: u64,
+    count: u32,
+    listed: Listed,
+    packet: Packet,
+) -> Moved
     requires { ⌜ progress .clock .0 ≤ 1073741824 ⌝ }
-    requires { ⌜ heard .packet .length ≤ 4096 ⌝ }
-    requires { ⌜ (((heard .first ≡ settings .n) → ⊥) → progress .sent < 4294967295) ⌝ }
-    ensures { λ r. ⌜ r ≡ movedBy settings progress drops heard ⌝ }
+    requires { ⌜ packet .length ≤ 4096 ⌝ }
+    requires { ⌜ ((count ≡ 1) → progress .sent < 4294967295) ⌝ }
+    ensures { λ r. ⌜ r ≡ movedBy settings progress drops count listed packet ⌝ }
 {
-    let n = settings.n;
-    if heard.first == n {
+    if count == 0 {
         return unheard(progress, drops);
     }
-    if heard.second == n {
-        return won(
-            settings.discipline,
-            progress,
-            drops,
-            heard.listed,
-            heard.packet,
-        );
+    if count == 1 {
+        return won(settings.discipline, progress, drops, listed, packet);
     }
     collided(settings.a, progress, drops)
 }
@@ -320,8 +337,15 @@ pub fn with_moved(g: Segment, m: Moved) -> Segment
     next.round = round;
     next.contention = contention;
     if answer.ended {
-        let contenders = [zeros::NO_CONTENDER; 64];
-        next.contenders = contenders;
+        let parameters = [0u64; 64];
+        let none = [0u32; 64];
+        let admissions = [zeros::NO_SLOT; 64];
+        next.contenders = 0;
+        next.parameters = parameters;
+        next.numbers = none;
+        next.values = none;
+        next.lengths = none;
+        next.admissions = admissions;
     }
     next
 }

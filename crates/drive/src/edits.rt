@@ -25,6 +25,14 @@ fn on_side(c: Contention, right: bool) -> Contention {
     }
 }
 
+// Field 20, 'bit i of the word of contenders'.
+fn with_bit(contenders: u64, i: usize, contends: bool) -> u64 {
+    if contends {
+        return word::set(contenders, i);
+    }
+    word::clear(contenders, i)
+}
+
 // 'the state with one field changed'
 pub fn edited(s: State, field: u64, index: u64, value: u64) -> State {
     let i = (index % 64) as usize;
@@ -56,17 +64,18 @@ pub fn edited(s: State, field: u64, index: u64, value: u64) -> State {
         }
         18 => g.contention.tied = flag,
         19 => g.contention.tie = value,
-        20 => g.contenders[i].contends = flag,
-        21 => g.contenders[i].parameter = value,
-        22 => g.contenders[i].packet.number = half,
-        23 => g.contenders[i].packet.value = half,
-        24 => g.contenders[i].packet.length = half,
+        20 => g.contenders = with_bit(g.contenders, i, flag),
+        21 => g.parameters[i] = value,
+        22 => g.numbers[i] = half,
+        23 => g.values[i] = half,
+        24 => g.lengths[i] = half,
         25 => q.lengths[i] = value as usize,
         26 => q.packets[j].number = half,
         27 => q.packets[j].value = half,
         28 => q.packets[j].length = half,
-        29 => g.contenders[i].packet.admission.0 = half,
+        29 => g.admissions[i].0 = half,
         30 => q.packets[j].admission.0 = half,
+        31 => g.contenders = value,
         _ => {}
     }
     State {

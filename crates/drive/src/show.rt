@@ -88,10 +88,22 @@ fn contender(i: usize, c: Contender) {
     lines::write_place(b"contender", &numbers);
 }
 
-// 'then all contenders'
-fn contenders(row: [Contender; 64]) {
+// 'then all contenders': bit i of the word, and what stands in the rows at place i.
+fn contenders(g: Segment) {
     for i in 0..64 {
-        contender(i, row[i]);
+        let admission = g.admissions[i];
+        let packet = Packet {
+            number: g.numbers[i],
+            value: g.values[i],
+            length: g.lengths[i],
+            admission,
+        };
+        let c = Contender {
+            contends: word::test(g.contenders, i),
+            parameter: g.parameters[i],
+            packet,
+        };
+        contender(i, c);
     }
 }
 
@@ -135,8 +147,7 @@ fn segment(g: Segment) {
     contention(g.contention);
     let listed = g.listed;
     stations(listed);
-    let row = g.contenders;
-    contenders(row);
+    contenders(g);
 }
 
 // The state, closed by 'end'.

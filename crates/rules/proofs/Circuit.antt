@@ -37,7 +37,7 @@ above-all : (n m : ℕ) (queue : List Packet) → Rising n m queue → All (λ p
 above-all n m [] h = all-nil (λ p. n < p .number)
 above-all n m (p ∷ queue) h = let l = h .0 in all-cons p l (λ q i. let k = above-all (p .number) m queue (h .1) q i in omega arith)
 
-oldest-chosen : (n m : ℕ) (p : Packet) (rest : List Packet) → Rising n m (p ∷ rest) → choice RTVC (p ∷ rest) ≡ some p
+pub oldest-chosen : (n m : ℕ) (p : Packet) (rest : List Packet) → Rising n m (p ∷ rest) → choice RTVC (p ∷ rest) ≡ some p
 oldest-chosen n m p rest h = go (choice RTVC rest) (chosen-first RTVC rest)
   where
     go : (c : Option Packet) → ChosenOf RTVC rest c → chosen RTVC p c ≡ some p

@@ -142,9 +142,9 @@ held-next {p} b c calls = go c (does b c)
         elim (joined-held b a (subst (λ (o : Admitted × Bus). Held p (o .1 .stations)) e h)) [
           | inl old ↦ inl old
           | inr new ↦
-            inr
-            (subst (λ (o : Admitted × Bus). Since (b .clock) (admitted (o .0) ∷ replies machine (o .1) calls) p) (sym e)
-            (rw new (rw (eq-eqb (suc (b .admitted)) (suc (b .admitted)) refl) (at-head refl, omega arith))))
+              inr
+              (subst (λ (o : Admitted × Bus). Since (b .clock) (admitted (o .0) ∷ replies machine (o .1) calls) p) (sym e)
+              (rw new (rw (eq-eqb (suc (b .admitted)) (suc (b .admitted)) refl) (at-head refl, omega arith))))
         ]
     go k (holds n z e) h = inl (subst (λ (o : Answer × Bus). Held p (o .1 .stations)) e h)
     go k (probes-one z a e) h =

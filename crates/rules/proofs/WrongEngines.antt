@@ -17,7 +17,7 @@ use Rattle.rules.specs.Probe.{Answer}
 use Rattle.rules.specs.Engine.{Engine, machine, Call, Reply, reach, stepsIn, answers}
 use Rattle.rules.specs.Demands.{Demand2, adds-lost, numbersAnswered, NumbersAreAnswers, WaitsAreTrue, Served, Demand3}
 use Rattle.rules.specs.Examples.{arrives, steps, listing, circuits, apart, admittedLater}
-use Rattle.rules.specs.WrongEngines.{refusesAll, refusesCalls, untouched, oneTooLow, alwaysIdle, madeUpDrops, madeUpSent, lowByte, madeUpProbes, firstStation, waitToTheEnd, waitOfTheContention, waitFromTheArrival, arrivalTimes}
+use Rattle.rules.specs.WrongEngines.{refusesAll, refusesCalls, untouched, oneTooLow, alwaysIdle, madeUpDrops, madeUpSent, lowByte, twoForOne, transmittersKept, madeUpProbes, firstStation, waitToTheEnd, waitOfTheContention, waitFromTheArrival, arrivalTimes}
 use Rattle.rules.proofs.Laws.{clash, each-view}
 use Rattle.rules.proofs.Computing.{Brings, Same, number, bus, test, pair, computed, bus-same, test-same, number-same, pair-same, computed-replies}
 
@@ -98,6 +98,20 @@ pub lowByte-wrong : Demand2 lowByte → ⊥
 unfolding events exponentOf isPower
 lowByte-wrong demand =
     let z : _≡_ {A = ℕ} 2 1 = agrees lowByte bus bus-same demand events apart (arrives 263 0 1 ∷ arrives 7 0 1 ∷ steps 1) in omega arith
+
+-- two packets of unlike priority collide
+pub twoForOne-wrong : Demand2 twoForOne → ⊥
+unfolding events exponentOf isPower
+twoForOne-wrong demand =
+    let z : _≡_ {A = ℕ} 2 1 = agrees twoForOne bus bus-same demand events listing (arrives 1 0 1 ∷ arrives 5 3 1 ∷ steps 1) in omega arith
+
+-- and in the slot after the one of the lower half alone transmits
+pub transmittersKept-wrong : Demand2 transmittersKept → ⊥
+unfolding events exponentOf isPower
+transmittersKept-wrong demand =
+    let calls : List Call = arrives 1 0 1 ∷ arrives 5 3 1 ∷ steps 2 in
+    let z : _≡_ {A = ℕ} 2 3 = agrees transmittersKept (pair bus bus) (pair-same bus-same bus-same) demand events listing calls in
+    omega arith
 
 -- a packet of length 3 that is sent in its admission slot has waited for no slot
 pub waitToTheEnd-wrong : Demand2 waitToTheEnd → ⊥

@@ -104,6 +104,34 @@ senders (x ∷ more) = x ∷ keep (λ y. not (eqb (x .address % 256) (y .address
 abbrev pub lowByte : Engine
 lowByte = probing λ o. heard o (senders (transmitters (o .bus) (o .contention)))
 
+-- takes two who transmit for success of the first (P10: 'idle, success and collision follow from how many bits are set')
+abbrev pub firstOfTwo : List Contender → List Contender
+firstOfTwo [] = []
+firstOfTwo (x ∷ []) = x ∷ []
+firstOfTwo (x ∷ y ∷ []) = x ∷ []
+firstOfTwo (x ∷ y ∷ z ∷ more) = x ∷ y ∷ z ∷ more
+
+-- the engine that takes two for one
+abbrev pub twoForOne : Engine
+twoForOne = probing λ o. heard o (firstOfTwo (transmitters (o .bus) (o .contention)))
+
+-- those who transmitted in the slot before, where a contention is under way; where one begins, those who do
+abbrev pub transmittedBefore : Bus → Bus → Option Contention → List Contender
+transmittedBefore b before none = transmitters (opened b .bus) (opened b .contention)
+transmittedBefore b before (some c) = transmitters (opened before .bus) (opened before .contention)
+
+-- hears in a slot those who transmitted in the slot before; beside the bus it keeps the bus as the last step found it
+abbrev pub transmittersKept : Engine
+transmittersKept =
+    record {
+      State = Bus × Bus;
+      setUp = λ r. (setUp r .0, (setUp r .1, setUp r .1));
+      admit = λ s a. (admit (s .0) a .0, (admit (s .0) a .1, s .1));
+      step = λ s.
+          let said = heard (opened (s .0)) (transmittedBefore (s .0) (s .1) (s .0 .contention)) in
+          cond (eqb (stepRefusal (s .0)) 0) (said .0, (said .1, s .0)) (refusedAnswer (stepRefusal (s .0)), s);
+    }
+
 -- makes up probes: plays the contention to its end in one call, in n steps more at the most, and answers its last probe alone
 abbrev pub playedOut : ℕ → Bus → Answer × Bus
 playedOut zero b = step b

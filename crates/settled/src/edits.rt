@@ -1,4 +1,4 @@
-// A lent state with another clock, or with other counts.
+// A lent state with another clock, with other counts, or with another word of contenders.
 use rules::Slot;
 use state::Segment;
 use state::State;
@@ -20,5 +20,11 @@ pub fn with_counts(s: State, admitted: u64, sent: u64, lost: u64) -> State {
     g.admitted = admitted;
     g.sent = sent;
     g.lost = lost;
+    with_segment(s, g)
+}
+
+pub fn with_word(s: State, word: u64) -> State {
+    let mut g = s.segment;
+    g.contenders = word;
     with_segment(s, g)
 }

@@ -68,7 +68,37 @@ fn waits() {
     let both = segments::admit(s, 5, 2, 1);
     lines::stepped(b"admitted at slot 0, sent in slot 10", segments::step(both));
     lines::lent(b"0, admission slot 10 at clock 10", later);
-    lines::lent(b"1, admission slot 10 at clock 9", edits::with_clock(later, 9));
+    lines::lent(
+        b"1, admission slot 10 at clock 9",
+        edits::with_clock(later, 9),
+    );
+}
+
+// P10: 'station i in listed order at bit i', 'bits at N and above are clear'; what a station without its bit has is zero. Of three stations the
+// two at places 1 and 2 contend: the word is 6.
+fn words() {
+    let s = segments::step(segments::two_waiting());
+    lines::lent(b"0, the word 6", edits::with_word(s, 6));
+    lines::lent(b"1, the word 14, a bit at N", edits::with_word(s, 14));
+    let last = 9_223_372_036_854_775_814;
+    lines::lent(b"1, a bit at place 63", edits::with_word(s, last));
+    lines::lent(
+        b"1, the word 3, each one place lower",
+        edits::with_word(s, 3),
+    );
+    lines::lent(
+        b"1, the word 7, a bit without a packet",
+        edits::with_word(s, 7),
+    );
+    lines::lent(
+        b"1, the word 2, a packet without its bit",
+        edits::with_word(s, 2),
+    );
+    let before = segments::two_waiting();
+    lines::lent(
+        b"1, the word 6 between contentions",
+        edits::with_word(before, 6),
+    );
 }
 
 fn main() {
@@ -78,5 +108,6 @@ fn main() {
     latest_start();
     full_addresses();
     waits();
+    words();
     refusals::each();
 }

@@ -3,7 +3,6 @@
 ghost use Prim.Native.Nat.{_-_};
 ghost use mathlib.Core.Path.{_≡_};
 ghost use lib.Dec.{leb, ltb, eqb};
-
 use rules::Slot;
 
 pub mod disciplines;

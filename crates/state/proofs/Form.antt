@@ -11,6 +11,8 @@ use lib.Dec.{eqb, leb, ltb}
 use lib.ListN.{length, getD, take, drop, length-take, length-drop, List·getD-eq-default}
 use lib.Seq.{ext-getD, length-take-le, getD-take, getD-drop}
 use borrow.Author.Tests.{eqb-true, leb-true, ltb-true, ltb-false, not-true, le-leb}
+use Rattle.word.specs.Word.{bitAt}
+use Rattle.word.proofs.Laws.{bit-past}
 use Rattle.window.specs.declared.Side.{Side}
 use Rattle.window.specs.declared.Side.the-variants.{Left, Right}
 use Rattle.window.specs.declared.Window.{Window}
@@ -22,7 +24,8 @@ use Rattle.rules.specs.SetUp.{disciplineOf}
 use Rattle.rules.specs.Standing.{Standing}
 use Rattle.rules.proofs.Laws.{clash, and-true, true-and, all-nil, each-view}
 use Rattle.rules.proofs.Standing.{set-up-stands}
-use Rattle.state.specs.State.{Packet, Contender, Contention, Round, State, Held, noPacket, noContender, nobody, placesAt, queueAt, offerOf, stationAt, stationsOf, lastOf, contentionOf, meaning, noStation, stationOr, listedForm, contenderForm, roundForm, tiedForm, contentionForm, segmentForm, queuesForm, form, no-packet, queue-padded, contender-padded, station-padded, no-station, each-place, round-padded, no-window, contention-padded, padded}
+use Rattle.state.specs.State.{Packet, Contender, Contention, Round, State, Held, noPacket, noContender, nobody, recordedIn, recordedAt, recorded, contenderIn, placesAt, queueAt, offerOf, stationAt, stationsOf, lastOf, contentionOf, meaning, noStation, stationOr, listedForm, contenderForm, roundForm, tiedForm, contentionForm, segmentForm, queuesForm, form, no-packet, queue-padded, contender-padded, station-padded, no-station, each-place, round-padded, no-window, contention-padded, padded}
+use Rattle.state.proofs.Contenders.{recorded-held, place-recorded, recorded-ext}
 use Rattle.state.proofs.Places.{places-count, place-at}
 use Rattle.state.proofs.Rows.{each-place-all, all-each-place, values-length, values-at, values-ext, row-length, row-at, row-ext}
 
@@ -32,7 +35,7 @@ pub held-form : (b : Bus) → Held (form b)
 held-form b =
     record {
       listed = row-length most-stations (λ i. listedForm (stationOr b i));
-      contenders = row-length most-stations (λ i. contenderForm (stationOr b i .offer));
+      contenders = recorded-held (contenderIn b);
       lengths = row-length most-stations (λ i. length (stationOr b i .queue));
       packets = row-length (places * most-stations) (λ j. getD (stationOr b (j / places) .queue) (j % places) noPacket);
     }
@@ -60,7 +63,7 @@ Padded s =
     record {
       discipline : s .segment .settings .discipline ≤ 2;
       queues : (i : ℕ) → i < most-stations → queue-padded (getD (s .queues .lengths) i 0) (placesAt (s .queues) i) ≡ true;
-      contenders : (i : ℕ) → i < most-stations → contender-padded (getD (s .segment .contenders) i noContender) ≡ true;
+      contenders : (i : ℕ) → i < most-stations → contender-padded (recordedAt (s .segment) i) ≡ true;
       past-N : (i : ℕ) → s .segment .settings .n ≤ i → i < most-stations → no-station s i ≡ true;
       round : round-padded (s .segment .round) ≡ true;
       contention : contention-padded (s .segment .contention) ≡ true;
@@ -89,11 +92,11 @@ padded-parts s e =
     each :
         (i : ℕ) → each-place (station-padded s) 0 most-stations ≡ true → i < most-stations
         → (queue-padded (getD (s .queues .lengths) i 0) (placesAt (s .queues) i) ≡ true)
-        × (contender-padded (getD (s .segment .contenders) i noContender) ≡ true)
+        × (contender-padded (recordedAt (s .segment) i) ≡ true)
     each i all h =
         and-true
         (queue-padded (getD (s .queues .lengths) i 0) (placesAt (s .queues) i))
-        (contender-padded (getD (s .segment .contenders) i noContender))
+        (contender-padded (recordedAt (s .segment) i))
         (each-place-all (station-padded s) 0 most-stations all i (omega arith) (omega arith))
 
 pub parts-padded : (s : State) → Padded s → padded s ≡ true
@@ -205,7 +208,7 @@ no-station-is : (s : State) (i : ℕ) → no-station s i ≡ true → stationAt 
 no-station-is s i e =
     let who = getD (s .segment .listed) i nobody in
     let n = getD (s .queues .lengths) i 0 in
-    let c = getD (s .segment .contenders) i noContender in
+    let c = recordedAt (s .segment) i in
     let abc = and-true (eqb (who .address .0) 0 && eqb (who .capability .0) 0 && eqb n 0) (not (c .contends)) e in
     let ab = and-true (eqb (who .address .0) 0 && eqb (who .capability .0) 0) (eqb n 0) (abc .0) in
     let both = and-true (eqb (who .address .0) 0) (eqb (who .capability .0) 0) (ab .0) in
@@ -241,16 +244,14 @@ module _ (s : State) (h : Held s) (p : Padded s) where
       (h .listed)
       (λ i l. ap listedForm (station-at s p i l))
 
-  contenders-is : s .segment .contenders ≡ segmentForm (meaning s) .contenders
+  contenders-is : recordedIn (s .segment) ≡ recorded (contenderIn (meaning s))
   contenders-is =
-      row-ext
-      most-stations
-      (λ i. contenderForm (stationOr (meaning s) i .offer))
-      (s .segment .contenders)
-      noContender
+      recorded-ext
+      (contenderIn (meaning s))
+      (recordedIn (s .segment))
       (h .contenders)
       (λ i l.
-      contender-form (getD (s .segment .contenders) i noContender) (p .contenders i l)
+      contender-form (recordedAt (s .segment) i) (p .contenders i l)
       ∙ ap (λ x. contenderForm (x .offer)) (station-at s p i l))
 
   pub queue-length : (i : ℕ) → i < most-stations → length (queueAt (s .queues) i) ≡ getD (s .queues .lengths) i 0
@@ -313,7 +314,12 @@ module _ (s : State) (h : Held s) (p : Padded s) where
               lost = s .segment .lost;
               round = round-form (s .segment .round) (p .round) i;
               contention = contention-form (s .segment .contention) (p .contention) i;
-              contenders = contenders-is i;
+              contenders = contenders-is i .word;
+              parameters = contenders-is i .parameters;
+              numbers = contenders-is i .numbers;
+              values = contenders-is i .values;
+              lengths = contenders-is i .lengths;
+              admissions = contenders-is i .admissions;
             };
         queues = record { lengths = lengths-is i; packets = packets-is i };
       }
@@ -323,6 +329,26 @@ form-meaning s h e = sym (is-form s h (padded-parts s e))
 
 pub to-form : (s : State) (b : Bus) → Held s → padded s ≡ true → meaning s ≡ b → s ≡ form b
 to-form s b h e m = sym (form-meaning s h e) ∙ ap form m
+
+-- ---- what the padding says of the word: 'bits at N and above are clear', and what a station without its bit has is zero
+
+pub bits-past-N : (s : State) → Held s → Padded s → (i : ℕ) → s .segment .settings .n ≤ i → bitAt (s .segment .contenders) i ≡ false
+bits-past-N s h p i m = go (ltb i most-stations) refl
+  where
+    go : (t : Bool) → ltb i most-stations ≡ t → bitAt (s .segment .contenders) i ≡ false
+    go true e =
+        let who = getD (s .segment .listed) i nobody in
+        let none-there = eqb (who .address .0) 0 && eqb (who .capability .0) 0 && eqb (getD (s .queues .lengths) i 0) 0 in
+        let c = recordedAt (s .segment) i in
+        not-true (c .contends) (and-true none-there (not (c .contends)) (p .past-N i m (ltb-true i most-stations e)) .1)
+    go false e = bit-past most-stations (s .segment .contenders) i (h .contenders .word) (ltb-false i most-stations e)
+
+pub zero-without-bit :
+    (s : State) → Padded s → (i : ℕ) → i < most-stations → bitAt (s .segment .contenders) i ≡ false → recordedAt (s .segment) i ≡ noContender
+zero-without-bit s p i l e =
+    let c = recordedAt (s .segment) i in
+    contender-form c (p .contenders i l)
+    ∙ ap (λ t. contenderForm (cond t (some (record { parameter = c .parameter; packet = c .packet })) none)) e
 
 -- ---- a bus is the meaning of its form
 
@@ -398,8 +424,8 @@ module _ (b : Bus) where
   pub listed-at : (i : ℕ) → i < most-stations → getD (form b .segment .listed) i nobody ≡ listedForm (stationOr b i)
   listed-at i l = row-at most-stations (λ k. listedForm (stationOr b k)) i nobody l
 
-  pub contender-at : (i : ℕ) → i < most-stations → getD (form b .segment .contenders) i noContender ≡ contenderForm (stationOr b i .offer)
-  contender-at i l = row-at most-stations (λ k. contenderForm (stationOr b k .offer)) i noContender l
+  pub contender-at : (i : ℕ) → i < most-stations → recordedAt (form b .segment) i ≡ contenderForm (stationOr b i .offer)
+  contender-at i l = place-recorded (contenderIn b) i l
 
   pub length-at : (i : ℕ) → i < most-stations → getD (form b .queues .lengths) i 0 ≡ length (stationOr b i .queue)
   length-at i l = row-at most-stations (λ k. length (stationOr b k .queue)) i 0 l

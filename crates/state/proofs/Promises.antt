@@ -1,20 +1,21 @@
 -- What is proved of a state, in one place: what it means, when it stands, and what a set-up gives. The contracts of src/ cite `form`,
 -- `standing` and `waitingIn` (specs/State.antt), `settingsRefusal` and `codedSetUp` (specs/SetUp.antt), and here stands what those are worth.
--- docs/PROMISES.md says which sentence each theorem answers. `Held s` says that the rows of s have the lengths of the code's arrays, as those
--- of every state in the code have.
+-- docs/PROMISES.md says which sentence each theorem answers. `Held s` says that the rows of s have the lengths of the code's arrays and that
+-- its word has 64 bits, as those of every state in the code have.
 -- Assumes nothing.
-use Prim.Native.Nat.{_≤_}
+use Prim.Native.Nat.{ℕ, _≤_, _<_}
 use mathlib.Core.Path.{_≡_}
 use mathlib.Core.Logic.{_↔_}
 use mathlib.Core.Bool.{true, false}
 use mathlib.Core.List.{List}
 use lib.ListN.{length}
 use Rattle.rules.specs.Lists.{firstOf}
-use Rattle.rules.specs.Bus.{Bus, nothing, waiting}
+use Rattle.word.specs.Word.{bitAt}
+use Rattle.rules.specs.Bus.{Bus, nothing, waiting, most-stations}
 use Rattle.rules.specs.Standing.{Standing}
 use Rattle.rules.specs.SetUp.{Asked, Request, fine, settingsTests}
 use Rattle.rules.proofs.Tests.{tells, told}
-use Rattle.state.specs.State.{Settings, State, Held, meaning, form, padded, standing, waitingIn}
+use Rattle.state.specs.State.{Settings, State, Held, recordedAt, noContender, meaning, form, padded, standing, waitingIn}
 use Rattle.state.specs.SetUp.{requestWith, settingsRefusal, codedSetUp}
 use Rattle.state.proofs.Form as Form
 use Rattle.state.proofs.SettingUp as SettingUp
@@ -36,6 +37,16 @@ form-stands = Stands.form-stands
 -- a state stands exactly when it is the form of a bus that keeps the standing conditions of paper 01
 pub stands-exactly : (s : State) → Held s → (standing s ≡ true) ↔ (Standing (meaning s) × (form (meaning s) ≡ s))
 stands-exactly s held = (tells (Stands.stands-exactly s held), told (Stands.stands-exactly s held))
+
+-- P10: of a state that stands 'bits at N and above are clear', and what a station without its bit has is zero
+pub bits-past-N :
+    (s : State) → Held s → standing s ≡ true → (i : ℕ) → s .segment .settings .n ≤ i → bitAt (s .segment .contenders) i ≡ false
+bits-past-N s held e = Form.bits-past-N s held (Stands.lent-held s held e .zeros)
+
+pub zero-without-bit :
+    (s : State) → Held s → standing s ≡ true → (i : ℕ) → i < most-stations → bitAt (s .segment .contenders) i ≡ false
+    → recordedAt (s .segment) i ≡ noContender
+zero-without-bit s held e = Form.zero-without-bit s (Stands.lent-held s held e .zeros)
 
 -- what its lengths count as waiting are the packets that wait
 pub waiting-counted :

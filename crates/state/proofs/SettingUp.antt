@@ -22,9 +22,10 @@ use Rattle.rules.specs.Standing.{asked, askedFor}
 use Rattle.rules.specs.Conditions.{settingsConditions}
 use Rattle.rules.proofs.Laws.{and-true}
 use Rattle.rules.proofs.Tests.{below, out-of, by-case, equal, negated, one-of, inside, Tried, done, _then_, NoneHolds, none-held}
-use Rattle.state.specs.State.{Settings, Listed, State, noPacket, noContender, noContention, noRound, nobody, row, stationOr, listedForm, contenderForm, form, stationAt, stationsOf, meaning}
+use Rattle.state.specs.State.{Settings, Listed, State, noPacket, noContender, noContention, noRound, nobody, row, stationOr, listedForm, contenderForm, contenderIn, recorded, form, stationAt, stationsOf, meaning}
 use Rattle.state.specs.SetUp.{SetUp, askedOf, requestWith, settingsRefusal, codedSetUp, setUpResult}
-use Rattle.state.specs.Parts.{Compared, numberOf, shared, freshState}
+use Rattle.state.specs.Parts.{Compared, numberOf, shared, noContenders, freshState}
+use Rattle.state.proofs.Contenders.{recorded-same}
 use Rattle.state.proofs.Listed.{the-row}
 use Rattle.state.proofs.Rows.{take-map, values-length, values-map, values-take, row-same}
 use Rattle.state.proofs.Form.{code-discipline}
@@ -328,13 +329,12 @@ fresh-form g stations count pass = λ j.
         lost = 0;
         round = noRound;
         contention = noContention;
-        contenders =
-            row-same
-            64
-            (λ i. contenderForm (stationOr b i .offer))
-            (λ i. noContender)
-            (λ i h. ap (λ (s : Station). contenderForm (s .offer)) (at i))
-            j;
+        contenders = nobody-contends j .word;
+        parameters = nobody-contends j .parameters;
+        numbers = nobody-contends j .numbers;
+        values = nobody-contends j .values;
+        lengths = nobody-contends j .lengths;
+        admissions = nobody-contends j .admissions;
       };
       queues = record {
         lengths = row-same 64 (λ i. length (stationOr b i .queue)) (λ i. 0) (λ i h. ap (λ (s : Station). length (s .queue)) (at i)) j;
@@ -365,6 +365,9 @@ fresh-form g stations count pass = λ j.
         List·getD-map freshStation (take (g .n) rest) i (askedOf nobody)
         ∙ ap (λ asked. freshStation (getD asked i (askedOf nobody))) (asked-first stations (g .n) count within)
         ∙ ap freshStation (List·getD-map askedOf (take (g .n) stations) i nobody)
+
+    nobody-contends : recorded (contenderIn b) ≡ noContenders
+    nobody-contends = recorded-same (contenderIn b) (λ i. noContender) (λ i l. ap (λ (s : Station). contenderForm (s .offer)) (at i))
 
 -- ---- what a state would be asked for by
 

@@ -23,7 +23,7 @@ use Rattle.rules.specs.Standing.{packet-fits, rising, same-packet, parameter-fi
 use Rattle.rules.proofs.Laws.{clash, and-true, true-and}
 use Rattle.rules.proofs.Tests.{Whether, holds, fails}
 use Rattle.rules.proofs.Standing.{stands-exactly}
-use Rattle.state.specs.State.{Contender, Contention, Segment, Queues, State, Held, noContender, nobody, placesAt, queueAt, stationAt, stationsOf, valuesFrom, tieOf, meaning, no-packet, queue-padded, contender-padded, station-padded, no-station, each-place, round-padded, contention-padded, padded, standing, waitingIn}
+use Rattle.state.specs.State.{Contender, Contention, Segment, Queues, State, Held, recordedAt, nobody, placesAt, queueAt, stationAt, stationsOf, valuesFrom, tieOf, meaning, no-packet, queue-padded, contender-padded, station-padded, no-station, each-place, round-padded, contention-padded, padded, standing, waitingIn}
 use Rattle.state.specs.SetUp.{askedOf, requestWith}
 use Rattle.state.specs.Parts.{parameterFits, contenderSound, stationSound, nobodyAt, placeSound, numbersFrom, numbersSound, queuesSound, roundSound, contentionSound}
 use Rattle.state.proofs.State as state
@@ -81,13 +81,13 @@ each-values test f i (suc k) = ap (λ t. test (f i) && t) (each-values test f (s
 -- `parameterFits` is `parameter-fits` of the station's offer
 fits-same :
     (d : Discipline) (s : State) (i : ℕ)
-    → parameterFits d (getD (s .segment .listed) i nobody .capability) (getD (s .segment .contenders) i noContender)
+    → parameterFits d (getD (s .segment .listed) i nobody .capability) (recordedAt (s .segment) i)
     ≡ parameter-fits
     d
     (stationAt s i)
     (record {
-      parameter = getD (s .segment .contenders) i noContender .parameter;
-      packet = getD (s .segment .contenders) i noContender .packet;
+      parameter = recordedAt (s .segment) i .parameter;
+      packet = recordedAt (s .segment) i .packet;
     })
 fits-same PRI s i = refl
 fits-same RTDG s i = refl
@@ -100,14 +100,14 @@ contender-same :
     (s .segment .settings)
     (s .segment .contention .begun)
     (getD (s .segment .listed) i nobody)
-    (getD (s .segment .contenders) i noContender)
+    (recordedAt (s .segment) i)
     (queueAt (s .queues) i)
-    ≡ (contender-padded (getD (s .segment .contenders) i noContender)
+    ≡ (contender-padded (recordedAt (s .segment) i)
     && offer-stands (meaning s) (stationAt s i) (meaning s .contention) (stationAt s i .offer))
 contender-same s i = ap (λ t. contender-padded c && t) (go (c .contends) (s .segment .contention .begun))
   where
     c : Contender
-    c = getD (s .segment .contenders) i noContender
+    c = recordedAt (s .segment) i
 
     go :
         (contends begun : Bool)
@@ -151,7 +151,7 @@ station-same s i =
     (queue-padded (getD (s .queues .lengths) i 0) (placesAt (s .queues) i))
     rises
     fits
-    (contender-padded (getD (s .segment .contenders) i noContender))
+    (contender-padded (recordedAt (s .segment) i))
     offered
     ∙ ap
     (λ t. station-padded s i && (t && rises && fits && offered))
@@ -205,7 +205,7 @@ nobody-same s i =
     n = getD (s .queues .lengths) i 0
 
     c : Contender
-    c = getD (s .segment .contenders) i noContender
+    c = recordedAt (s .segment) i
 
 -- ---- all places
 
@@ -417,7 +417,15 @@ state-held s vs owned =
     let queues = queues-arrays (s .queues) _ (owned .1 .1 .1 .0) in
     record {
       listed = sym (length-map (s .segment .listed) _) ∙ segment .1 .0 .1 .0 .1;
-      contenders = sym (length-map (s .segment .contenders) _) ∙ segment .1 .1 .1 .1 .1 .1 .1 .1 .0 .1 .0 .1;
+      contenders =
+          record {
+            word = segment .1 .1 .1 .1 .1 .1 .1 .1 .0 .1;
+            parameters = sym (length-map (s .segment .parameters) _) ∙ segment .1 .1 .1 .1 .1 .1 .1 .1 .1 .0 .1 .0 .1;
+            numbers = sym (length-map (s .segment .numbers) _) ∙ segment .1 .1 .1 .1 .1 .1 .1 .1 .1 .1 .0 .1 .0 .1;
+            values = sym (length-map (s .segment .values) _) ∙ segment .1 .1 .1 .1 .1 .1 .1 .1 .1 .1 .1 .0 .1 .0 .1;
+            lengths = sym (length-map (s .segment .lengths) _) ∙ segment .1 .1 .1 .1 .1 .1 .1 .1 .1 .1 .1 .1 .0 .1 .0 .1;
+            admissions = sym (length-map (s .segment .admissions) _) ∙ segment .1 .1 .1 .1 .1 .1 .1 .1 .1 .1 .1 .1 .1 .0 .1 .0 .1;
+          };
       lengths = queues .0;
       packets = queues .1;
     }

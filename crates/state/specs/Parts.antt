@@ -9,7 +9,7 @@ use Rattle.rules.specs.Lists.{each-of, some-of, has, distinct}
 use Rattle.rules.specs.Bus.{Discipline, PRI, RTDG, RTVC, numbersIn}
 use Rattle.rules.specs.SetUp.{Asked, disciplineOf}
 use Rattle.rules.specs.Standing.{packet-fits, rising, same-packet}
-use Rattle.state.specs.State.{Slot, Capability, Settings, Listed, Contender, Contention, Segment, Queues, State, Packet, noPacket, noContender, noContention, noRound, nobody, placesAt, queueAt, row, no-packet, queue-padded, contender-padded, round-padded, contention-padded, each-place}
+use Rattle.state.specs.State.{Slot, Capability, Settings, Listed, Contender, Recorded, Contention, Segment, Queues, State, Packet, noPacket, noContender, recordedAt, recorded, noContention, noRound, nobody, placesAt, queueAt, row, no-packet, queue-padded, contender-padded, round-padded, contention-padded, each-place}
 use Rattle.state.specs.SetUp.{askedOf}
 pub use Rattle.state.specs.declared.Queue.{Queue}
 pub use Rattle.state.specs.declared.Compared.{Compared}
@@ -46,9 +46,9 @@ shared compared s stations = has (numberOf compared (askedOf s)) (map (numberOf 
 
 -- ---- the state that a set-up gives
 
--- no station contends
-abbrev pub noContenders : List Contender
-noContenders = row 64 (λ i. noContender)
+-- no station contends: no bit is set, and the rows are zero
+abbrev pub noContenders : Recorded
+noContenders = recorded (λ i. noContender)
 
 abbrev pub freshState : Settings → List Listed → State
 freshState g listed =
@@ -63,7 +63,12 @@ freshState g listed =
             lost = 0;
             round = noRound;
             contention = noContention;
-            contenders = noContenders;
+            contenders = noContenders .word;
+            parameters = noContenders .parameters;
+            numbers = noContenders .numbers;
+            values = noContenders .values;
+            lengths = noContenders .lengths;
+            admissions = noContenders .admissions;
           };
       queues = record { lengths = row 64 (λ i. 0); packets = row 1024 (λ i. noPacket) };
     }
@@ -101,7 +106,7 @@ stationSound g qs i =
     (g .clock)
     (g .admitted)
     (getD (g .listed) i nobody)
-    (getD (g .contenders) i noContender)
+    (recordedAt g i)
     (queueOf qs i)
 
 -- `station-padded` and `no-station`
@@ -115,7 +120,7 @@ nobodyTest l c queue =
 
 -- the same, of place i
 abbrev pub nobodyAt : Segment → Queues → ℕ → Bool
-nobodyAt g qs i = nobodyTest (getD (g .listed) i nobody) (getD (g .contenders) i noContender) (queueOf qs i)
+nobodyAt g qs i = nobodyTest (getD (g .listed) i nobody) (recordedAt g i) (queueOf qs i)
 
 -- the place of station i: a station's up to N, nobody's past it
 abbrev pub placeSound : Segment → Queues → ℕ → Bool

@@ -1,13 +1,14 @@
 -- The state of the code (src/lib.rt), and what it means: the machine of the rules. `meaning` leaves out the places that have no
 -- meaning, `form` pads a bus with zeros, `padded` is paper 01's 'What has no meaning is zero', `standing` all of its standing
 -- conditions, and `waitingIn` what waits. Assumes nothing.
-use Prim.Native.Nat.{ℕ, zero, suc, _-_, _*_, _/_, _%_, min}
+use Prim.Native.Nat.{ℕ, zero, suc, _-_, _*_, _/_, _%_, _^_, _<_, min}
 use mathlib.Core.Path.{_≡_}
 use mathlib.Core.Bool.{Bool, true, false, not, _&&_, _||_, cond}
 use mathlib.Core.Option.{Option, none, some}
 use mathlib.Core.List.{List, [], _∷_}
 use lib.Dec.{leb, eqb}
 use lib.ListN.{length, getD, take, drop}
+use Rattle.word.specs.Word.{bitAt, wordOf}
 use Rattle.window.specs.declared.Side.the-variants.{Left}
 use Rattle.window.specs.declared.Window.{Window}
 use Rattle.window.specs.Splitting.{sameSide}
@@ -29,12 +30,45 @@ pub use Rattle.state.specs.declared.Segment.{Segment}
 pub use Rattle.state.specs.declared.Queues.{Queues}
 pub use Rattle.state.specs.declared.State.{State}
 
--- The rows of a state are as long as the code's arrays, as those of every state in the code are: all of these.
+-- What a segment has of its contenders: the word, 'station i in listed order at bit i', and beside it the rows of what each has, its
+-- parameter and its packet's number, value, length and admission slot.
+pub record Recorded : Type 0 where
+  pub word : ℕ
+  pub parameters : List ℕ
+  pub numbers : List ℕ
+  pub values : List ℕ
+  pub lengths : List ℕ
+  pub admissions : List Slot
+
+abbrev pub recordedIn : Segment → Recorded
+recordedIn g =
+    record {
+      word = g .contenders;
+      parameters = g .parameters;
+      numbers = g .numbers;
+      values = g .values;
+      lengths = g .lengths;
+      admissions = g .admissions;
+    }
+
+-- The word has 64 bits, and each row 64 places.
+abbrev pub RecordedHeld : Recorded → Type 0
+RecordedHeld r =
+    record {
+      word : r .word < 2 ^ 64;
+      parameters : length (r .parameters) ≡ 64;
+      numbers : length (r .numbers) ≡ 64;
+      values : length (r .values) ≡ 64;
+      lengths : length (r .lengths) ≡ 64;
+      admissions : length (r .admissions) ≡ 64;
+    }
+
+-- The rows of a state are as long as the code's arrays, and its word has 64 bits, as those of every state in the code: all of these.
 abbrev pub Held : State → Type 0
 Held s =
     record {
       listed : length (s .segment .listed) ≡ 64;
-      contenders : length (s .segment .contenders) ≡ 64;
+      contenders : RecordedHeld (recordedIn (s .segment));
       lengths : length (s .queues .lengths) ≡ 64;
       packets : length (s .queues .packets) ≡ 1024;
     }
@@ -66,6 +100,24 @@ placesAt qs i = take places (drop (places * i) (qs .packets))
 abbrev pub queueAt : Queues → ℕ → List Packet
 queueAt qs i = take (getD (qs .lengths) i 0) (placesAt qs i)
 
+-- station i's place among the contenders: whether its bit is set, and what stands in the rows
+abbrev pub placeIn : Recorded → ℕ → Contender
+placeIn r i =
+    record {
+      contends = bitAt (r .word) i;
+      parameter = getD (r .parameters) i 0;
+      packet =
+          record {
+            number = getD (r .numbers) i 0;
+            value = getD (r .values) i 0;
+            length = getD (r .lengths) i 0;
+            admission = getD (r .admissions) i (record { 0 = 0 });
+          };
+    }
+
+abbrev pub recordedAt : Segment → ℕ → Contender
+recordedAt g i = placeIn (recordedIn g) i
+
 -- the offer of a station's place among the contenders
 abbrev pub offerOf : Contender → Option Machine.Offer
 offerOf c = cond (c .contends) (some (record { parameter = c .parameter; packet = c .packet })) none
@@ -77,7 +129,7 @@ stationWith g i queue =
       address = getD (g .listed) i nobody .address .0;
       capability = getD (g .listed) i nobody .capability .0;
       queue = queue;
-      offer = offerOf (getD (g .contenders) i noContender);
+      offer = offerOf (recordedAt g i);
     }
 
 -- station i
@@ -148,6 +200,22 @@ abbrev pub contenderForm : Option Machine.Offer → Contender
 contenderForm none = noContender
 contenderForm (some o) = record { contends = true; parameter = o .parameter; packet = o .packet }
 
+-- the contenders by their places: the word of those who contend, and the rows of what each has
+abbrev pub recorded : (ℕ → Contender) → Recorded
+recorded at =
+    record {
+      word = wordOf (λ i. at i .contends) most-stations;
+      parameters = row most-stations (λ i. at i .parameter);
+      numbers = row most-stations (λ i. at i .packet .number);
+      values = row most-stations (λ i. at i .packet .value);
+      lengths = row most-stations (λ i. at i .packet .length);
+      admissions = row most-stations (λ i. at i .packet .admission);
+    }
+
+-- the place among the contenders that station i of a bus has
+abbrev pub contenderIn : Machine.Bus → ℕ → Contender
+contenderIn b i = contenderForm (stationOr b i .offer)
+
 -- the round by its last winner, and the contention by its window and its tie value
 abbrev pub roundForm : Option ℕ → Round
 roundForm none = noRound
@@ -176,7 +244,12 @@ segmentForm b =
       lost = b .lost;
       round = roundForm (b .last);
       contention = contentionForm (b .contention);
-      contenders = row most-stations (λ i. contenderForm (stationOr b i .offer));
+      contenders = recorded (contenderIn b) .word;
+      parameters = recorded (contenderIn b) .parameters;
+      numbers = recorded (contenderIn b) .numbers;
+      values = recorded (contenderIn b) .values;
+      lengths = recorded (contenderIn b) .lengths;
+      admissions = recorded (contenderIn b) .admissions;
     }
 
 abbrev pub queuesForm : Machine.Bus → Queues
@@ -209,7 +282,7 @@ contender-padded c = c .contends || (eqb (c .parameter) 0 && no-packet (c .packe
 abbrev pub station-padded : State → ℕ → Bool
 station-padded s i =
     queue-padded (getD (s .queues .lengths) i 0) (placesAt (s .queues) i)
-    && contender-padded (getD (s .segment .contenders) i noContender)
+    && contender-padded (recordedAt (s .segment) i)
 
 -- no station is listed at place i, none contends there, and its queue is empty
 abbrev pub no-station : State → ℕ → Bool
@@ -217,7 +290,7 @@ no-station s i =
     eqb (getD (s .segment .listed) i nobody .address .0) 0
     && eqb (getD (s .segment .listed) i nobody .capability .0) 0
     && eqb (getD (s .queues .lengths) i 0) 0
-    && not (getD (s .segment .contenders) i noContender .contends)
+    && not (recordedAt (s .segment) i .contends)
 
 -- whether the test holds for each of the k places from i on
 unfoldable pub each-place : (ℕ → Bool) → ℕ → ℕ → Bool

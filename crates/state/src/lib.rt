@@ -58,7 +58,9 @@ pub struct Round {
     pub last: Capability,
 }
 
-// All of the state but the queues: what a probe reads and writes. Stations and contenders stand in listed order.
+// All of the state but the queues: what a probe reads and writes. Stations stand in listed order. The contenders are a word, 'station i in
+// listed order at bit i', and what each has beside its bit, in rows of plain numbers: its parameter, and the number, value, length and
+// admission slot of its packet.
 pub struct Segment {
     pub settings: Settings,
     pub listed: [Listed; 64],
@@ -68,7 +70,12 @@ pub struct Segment {
     pub lost: u64,
     pub round: Round,
     pub contention: Contention,
-    pub contenders: [Contender; 64],
+    pub contenders: u64,
+    pub parameters: [u64; 64],
+    pub numbers: [u32; 64],
+    pub values: [u32; 64],
+    pub lengths: [u32; 64],
+    pub admissions: [Slot; 64],
 }
 
 // The queues: how many packets each station has, and '16 packets a station, so 1,024 places in all'. Station i owns the sixteen

@@ -371,7 +371,19 @@ fn queues_stand(g: Segment, queues: Queues) -> bool
     let mut waiting = 0usize;
     for i in 0..64 {
         let l = g.listed[i];
-        let c = g.contenders[i];
+        let contends = word::test(g.contenders, i);
+        let admission = g.admissions[i];
+        let packet = Packet {
+            number: g.numbers[i],
+            value: g.values[i],
+            length: g.lengths[i],
+            admission,
+        };
+        let c = Contender {
+            contends,
+            parameter: g.parameters[i],
+            packet,
+        };
         let mut places = [zeros::NO_PACKET; 16];
         for j in 0..16 {
             let p = queues.packets[16 * i + j];
@@ -383,7 +395,16 @@ fn queues_stand(g: Segment, queues: Queues) -> bool
             packets: places,
             length,
         };
-        if !place_stands(settings, contention.begun, g.clock, g.admitted, i, l, c, queue) {
+        if !place_stands(
+            settings,
+            contention.begun,
+            g.clock,
+            g.admitted,
+            i,
+            l,
+            c,
+            queue,
+        ) {
             return false;
         }
         waiting += length;

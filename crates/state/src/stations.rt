@@ -207,7 +207,9 @@ pub fn up_to(stations: [Listed; 64], n: usize) -> [Listed; 64]
 pub fn fresh(settings: Settings, listed: [Listed; 64]) -> State
     ensures { λ r. ⌜ r ≡ freshState settings listed ⌝ }
 {
-    let contenders = [zeros::NO_CONTENDER; 64];
+    let parameters = [0u64; 64];
+    let none = [0u32; 64];
+    let admissions = [zeros::NO_SLOT; 64];
     let lengths = [0usize; 64];
     let packets = [zeros::NO_PACKET; 1024];
     let segment = Segment {
@@ -219,7 +221,12 @@ pub fn fresh(settings: Settings, listed: [Listed; 64]) -> State
         lost: 0,
         round: zeros::NO_ROUND,
         contention: zeros::NO_CONTENTION,
-        contenders,
+        contenders: 0,
+        parameters,
+        numbers: none,
+        values: none,
+        lengths: none,
+        admissions,
     };
     let queues = Queues { lengths, packets };
     State { segment, queues }

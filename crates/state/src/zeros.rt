@@ -16,12 +16,15 @@ pub const NOBODY: Listed = Listed {
     capability: Capability(0),
 };
 
+// No admission slot.
+pub const NO_SLOT: Slot = Slot(0);
+
 // A place that no packet fills.
 pub const NO_PACKET: Packet = Packet {
     number: 0,
     value: 0,
     length: 0,
-    admission: Slot(0),
+    admission: NO_SLOT,
 };
 
 // The place of a station that does not contend.

@@ -116,7 +116,103 @@ fn every_field() {
     for (change, line) in expected {
         assert_eq!(changed(change), [line], "{change}");
     }
-    for change in ["E 0 1 1", "E 31 1 1", "E 18446744073709551615 1 1"] {
+    for change in ["E 0 1 1", "E 32 1 1", "E 18446744073709551615 1 1"] {
         assert!(changed(change).is_empty());
+    }
+}
+
+/// The lines of stations that contend with zeros, one for each of these places.
+fn contending(places: impl IntoIterator<Item = usize>) -> Vec<String> {
+    places
+        .into_iter()
+        .map(|place| format!("contender {place} 1 0 0 0 0 0"))
+        .collect()
+}
+
+/// "31: the word of contenders, 64 bits: the station at place i contends where bit i is set".
+#[test]
+fn the_word_of_contenders() {
+    assert_eq!(changed("E 31 0 1"), contending([0]));
+    assert_eq!(changed("E 31 0 2"), contending([1]));
+    assert_eq!(changed("E 31 0 2147483648"), contending([31]));
+    assert_eq!(changed("E 31 0 4294967296"), contending([32]));
+    assert_eq!(changed("E 31 0 4294967303"), contending([0, 1, 2, 32]));
+    assert_eq!(changed("E 31 0 9223372036854775808"), contending([63]));
+    assert_eq!(changed("E 31 0 9223372036854775809"), contending([0, 63]));
+    assert_eq!(changed("E 31 0 9223372036854775807"), contending(0..63));
+    for place in 0..64 {
+        let one = format!("E 31 0 {}", 1u64 << place);
+        assert_eq!(changed(&one), contending([place]));
+    }
+    assert!(changed("E 31 0 0").is_empty());
+}
+
+/// "A number of 18,446,744,073,709,551,610 or more reads as 18,446,744,073,709,551,615": bits 1 and 2
+/// are clear in the one before it.
+#[test]
+fn words_that_read_as_all_bits() {
+    let all_but_two = (0..64).filter(|place| ![1, 2].contains(place));
+    assert_eq!(
+        changed("E 31 0 18446744073709551609"),
+        contending(all_but_two)
+    );
+    assert_eq!(changed("E 31 0 18446744073709551610"), contending(0..64));
+    assert_eq!(changed("E 31 0 18446744073709551615"), contending(0..64));
+}
+
+/// "The index of a field that stands once is not used".
+#[test]
+fn the_word_stands_once() {
+    for index in ["1", "5", "63", "64", "1025", "18446744073709551615"] {
+        assert_eq!(changed(&format!("E 31 {index} 6")), contending([1, 2]));
+    }
+}
+
+/// A word takes the place of the one before it, and what a station contends with stays.
+#[test]
+fn the_word_is_the_whole_word() {
+    assert_eq!(changed("E 31 0 5 E 31 0 6"), contending([1, 2]));
+    assert!(changed("E 31 0 18446744073709551615 E 31 0 0").is_empty());
+    let offered = "E 21 63 9 E 22 63 8 E 23 63 7 E 24 63 6 E 29 63 5";
+    let line = |contends| [format!("contender 63 {contends} 9 8 7 6 5")];
+    assert_eq!(changed(offered), line(0));
+    let set = format!("{offered} E 31 0 9223372036854775808");
+    assert_eq!(changed(&set), line(1));
+    assert_eq!(changed(&format!("{set} E 31 0 0")), line(0));
+    assert_eq!(
+        changed(&format!("E 31 0 9223372036854775808 {offered}")),
+        line(1)
+    );
+}
+
+/// "whether the station at place i contends, which is bit i of the word of contenders".
+#[test]
+fn a_station_and_the_word() {
+    assert_eq!(
+        changed("E 31 0 9223372036854775809 E 20 0 0"),
+        contending([63])
+    );
+    assert_eq!(
+        changed("E 31 0 9223372036854775809 E 20 63 0"),
+        contending([0])
+    );
+    assert_eq!(changed("E 20 5 1 E 31 0 32"), contending([5]));
+    assert_eq!(changed("E 20 5 1 E 31 0 64"), contending([6]));
+    assert_eq!(changed("E 31 0 64 E 20 5 1"), contending([5, 6]));
+    let each: String = (0..64).map(|place| format!("E 20 {place} 1 ")).collect();
+    assert_eq!(changed(&each), changed("E 31 0 18446744073709551615"));
+}
+
+/// The word that a contention has stands, and is the same state; one with a bit more or less does not.
+#[test]
+fn the_word_of_a_contention() {
+    let begun = "U 0 4 8 1 3 3 3 1 0 5 0 6 0 A 5 2 3 A 6 2 1 S";
+    let state = played(begun);
+    assert!(state.contains("\ncontender 1 1 2 1 2 3 0\ncontender 2 1 2 2 2 1 0\n"));
+    assert_eq!(played(&format!("{begun} E 31 0 6")), state);
+    assert!(played(&format!("{begun} E 31 0 6 T")).contains("\nT 0 1 2 0 0 2\n"));
+    for word in [0u64, 2, 4, 7, 12, 14, 6 | 1 << 63, 6 | 1 << 32, u64::MAX] {
+        let written = played(&format!("{begun} E 31 0 {word} T S"));
+        assert!(written.contains("\nT 1 0 0 0 0 0\nS 1 0 "), "{word}");
     }
 }

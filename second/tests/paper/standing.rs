@@ -321,6 +321,42 @@ fn what_has_no_meaning() {
     );
 }
 
+/// "bits at N and above are clear", none is set between contentions, and a station without its bit has
+/// no parameter and no packet.
+#[test]
+fn bits_of_contenders() {
+    breaks(
+        &in_parameter_phase(),
+        &[
+            |s| s.contenders[63].contends = true,
+            |s| s.contenders[3..].iter_mut().for_each(|c| c.contends = true),
+            |s| s.contenders.iter_mut().for_each(|c| c.contends = true),
+            |s| s.contenders.iter_mut().for_each(|c| c.contends = false),
+            |s| s.contenders[2].contends = false,
+            |s| s.contenders[0].packet.number = 1,
+            |s| s.contenders[0].packet.value = 1,
+            |s| s.contenders[0].packet.length = 1,
+            |s| s.contenders.rotate_right(1),
+            |s| s.contenders.reverse(),
+        ],
+    );
+    breaks(
+        &between(),
+        &[
+            |s| s.contenders[0].contends = true,
+            |s| s.contenders[2].contends = true,
+            |s| s.contenders[..3].iter_mut().for_each(|c| c.contends = true),
+        ],
+    );
+    keeps(
+        &in_parameter_phase(),
+        &[
+            |s| s.contenders[1] = s.contenders[0],
+            |s| s.contenders[2] = s.contenders[0],
+        ],
+    );
+}
+
 #[test]
 fn what_is_not_named_is_accepted() {
     keeps(

@@ -1,6 +1,6 @@
 -- `step` meets its contract: it tries 1, then 17, begins a contention if none is under way, and probes one slot. Assumes nothing.
 use Prim.Native.Nat.{ℕ, _<_}
-use mathlib.Core.Path.{_≡_, refl, ap, _∙_, subst}
+use mathlib.Core.Path.{_≡_, refl, sym, ap, _∙_, subst}
 use mathlib.Core.Logic.{⊎-elim}
 use mathlib.Core.Bool.{false}
 use native.Mathlib.Omega.{arith}
@@ -14,18 +14,19 @@ use Rattle.rules.proofs.Standing.{set-up-stands}
 use Rattle.bus.specs.Types.{Segment, Queues, State}
 use Rattle.state.specs.State.{meaning}
 use Rattle.bus.specs.Coded.{Answer, codedStep, stepResult}
-use Rattle.bus.specs.Parts.{Heard, Moved, heardIn, movedBy, Sent, stays}
+use Rattle.word.specs.Word.{countOf, lowestOf}
+use Rattle.bus.specs.Parts.{Moved, transmittersOf, transmittersIn, movedBy, Sent, stays}
 use Rattle.state.proofs.Places.{queues-arrays}
 use Rattle.state.proofs.Tested.{denied, granted}
 use Rattle.state.proofs.Stands.{Lent, lent, few-packets}
 use Rattle.state.proofs.StandingParts.{state-held}
 use Rattle.bus.proofs.ClosingUp.{LeftIn, left-one}
 use Rattle.bus.proofs.BeginningLaws.{inTimeAt, droppingTo, dropping-few, left-late, all-formed, room-left, late-counted, lost-counted}
-use Rattle.bus.proofs.HeardLaws.{heard-short, heard-counted}
+use Rattle.bus.proofs.HeardLaws.{sole-short, sole-counted, lowest-there, counted!, sole-taken, sole-left}
 use Rattle.bus.proofs.InPlace.{whole, Sound, sound-of, step-away, step-on, Opened, was-open, opened-as, begun-open, none-sent, one-sent, winner-in}
 use Rattle.bus.proofs.step.Statement.{statement}
 use Rattle.bus.proofs.step.Tie as tie
-use Rattle.bus.proofs.ProbedSlot.{progressOf}
+use Rattle.bus.proofs.ProbedSlot.{progressOf, Sole, soleOf, heardIn}
 
 stands-requires : tie.Need-stands-requires
 stands-requires c κs = search needs
@@ -128,19 +129,105 @@ module _ (c : tie.Joined2) where
       (λ w. opened-as (ap (λ (x : State). x .segment) (w .1)) (ap (λ (x : State). x .queues) (w .1)) (w .2) (was-open (s at) r (granted refl (w .0 .left))))
       (c .if2 .came)
 
-heard-requires : tie.Need-heard-requires
-heard-requires c κs = opened! c .ready .few
+addresses-of-requires : tie.Need-addresses-of-requires
+addresses-of-requires c κs = search needs
+
+transmitters-requires : tie.Need-transmitters-requires
+transmitters-requires c κs = search needs
+
+count-requires : tie.Need-count-requires
+count-requires c κs = search needs
+
+-- ---- who transmits
+
+module _ (c : tie.After-count) where
+  abbrev joined : tie.Joined2
+  joined = c .before .before .before .before .before .before .before .before .before .before .before .before .before
+
+  -- the segment that is probed
+  abbrev probing : Segment
+  probing = joined .if2 .s .segment
+
+  abbrev here : State
+  here = whole probing (joined .if2 .s .queues)
+
+  word! : c .before .transmitters .result ≡ transmittersIn probing
+  word! =
+      c .before .transmitters .ensures
+      ∙ ap
+      (transmittersOf (probing .settings .discipline) (probing .clock) (probing .contention) (probing .contenders) (probing .parameters) (probing .values))
+      (c .before .before .before .before .before .before .addresses-of .ensures)
+
+  count! : c .count .result ≡ countOf (transmittersIn probing)
+  count! = counted! probing (c .before .transmitters .result) (c .count .result) word! (c .count .ensures)
+
+lowest-requires : tie.Need-lowest-requires
+lowest-requires c κs = search needs
+
+in-rows : (c : tie.After-lowest) → c .lowest .result < 64
+in-rows c =
+    let told = c .before .before in
+    let o = opened! (joined told) in
+    let one : countOf (transmittersIn (probing told)) ≡ 1 = sym (count! told) ∙ c .before .if3 .taken in
+    omega (arith, c .lowest .ensures, ap lowestOf (word! told), lowest-there (here told) (o .ready) (o .begun) one)
+
+mul-listed : tie.Need-mul-listed
+mul-listed c = let h = in-rows c in search needs
+
+element-copy-out-listed : tie.Need-element-copy-out-listed
+element-copy-out-listed c = let h = in-rows c in search needs
+
+mul-admission : tie.Need-mul-admission
+mul-admission c = let h = in-rows (c .before) in search needs
+
+element-copy-out-admission : tie.Need-element-copy-out-admission
+element-copy-out-admission c = let h = in-rows (c .before) in search needs
+
+mul-t40 : tie.Need-mul-t40
+mul-t40 c = let h = in-rows (c .before .before) in search needs
+
+element-copy-out-t49 : tie.Need-element-copy-out-t49
+element-copy-out-t49 c = let h = in-rows (c .before .before) in search needs
+
+mul-t50 : tie.Need-mul-t50
+mul-t50 c = let h = in-rows (c .before .before .before) in search needs
+
+element-copy-out-t53 : tie.Need-element-copy-out-t53
+element-copy-out-t53 c = let h = in-rows (c .before .before .before) in search needs
+
+mul-t54 : tie.Need-mul-t54
+mul-t54 c = let h = in-rows (c .before .before .before .before) in search needs
+
+element-copy-out-t57 : tie.Need-element-copy-out-t57
+element-copy-out-t57 c = let h = in-rows (c .before .before .before .before) in search needs
+
+-- the sole winner, if there is one
+module _ (c : tie.Joined3) where
+  abbrev sole : Sole
+  sole = record { place = c .if3 .place; listed = c .if3 .listed; packet = c .if3 .packet }
+
+  sole! : sole ≡ soleOf (probing (c .before)) (heardIn (probing (c .before)))
+  sole! =
+      let told = c .before in
+      let g = probing told in
+      let word = told .before .transmitters .result in
+      ⊎-elim
+      (λ w.
+      (λ i. record { place = w .7 i; listed = w .8 i; packet = w .9 i })
+      ∙ sole-taken g word (told .count .result) (word! told) (told .count .ensures) (w .0 .taken) (w .1 .result) (w .1 .ensures))
+      (λ w.
+      (λ i. record { place = w .1 i; listed = w .2 i; packet = w .3 i })
+      ∙ sole-left g word (told .count .result) (word! told) (told .count .ensures) (w .0 .left))
+      (c .if3 .came)
 
 moved-requires : tie.Need-moved-requires
 moved-requires c κs =
-    let joined = c .before .before .before .before .before in
-    let o = opened! joined in
-    let here = whole (joined .if2 .s .segment) (joined .if2 .s .queues) in
-    let h = c .before .before .before .before .heard .ensures in (
+    let told = c .before in
+    let o = opened! (joined told) in (
       o .ready .stands .clock-in,
       (
-        omega (arith, ap (λ (x : Heard). x .packet .length) h, heard-short here (o .ready) (o .begun)),
-        λ n. heard-counted here (o .ready) (o .begun) (λ e. n (ap (λ (x : Heard). x .first) h ∙ e)),
+        omega (arith, ap (λ (x : Sole). x .packet .length) (sole! c), sole-short (here told) (o .ready) (o .begun)),
+        λ one. sole-counted (here told) (o .ready) (o .begun) (sym (count! told) ∙ one),
       ),
     )
 
@@ -153,69 +240,70 @@ module _ (c : tie.After-with-moved) where
   abbrev moved : tie.After-moved
   moved = c .before .before
 
-  abbrev joined : tie.Joined2
-  joined = moved .before .before .before .before .before .before
+  abbrev told : tie.After-count
+  told = moved .before .before
 
   abbrev t : tie.Then1
-  t = at joined
+  t = at (joined told)
 
-  abbrev heard-now : Heard
-  heard-now = moved .before .before .before .before .before .heard .result
-
-  abbrev here : State
-  here = whole (joined .if2 .s .segment) (joined .if2 .s .queues)
+  abbrev winner : Sole
+  winner = sole (moved .before)
 
   abbrev m : Moved
   m = moved .moved .result
 
-  m! : m ≡ movedBy (joined .if2 .s .segment .settings) (progressOf (joined .if2 .s .segment)) (joined .if2 .drops) heard-now
-  m! = moved .moved .ensures
+  m! : m ≡ movedBy (probing told .settings) (progressOf (probing told)) (joined told .if2 .drops) (countOf (transmittersIn (probing told))) (winner .listed) (winner .packet)
+  m! =
+      moved .moved .ensures
+      ∙ ap
+      (λ (k : ℕ). movedBy (probing told .settings) (progressOf (probing told)) (joined told .if2 .drops) k (winner .listed) (winner .packet))
+      (count! told)
 
-  heard! : heard-now ≡ heardIn (joined .if2 .s .segment)
-  heard! = moved .before .before .before .before .before .heard .ensures
-
-  no-winner! : ¬ (m .answer .event ≡ success) → record { answer = m .answer; state = whole (c .with-moved .result) (joined .if2 .s .queues) } ≡ stepResult (codedStep (s t))
+  no-winner! : ¬ (m .answer .event ≡ success) → record { answer = m .answer; state = whole (c .with-moved .result) (joined told .if2 .s .queues) } ≡ stepResult (codedStep (s t))
   no-winner! n =
-      ap (λ (g : Segment). record { answer = m .answer; state = whole g (joined .if2 .s .queues) }) (c .with-moved .ensures)
-      ∙ none-sent (s t) (ready t .0) (ready t .1) (joined .if2 .s .segment) (joined .if2 .s .queues) (joined .if2 .drops) (opened! joined) heard-now heard! m m! n
+      ap (λ (g : Segment). record { answer = m .answer; state = whole g (joined told .if2 .s .queues) }) (c .with-moved .ensures)
+      ∙ none-sent (s t) (ready t .0) (ready t .1) (probing told) (joined told .if2 .s .queues) (joined told .if2 .drops) (opened! (joined told)) winner (sole! (moved .before)) m m! n
 
-  winner! : m .answer .event ≡ success → heard-now .first < 64
-  winner! = winner-in (s t) (ready t .0) (ready t .1) (joined .if2 .s .segment) (joined .if2 .s .queues) (joined .if2 .drops) (opened! joined) heard-now heard! m m!
+  winner! : m .answer .event ≡ success → winner .place < 64
+  winner! = winner-in (s t) (ready t .0) (ready t .1) (probing told) (joined told .if2 .s .queues) (joined told .if2 .drops) (opened! (joined told)) winner (sole! (moved .before)) m m!
 
 -- ---- the winner's packet leaves its queue
 
-place! : (c : tie.Then3) → heard-now (c .before .before) .first < 64
-place! c = winner! (c .before .before) (c .if3 .taken)
+place! : (c : tie.Then4) → winner (c .before .before) .place < 64
+place! c = winner! (c .before .before) (c .if4 .taken)
 
 add-without : tie.Need-add-without
-add-without c = let h = place! c in search needs
+add-without c = let h = place! (c .before) in search needs
 
 without-requires-2 : tie.Need-without-requires-2
 without-requires-2 c κs =
-    let told = c .before .before in
-    let r = opened! (joined told) .ready in
-    (omega (arith, place! c), (all-formed (here told) r, few-packets (here told) r))
+    let then = c .before in
+    let past = told (then .before .before) in
+    let r = opened! (joined past) .ready in
+    (omega (arith, place! then), (all-formed (here past) r, few-packets (here past) r))
 
 returns : tie.Need-returns
 returns c =
-    let won = c .before in
-    let told = won .before .before in
-    let o = opened! (joined told) in
+    let won = c .before .before in
+    let past = won .before .before in
+    let before = told past in
+    let o = opened! (joined before) in
     let rest = c .without2 .result in
     let n = queues-arrays rest _ (c .without2 .ok) in
-    let i = heard-now told .first in
-    ap (λ (g : Segment). record { answer = m told .answer; state = whole g rest }) (told .with-moved .ensures)
-    ∙ one-sent (s (t told)) (ready (t told) .0) (ready (t told) .1) (joined told .if2 .s .segment) (joined told .if2 .s .queues) (joined told .if2 .drops) o (heard-now told) (heard! told)
-    (m told)
-    (m! told)
-    (won .if3 .taken)
+    let i = winner past .place in
+    ap (λ (g : Segment). record { answer = m past .answer; state = whole g rest }) (past .with-moved .ensures)
+    ∙ one-sent (s (t past)) (ready (t past) .0) (ready (t past) .1) (probing before) (joined before .if2 .s .queues) (joined before .if2 .drops) o (winner past)
+    (sole! (moved past .before))
+    (m past)
+    (m! past)
+    (won .if4 .taken)
     rest
-    (left-one (stays (Sent (m told .answer .number))) (here told .queues) rest i (place! won) (o .ready .held .lengths) (o .ready .held .packets) (n .0) (n .1)
-    (few-packets (here told) (o .ready) i (place! won))
+    (left-one (stays (Sent (m past .answer .number))) (here before .queues) rest i (place! won) (o .ready .held .lengths) (o .ready .held .packets) (n .0) (n .1)
+    (few-packets (here before) (o .ready) i (place! won))
     (c .without2 .ensures))
 
 returns-2 : tie.Need-returns-2
-returns-2 c = no-winner! (c .before .before) (c .if3 .left)
+returns-2 c = no-winner! (c .before .before) (c .if4 .left)
 
 returns-3 : tie.Need-returns-3
 returns-3 c =
@@ -237,7 +325,20 @@ step-spec =
     without-requires
     dropped-requires
     begun-requires
-    heard-requires
+    addresses-of-requires
+    transmitters-requires
+    count-requires
+    lowest-requires
+    mul-listed
+    element-copy-out-listed
+    mul-admission
+    element-copy-out-admission
+    mul-t40
+    element-copy-out-t49
+    mul-t50
+    element-copy-out-t53
+    mul-t54
+    element-copy-out-t57
     moved-requires
     with-moved-requires
     add-without

@@ -1,35 +1,43 @@
 -- `beginning::offers_of` meets its contract. The loop's invariant: the stations before i have their places, the others do not contend.
 -- That of the loop in it: the first j of station i's places are copied. Assumes nothing.
-use Prim.Native.Nat.{_≤_, _-_}
+use Prim.Native.Nat.{_≤_, _<_, _-_}
 use mathlib.Core.Path.{_≡_, sym, ap, _∙_}
 use native.Mathlib.Omega.{arith}
 use borrow.Author.Needs.{needs}
 use lib.Dec.{eqb}
 use lib.ListN.{getD}
-use lib.Seq.{paste}
+use lib.Seq.{paste, length-take-le}
+use borrow.Author.Tests.{eqb-false}
 use Rattle.rules.proofs.Laws.{or-false}
-use Rattle.state.specs.State.{placesAt}
-use Rattle.state.proofs.Places.{queues-arrays, taken-one, taken-all}
-use Rattle.bus.proofs.BeginningLaws.{nothing-offered, placeFor, placesTo, places-none, places-more, places-same}
+use Rattle.bus.specs.Types.{Segment}
+use Rattle.bus.specs.Parts.{segmentCounting}
+use Rattle.state.specs.State.{Recorded, nobody, placesAt, queueAt}
+use Rattle.state.proofs.Contenders.{none-recorded}
+use Rattle.state.proofs.Places.{queues-arrays, places-count, taken-one, taken-all}
+use Rattle.bus.proofs.BeginningLaws.{nothing-offered, placeFor, placesTo, places-none, places-more, places-same, offered-contends}
 use Rattle.bus.proofs.beginning.offers_of.Statement.{statement}
 use Rattle.bus.proofs.beginning.offers_of.Tie as tie
 
+-- the segment with these contenders
+abbrev offeringWith : Segment → Recorded → Segment
+offeringWith g r = segmentCounting g (g .admitted) (g .lost) (g .contention) r
+
 abbrev Inv-loop2 : tie.InvT-loop2
-Inv-loop2 g queues settings listed round n contenders i l length places₀ first j₀ places j =
+Inv-loop2 g queues settings listed round n next i l length places₀ first j₀ places j =
     (j ≤ 16) × (places ≡ paste places₀ 0 (placesAt queues i) j)
 
 abbrev μ-loop2 : tie.MeasureT-loop2
-μ-loop2 g queues settings listed round n contenders i l length places₀ first j₀ places j = 16 - j
+μ-loop2 g queues settings listed round n next i l length places₀ first j₀ places j = 16 - j
 
 abbrev Inv-loop : tie.InvT-loop
-Inv-loop g queues settings listed round n contenders₀ i₀ contenders i =
-    (i ≤ n) × (contenders ≡ placesTo (placeFor g queues) i)
+Inv-loop g queues settings listed round n next₀ i₀ next i =
+    (i ≤ n) × (next ≡ offeringWith g (placesTo (placeFor g queues) i))
 
 abbrev μ-loop : tie.MeasureT-loop
-μ-loop g queues settings listed round n contenders₀ i₀ contenders i = n - i
+μ-loop g queues settings listed round n next₀ i₀ next i = n - i
 
 loop-holds : tie.Need-loop-holds Inv-loop2 μ-loop2 Inv-loop μ-loop
-loop-holds c = let start = c .before .before .before in (omega arith, places-none (placeFor (start .args .g) (start .args .t2)))
+loop-holds c = let start = c .before .before .before in (omega arith, ap (offeringWith (start .args .g)) (none-recorded ∙ places-none (placeFor (start .args .g) (start .args .t2))))
 
 mul-l : tie.Need-mul-l Inv-loop2 μ-loop2 Inv-loop μ-loop
 mul-l c = search needs
@@ -59,7 +67,7 @@ loop-again c =
     let g = start .args .g in
     let qs = start .args .t2 in
     let still = nothing-offered g qs (at .loop .i) (sym (c .before .offers-nothing .ensures) ∙ c .if1 .taken) in
-    (omega arith, at .loop .inv .1 ∙ places-same (placeFor g qs) (at .loop .i) still)
+    (omega arith, at .loop .inv .1 ∙ ap (offeringWith g) (places-same (placeFor g qs) (at .loop .i) still))
 
 mul-first : tie.Need-mul-first Inv-loop2 μ-loop2 Inv-loop μ-loop
 mul-first c = search needs
@@ -106,11 +114,38 @@ contender-for-requires c κs =
     let sits = or-false none _ (sym (tested .before .offers-nothing .ensures) ∙ tested .if1 .left) .1 in
     (start .pre .1 .0 (at .loop .i) (omega arith), (start .pre .1 .1 .0, (start .pre .1 .1 .1, sits)))
 
-mul-contenders : tie.Need-mul-contenders Inv-loop2 μ-loop2 Inv-loop μ-loop
-mul-contenders c = search needs
+set-requires : tie.Need-set-requires Inv-loop2 μ-loop2 Inv-loop μ-loop
+set-requires c κs = search needs
 
-array-set-from-contenders : tie.Need-array-set-from-contenders Inv-loop2 μ-loop2 Inv-loop μ-loop
-array-set-from-contenders c = search needs
+mul-next : tie.Need-mul-next Inv-loop2 μ-loop2 Inv-loop μ-loop
+mul-next c = search needs
+
+element-write-next : tie.Need-element-write-next Inv-loop2 μ-loop2 Inv-loop μ-loop
+element-write-next c = search needs
+
+mul-next-2 : tie.Need-mul-next-2 Inv-loop2 μ-loop2 Inv-loop μ-loop
+mul-next-2 c = search needs
+
+element-write-next-2 : tie.Need-element-write-next-2 Inv-loop2 μ-loop2 Inv-loop μ-loop
+element-write-next-2 c = search needs
+
+mul-next-3 : tie.Need-mul-next-3 Inv-loop2 μ-loop2 Inv-loop μ-loop
+mul-next-3 c = search needs
+
+element-write-next-3 : tie.Need-element-write-next-3 Inv-loop2 μ-loop2 Inv-loop μ-loop
+element-write-next-3 c = search needs
+
+mul-next-4 : tie.Need-mul-next-4 Inv-loop2 μ-loop2 Inv-loop μ-loop
+mul-next-4 c = search needs
+
+element-write-next-4 : tie.Need-element-write-next-4 Inv-loop2 μ-loop2 Inv-loop μ-loop
+element-write-next-4 c = search needs
+
+mul-admission : tie.Need-mul-admission Inv-loop2 μ-loop2 Inv-loop μ-loop
+mul-admission c = search needs
+
+element-set-from-admission : tie.Need-element-set-from-admission Inv-loop2 μ-loop2 Inv-loop μ-loop
+element-set-from-admission c = search needs
 
 add-i-2 : tie.Need-add-i-2 Inv-loop2 μ-loop2 Inv-loop μ-loop
 add-i-2 c = search needs
@@ -120,21 +155,29 @@ loop-less-2 c = search needs
 
 loop-again-2 : tie.Need-loop-again-2 Inv-loop2 μ-loop2 Inv-loop μ-loop
 loop-again-2 c =
-    let inner = c .before .before in
+    let inner = c .before .before .before .before .before in
+    let tested = inner .before in
     let at = inner .before .before .before .before .before .before in
     let start = at .before .before .before .before in
+    let g = start .args .g in
     let qs = start .args .t2 in
+    let i = at .loop .i in
+    let here : i < 64 = omega (arith, start .pre .0) in
     let row = queues-arrays qs _ (start .good .1 .0) .1 in
-    let all = taken-all qs (at .loop .i) (inner .loop2 .j) (omega arith) row (omega arith) (inner .loop2 .inv .1) in
-    let more = places-more (placeFor (start .args .g) qs) (at .loop .i) (omega arith) in
-    (omega arith, rw (at .loop .inv .1, c .contender-for .ensures, all) more)
+    let all = taken-all qs i (inner .loop2 .j) (omega arith) row (omega arith) (inner .loop2 .inv .1) in
+    let none = eqb (getD (qs .lengths) i 0) 0 in
+    let told = or-false none _ (sym (tested .before .offers-nothing .ensures) ∙ tested .if1 .left) in
+    let waits = eqb-false (getD (qs .lengths) i 0) 0 (told .0) in
+    let held = length-take-le (getD (qs .lengths) i 0) (placesAt qs i) (omega (arith, places-count qs i here row, start .pre .1 .0 i (omega arith))) in
+    let contends = offered-contends (g .settings) (g .clock) (g .round) (getD (g .listed) i nobody) (queueAt qs i) (λ e. waits (sym held ∙ e)) (told .1) in
+    (omega arith, rw (c .set .ensures, at .loop .inv .1, c .before .before .before .contender-for .ensures, all) (ap (offeringWith g) (places-more (placeFor g qs) i here contends)))
 
 returns : tie.Need-returns Inv-loop2 μ-loop2 Inv-loop μ-loop
 returns c =
     let start = c .before .before .before .before .before in
     let turn = c .before .loop in
     let all : turn .i ≡ start .args .g .settings .n = omega arith in
-    turn .inv .1 ∙ ap (placesTo (placeFor (start .args .g) (start .args .t2))) all
+    turn .inv .1 ∙ ap (λ k. offeringWith (start .args .g) (placesTo (placeFor (start .args .g) (start .args .t2)) k)) all
 
 pub offers-of-spec : {M : Type 1} → statement M
 offers-of-spec =
@@ -164,8 +207,17 @@ offers-of-spec =
     loop2-less
     loop2-again
     contender-for-requires
-    mul-contenders
-    array-set-from-contenders
+    set-requires
+    mul-next
+    element-write-next
+    mul-next-2
+    element-write-next-2
+    mul-next-3
+    element-write-next-3
+    mul-next-4
+    element-write-next-4
+    mul-admission
+    element-set-from-admission
     add-i-2
     loop-less-2
     loop-again-2

@@ -2,106 +2,26 @@
 -- from place j on. Assumes nothing.
 use Prim.Native.Nat.{ℕ, _+_, _-_, _≤_, _<_}
 use mathlib.Core.Path.{_≡_, refl, sym, ap, _∙_}
-use mathlib.Core.Logic.{_⊎_, inl, inr, ⊎-elim}
+use mathlib.Core.Logic.{⊎-elim}
 use mathlib.Core.Bool.{Bool, true, false, cond}
-use mathlib.Core.Option.{Option, none, some}
+use mathlib.Core.Option.{Option}
 use mathlib.Core.List.{List}
 use native.Mathlib.Omega.{arith}
 use borrow.Author.Needs.{needs}
 use lib.ListN.{getD, take}
 use lib.Seq.{slice}
-use Rattle.rules.specs.Bus.{Discipline, PRI, RTDG, RTVC}
+use Rattle.rules.specs.Bus.{Discipline}
 use Rattle.rules.specs.SetUp.{disciplineOf}
-use Rattle.rules.specs.Begin.{smaller, goes-before, chosen, choice}
-use Rattle.rules.proofs.Tests.{Whether, holds, fails, both, one-of, below, equal}
+use Rattle.rules.specs.Begin.{chosen, choice}
 use Rattle.bus.specs.Types.{Packet}
 use Rattle.state.specs.State.{noPacket}
 use Rattle.state.specs.Parts.{packetsOf}
 use Rattle.bus.specs.Parts.{chosenForm}
 use Rattle.state.proofs.Places.{queue-array}
 use Rattle.state.proofs.Tested.{left-turn, left-end}
+use Rattle.bus.proofs.Choosing.{better-first}
 use Rattle.bus.proofs.waiting.chosen.Statement.{statement}
 use Rattle.bus.proofs.waiting.chosen.Tie as tie
-
--- ---- the order of offers can be chained, and so can its denial
-
--- the lower value, or the lower number of equal values
-abbrev Lower : Packet → Packet → Type 0
-Lower p q = (p .value < q .value) ⊎ ((p .value ≡ q .value) × (p .number < q .number))
-
-lower-chained : (p q r : Packet) → Lower p q → Lower q r → Lower p r
-lower-chained p q r (inl a) (inl b) = inl (omega arith)
-lower-chained p q r (inl a) (inr b) = inl (let e = b .0 in omega arith)
-lower-chained p q r (inr a) (inl b) = inl (let e = a .0 in omega arith)
-lower-chained p q r (inr a) (inr b) = inr (a .0 ∙ b .0, let l = a .1 in let m = b .1 in omega arith)
-
-not-lower-chained : (p q r : Packet) → ¬ Lower p q → ¬ Lower q r → ¬ Lower p r
-not-lower-chained p q r m n (inl a) =
-    let f : ¬ (p .value < q .value) = λ l. m (inl l) in
-    let g : ¬ (q .value < r .value) = λ l. n (inl l) in
-    omega arith
-not-lower-chained p q r m n (inr a) =
-    let e = a .0 in
-    let f : ¬ (p .value < q .value) = λ l. m (inl l) in
-    let g : ¬ (q .value < r .value) = λ l. n (inl l) in
-    let same : p .value ≡ q .value = omega arith in
-    let f′ : ¬ (p .number < q .number) = λ l. m (inr (same, l)) in
-    let g′ : ¬ (q .number < r .number) = λ l. n (inr (sym same ∙ e, l)) in
-    let l = a .1 in
-    omega arith
-
--- what `goes-before` tests
-abbrev Goes : Discipline → Packet → Packet → Type 0
-Goes PRI p q = Lower p q
-Goes RTDG p q = Lower p q
-Goes RTVC p q = p .number < q .number
-
-lower-whether : (p q : Packet) → Whether (Lower p q) (smaller p q)
-lower-whether p q = one-of (below (p .value) (q .value)) (both (equal (p .value) (q .value)) (below (p .number) (q .number)))
-
-goes-whether : (d : Discipline) (p q : Packet) → Whether (Goes d p q) (goes-before d p q)
-goes-whether PRI p q = lower-whether p q
-goes-whether RTDG p q = lower-whether p q
-goes-whether RTVC p q = below (p .number) (q .number)
-
-goes-chained : (d : Discipline) (p q r : Packet) → Goes d p q → Goes d q r → Goes d p r
-goes-chained PRI p q r a b = lower-chained p q r a b
-goes-chained RTDG p q r a b = lower-chained p q r a b
-goes-chained RTVC p q r a b = omega arith
-
-not-goes-chained : (d : Discipline) (p q r : Packet) → ¬ Goes d p q → ¬ Goes d q r → ¬ Goes d p r
-not-goes-chained PRI p q r m n a = not-lower-chained p q r m n a
-not-goes-chained RTDG p q r m n a = not-lower-chained p q r m n a
-not-goes-chained RTVC p q r m n a = omega arith
-
--- ---- so of the best so far and those left, one of them may be looked at first
-
--- a test of one of two packets
-test-of : (test : Packet → Bool) (t : Bool) (p q : Packet) → test (cond t p q) ≡ cond t (test p) (test q)
-test-of test true p q = refl
-test-of test false p q = refl
-
-better-first :
-    (d : Discipline) (best p : Packet) (rest : Option Packet)
-    → chosen d best (chosen d p rest) ≡ chosen d (cond (goes-before d p best) p best) rest
-better-first d best p none = refl
-better-first d best p (some q) =
-    ap some
-    (ap (λ t. cond t (cond (goes-before d q p) q p) best) (test-of (λ r. goes-before d r best) (goes-before d q p) q p)
-    ∙ go (goes-whether d q p) (goes-whether d p best) (goes-whether d q best)
-    ∙ sym (ap (λ t. cond t q (cond (goes-before d p best) p best)) (test-of (goes-before d q) (goes-before d p best) p best)))
-  where
-    go :
-        {t u v : Bool} → Whether (Goes d q p) t → Whether (Goes d p best) u → Whether (Goes d q best) v
-        → cond (cond t v u) (cond t q p) best ≡ cond (cond u t v) q (cond u p best)
-    go (holds a) (holds b) (holds c) = refl
-    go (holds a) (holds b) (fails n) = absurd (n (goes-chained d q p best a b))
-    go (holds a) (fails m) w = refl
-    go (fails l) (holds b) w = refl
-    go (fails l) (fails m) (holds c) = absurd (not-goes-chained d q p best l m c)
-    go (fails l) (fails m) (fails n) = refl
-
--- ---- the search
 
 abbrev Inv-loop : tie.InvT-loop
 Inv-loop discipline length packets place₀ j₀ place j =

@@ -6,19 +6,46 @@ use Rattle.drive.proofs.show.contenders.Statement.{statement}
 use Rattle.drive.proofs.show.contenders.Tie as tie
 
 abbrev Inv-loop : tie.InvT-loop
-Inv-loop row i₀ i = i ≤ 64
+Inv-loop g i₀ i = i ≤ 64
 
 abbrev μ-loop : tie.MeasureT-loop
-μ-loop row i₀ i = 64 - i
+μ-loop g i₀ i = 64 - i
 
 loop-holds : tie.Need-loop-holds Inv-loop μ-loop
 loop-holds c = search needs
 
-mul-contender : tie.Need-mul-contender Inv-loop μ-loop
-mul-contender c = search needs
+mul-admission : tie.Need-mul-admission Inv-loop μ-loop
+mul-admission c = search needs
 
-array-copy-out-contender : tie.Need-array-copy-out-contender Inv-loop μ-loop
-array-copy-out-contender c = search needs
+element-copy-out-admission : tie.Need-element-copy-out-admission Inv-loop μ-loop
+element-copy-out-admission c = search needs
+
+mul-t8 : tie.Need-mul-t8 Inv-loop μ-loop
+mul-t8 c = search needs
+
+element-copy-out-t14 : tie.Need-element-copy-out-t14 Inv-loop μ-loop
+element-copy-out-t14 c = search needs
+
+mul-t15 : tie.Need-mul-t15 Inv-loop μ-loop
+mul-t15 c = search needs
+
+element-copy-out-t18 : tie.Need-element-copy-out-t18 Inv-loop μ-loop
+element-copy-out-t18 c = search needs
+
+mul-t19 : tie.Need-mul-t19 Inv-loop μ-loop
+mul-t19 c = search needs
+
+element-copy-out-t22 : tie.Need-element-copy-out-t22 Inv-loop μ-loop
+element-copy-out-t22 c = search needs
+
+test-requires : tie.Need-test-requires Inv-loop μ-loop
+test-requires c κs = search needs
+
+mul-t8-2 : tie.Need-mul-t8-2 Inv-loop μ-loop
+mul-t8-2 c = search needs
+
+element-copy-out-t26 : tie.Need-element-copy-out-t26 Inv-loop μ-loop
+element-copy-out-t26 c = search needs
 
 contender-requires : tie.Need-contender-requires Inv-loop μ-loop
 contender-requires c κs = search needs
@@ -42,8 +69,17 @@ contenders-spec =
     Inv-loop
     μ-loop
     loop-holds
-    mul-contender
-    array-copy-out-contender
+    mul-admission
+    element-copy-out-admission
+    mul-t8
+    element-copy-out-t14
+    mul-t15
+    element-copy-out-t18
+    mul-t19
+    element-copy-out-t22
+    test-requires
+    mul-t8-2
+    element-copy-out-t26
     contender-requires
     add-i
     loop-less

@@ -20,13 +20,13 @@ use Rattle.state.proofs.standing.queues_stand.Statement.{statement}
 use Rattle.state.proofs.standing.queues_stand.Tie as tie
 
 abbrev Inv-loop2 : tie.InvT-loop2
-Inv-loop2 g queues settings contention numbers₀ waiting i l c places₀ j₀ numbers places j =
+Inv-loop2 g queues settings contention numbers₀ waiting i l contends c places₀ j₀ numbers places j =
     (j ≤ 16)
     × (places ≡ paste places₀ 0 (placesAt queues i) j)
     × (numbers ≡ paste numbers₀ waiting (numbersIn (placesAt queues i)) j)
 
 abbrev μ-loop2 : tie.MeasureT-loop2
-μ-loop2 g queues settings contention numbers₀ waiting i l c places₀ j₀ numbers places j = 16 - j
+μ-loop2 g queues settings contention numbers₀ waiting i l contends c places₀ j₀ numbers places j = 16 - j
 
 abbrev Inv-loop : tie.InvT-loop
 Inv-loop g queues settings contention numbers₀ waiting₀ i₀ numbers waiting i =
@@ -57,15 +57,42 @@ mul-l c = search needs
 element-copy-out-l : tie.Need-element-copy-out-l Inv-loop2 μ-loop2 Inv-loop μ-loop
 element-copy-out-l c = search needs
 
-mul-c : tie.Need-mul-c Inv-loop2 μ-loop2 Inv-loop μ-loop
-mul-c c = search needs
+test-requires : tie.Need-test-requires Inv-loop2 μ-loop2 Inv-loop μ-loop
+test-requires c κs = search needs
 
-element-copy-out-c : tie.Need-element-copy-out-c Inv-loop2 μ-loop2 Inv-loop μ-loop
-element-copy-out-c c = search needs
+mul-admission : tie.Need-mul-admission Inv-loop2 μ-loop2 Inv-loop μ-loop
+mul-admission c = search needs
+
+element-copy-out-admission : tie.Need-element-copy-out-admission Inv-loop2 μ-loop2 Inv-loop μ-loop
+element-copy-out-admission c = search needs
+
+mul-t21 : tie.Need-mul-t21 Inv-loop2 μ-loop2 Inv-loop μ-loop
+mul-t21 c = search needs
+
+element-copy-out-t31 : tie.Need-element-copy-out-t31 Inv-loop2 μ-loop2 Inv-loop μ-loop
+element-copy-out-t31 c = search needs
+
+mul-t32 : tie.Need-mul-t32 Inv-loop2 μ-loop2 Inv-loop μ-loop
+mul-t32 c = search needs
+
+element-copy-out-t35 : tie.Need-element-copy-out-t35 Inv-loop2 μ-loop2 Inv-loop μ-loop
+element-copy-out-t35 c = search needs
+
+mul-t36 : tie.Need-mul-t36 Inv-loop2 μ-loop2 Inv-loop μ-loop
+mul-t36 c = search needs
+
+element-copy-out-t39 : tie.Need-element-copy-out-t39 Inv-loop2 μ-loop2 Inv-loop μ-loop
+element-copy-out-t39 c = search needs
+
+mul-place-stands : tie.Need-mul-place-stands Inv-loop2 μ-loop2 Inv-loop μ-loop
+mul-place-stands c = search needs
+
+element-copy-out-place-stands : tie.Need-element-copy-out-place-stands Inv-loop2 μ-loop2 Inv-loop μ-loop
+element-copy-out-place-stands c = search needs
 
 loop2-holds : tie.Need-loop2-holds Inv-loop2 μ-loop2 Inv-loop μ-loop
 loop2-holds c =
-    let at = c .before .before .before in
+    let at = c .before .before .before .before .before .before .before .before in
     (search needs, refl, paste-zero (at .loop .numbers) (at .loop .waiting) (numbersIn (placesAt (row at) (at .loop .i))))
 
 mul-p : tie.Need-mul-p Inv-loop2 μ-loop2 Inv-loop μ-loop
@@ -104,7 +131,7 @@ loop2-less c = search needs
 loop2-again : tie.Need-loop2-again Inv-loop2 μ-loop2 Inv-loop μ-loop
 loop2-again c =
     let turn = c .before .before in
-    let at = turn .before .before .before .before in
+    let at = turn .before .before .before .before .before .before .before .before .before in
     let i = at .loop .i in
     let j = turn .loop2 .j in (
       search needs,
@@ -124,26 +151,26 @@ place-stands-requires c κs = search needs
 -- what is told of place i
 told :
     (c : tie.After-place-stands Inv-loop2 μ-loop2 Inv-loop μ-loop)
-    → let at = c .before .before .before .before .before .before .before .before in c .place-stands .result ≡ placeSound (lent at) (row at) (at .loop .i)
+    → let at = c .before .before .before .before .before .before .before .before .before .before .before .before .before in c .place-stands .result ≡ placeSound (lent at) (row at) (at .loop .i)
 told c =
     let inner = c .before .before .before .before in
-    let at = inner .before .before .before .before in
-    rw (taken-all (row at) (at .loop .i) (inner .loop2 .j) (omega arith) (full at) (omega arith) (inner .loop2 .inv .1)) at (c .place-stands .ensures)
+    let at = inner .before .before .before .before .before .before .before .before .before in
+    rw (taken-all (row at) (at .loop .i) (inner .loop2 .j) (omega arith) (full at) (omega arith) (inner .loop2 .inv .1), inner .before .before .before .before .before .before .test .ensures) at (c .place-stands .ensures)
 
 sound :
     (c : tie.Else1 Inv-loop2 μ-loop2 Inv-loop μ-loop)
-    → let at = c .before .before .before .before .before .before .before .before .before in placeSound (lent at) (row at) (at .loop .i) ≡ true
+    → let at = c .before .before .before .before .before .before .before .before .before .before .before .before .before .before in placeSound (lent at) (row at) (at .loop .i) ≡ true
 sound c = granted (told (c .before)) (c .if1 .left)
 
 returns : tie.Need-returns Inv-loop2 μ-loop2 Inv-loop μ-loop
 returns c =
-    let at = c .before .before .before .before .before .before .before .before .before in
+    let at = c .before .before .before .before .before .before .before .before .before .before .before .before .before .before in
     let none = place-fails (lent at) (row at) (seen at) (at .loop .i) (omega arith) in
     sym (at .loop .inv .3 ∙ none (denied (told (c .before)) (c .if1 .taken)))
 
 add-waiting : tie.Need-add-waiting Inv-loop2 μ-loop2 Inv-loop μ-loop
 add-waiting c =
-    let at = c .before .before .before .before .before .before .before .before .before in
+    let at = c .before .before .before .before .before .before .before .before .before .before .before .before .before .before in
     omega (arith, next (lent at) (row at) (at .loop .i) (sound c) .0)
 
 add-i : tie.Need-add-i Inv-loop2 μ-loop2 Inv-loop μ-loop
@@ -155,7 +182,7 @@ loop-less c = search needs
 loop-again : tie.Need-loop-again Inv-loop2 μ-loop2 Inv-loop μ-loop
 loop-again c =
     let inner = c .before .before .before .before .before in
-    let at = inner .before .before .before .before in
+    let at = inner .before .before .before .before .before .before .before .before .before in
     let i = at .loop .i in
     let room = next (lent at) (row at) i (sound c) .0 in
     let here : i < 64 = omega arith in
@@ -206,8 +233,17 @@ queues-stand-spec =
     loop-holds
     mul-l
     element-copy-out-l
-    mul-c
-    element-copy-out-c
+    test-requires
+    mul-admission
+    element-copy-out-admission
+    mul-t21
+    element-copy-out-t31
+    mul-t32
+    element-copy-out-t35
+    mul-t36
+    element-copy-out-t39
+    mul-place-stands
+    element-copy-out-place-stands
     loop2-holds
     mul-p
     add-p

@@ -1,5 +1,6 @@
 -- `fresh` meets its contract: an array of one value is a row of it. Assumes nothing.
-use Rattle.state.specs.State.{noPacket, noContender, noContention, noRound}
+use Rattle.state.specs.State.{noPacket, noContention, noRound}
+use Rattle.state.proofs.Contenders.{none-recorded}
 use Rattle.state.proofs.Rows.{row-replicate}
 use Rattle.state.proofs.stations.fresh.Statement.{statement}
 use Rattle.state.proofs.stations.fresh.Tie as tie
@@ -16,7 +17,12 @@ returns c = λ i.
         lost = 0;
         round = noRound;
         contention = noContention;
-        contenders = row-replicate 64 noContender i;
+        contenders = none-recorded i .word;
+        parameters = none-recorded i .parameters;
+        numbers = none-recorded i .numbers;
+        values = none-recorded i .values;
+        lengths = none-recorded i .lengths;
+        admissions = none-recorded i .admissions;
       };
       queues = record { lengths = row-replicate 64 0 i; packets = row-replicate 1024 noPacket i };
     }
