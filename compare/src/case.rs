@@ -1,5 +1,7 @@
 //! A case: an input, and what its output has to show so that the case is what its name says.
 
+use std::fmt::Display;
+
 /// What an input is: a scenario, for `busrun` and `second`, or a script of calls, for `drive` and `replay`.
 #[derive(Clone, Copy, Debug, PartialEq, Eq)]
 pub enum Kind {
@@ -38,8 +40,17 @@ pub enum Shows {
     AllStand,
     /// Of a script: the answers to its calls, in order, where one is given.
     Answers(Vec<Option<String>>),
-    /// Of a script: a state that stands is changed and written; an admission, a step, a stretch with an arrival for this
-    /// address, and the closing numbers are all refused with 1, and the state is as it was.
+    /// Of a script: all that it writes, a line each; a state is `same` where it is the one written before it, else `state`.
+    Writes(Vec<String>),
+    /// Of a script: a begin or probe right after closing numbers, of which there is one, is refused: with 1 where those are,
+    /// else with this number.
+    Refused(u8),
+    /// Of a script: calls from a set-up on, and the same with a begin and a probe for each step. A probe answers as the step
+    /// but for the drops, which are the begin's; a begin has slot and window of the step, or is refused with 25 in a
+    /// contention that is under way; all else is the same.
+    Pairs,
+    /// Of a script: a state that stands is changed and written; an admission, a begin, a probe, a step, a stretch with an
+    /// arrival for this address, and the closing numbers are all refused with 1, and the state is as it was.
     Broken(u64),
 }
 
@@ -66,6 +77,9 @@ impl Shows {
             Shows::Stands => closing(text).next() == Some(true),
             Shows::AllStand => closing(text).next().is_some() && closing(text).all(|stands| stands),
             Shows::Answers(answers) => are_answers(answers, text),
+            Shows::Writes(lines) => written(text) == *lines,
+            Shows::Refused(number) => are_refused(text, *number),
+            Shows::Pairs => are_pairs(text),
             Shows::Broken(address) => is_broken(text, *address),
         }
     }
@@ -78,16 +92,92 @@ fn closing(text: &str) -> impl Iterator<Item = bool> + '_ {
 
 /// Whether the lines that answer calls are these, where one is given.
 fn are_answers(answers: &[Option<String>], text: &str) -> bool {
-    let given: Vec<&str> = text.lines().filter(|line| line.starts_with(['U', 'A', 'S', 'R', 'T'])).collect();
+    let given: Vec<&str> = text.lines().filter(|line| line.starts_with(['U', 'A', 'B', 'O', 'S', 'R', 'T'])).collect();
     given.len() == answers.len()
         && given.iter().zip(answers).all(|(line, answer)| answer.as_deref().is_none_or(|answer| answer == *line))
 }
 
-/// The answers of an admission, a step, the two of a stretch and the closing numbers that are refused with 1.
+/// The answer to a call that is refused: its letter, the number, and zeros.
+pub fn refused(letter: char, number: u8) -> String {
+    let zeros = match letter {
+        'A' | 'U' => 1,
+        'B' | 'T' => 5,
+        _ => 11,
+    };
+    format!("{letter} {number}{}", " 0".repeat(zeros))
+}
+
+/// The report of a stretch's step from its place on: the clock, and the numbers that a step answers.
+pub fn step_report(place: usize, clock: impl Display, answer: &str) -> String {
+    format!("call {place} 0 {clock} 0 0 0{}", answer.trim_start_matches('S'))
+}
+
+/// The answers of an admission, a begin, a probe, a step, the two of a stretch and the closing numbers that are refused with 1.
 fn all_refused(clock: &str, address: u64) -> String {
-    let zeros = "0 0 0 0 0 0 0 0 0 0 0";
-    let calls = format!("call 0 1 {clock} {address} 1 0 0 {zeros}\ncall 1 0 {clock} 0 0 0 1 {zeros}\n");
-    format!("A 1 0\nS 1 {zeros}\n{calls}R 2 1 0\nT 1 0 0 0 0 0\n")
+    let [admission, begin, probe, step, closing] = ['A', 'B', 'O', 'S', 'T'].map(|letter| refused(letter, 1));
+    let calls = [format!("call 0 1 {clock} {address} 1{}", " 0".repeat(13)), step_report(1, clock, &step)];
+    format!("{admission}\n{begin}\n{probe}\n{step}\n{}\nR 2 1 0\n{closing}\n", calls.join("\n"))
+}
+
+/// What a script writes, a line each, a state being one line.
+fn written(text: &str) -> Vec<&str> {
+    let (mut lines, mut rest, mut last) = (Vec::new(), text, "");
+    while let Some(line) = rest.lines().next() {
+        let is_state = line.starts_with("settings ");
+        let close = if is_state { "\nend\n" } else { "\n" };
+        let (part, after) = rest.split_at(rest.find(close).map_or(rest.len(), |at| at + close.len()));
+        lines.push(if !is_state {
+            line
+        } else if part == last {
+            "same"
+        } else {
+            "state"
+        });
+        last = if is_state { part } else { last };
+        rest = after;
+    }
+    lines
+}
+
+/// Whether begins and probes right after closing numbers are refused as `Shows::Refused` says.
+fn are_refused(text: &str, number: u8) -> bool {
+    let lines: Vec<&str> = text.lines().collect();
+    let after = |pair: &&[&str]| pair[0].starts_with('T') && pair[1].starts_with(['B', 'O']);
+    let is_refused = |pair: &[&str]| {
+        let letter = pair[1].chars().next().expect("a letter begins it");
+        pair[1] == refused(letter, if pair[0].starts_with("T 0 ") { number } else { 1 })
+    };
+    let pairs: Vec<&[&str]> = lines.windows(2).filter(after).collect();
+    !pairs.is_empty() && pairs.into_iter().all(is_refused)
+}
+
+/// Whether a text has steps and then begins and probes as `Shows::Pairs` says. Whether a contention is under way is told by the
+/// last number of a step, and by the first of a state's contention.
+fn are_pairs(text: &str) -> bool {
+    let (steps, pairs) = text.split_at(text.rfind("U ").unwrap_or(0));
+    let (mut expected, mut under_way) = (Vec::new(), false);
+    for line in steps.lines() {
+        let words: Vec<&str> = line.split(' ').collect();
+        match words[..] {
+            ["S", "0", drops, slot, _, start, size, .., ended] => {
+                let begin = format!("B 0 {drops} {slot} {start} {size}");
+                let (begin, drops) = if under_way { ("B 25 0 0 0 0".to_string(), drops) } else { (begin, "0") };
+                expected.extend([begin, format!("O 0 {drops} {}", words[3..].join(" "))]);
+                under_way = ended == "0";
+            }
+            ["contention", begun, ..] => {
+                under_way = begun == "1";
+                expected.push(line.to_string());
+            }
+            _ => expected.push(line.to_string()),
+        }
+    }
+    let without_word = |line: &str| match line.rsplit_once(' ') {
+        Some((begin, _)) if line.starts_with('B') => begin.to_string(),
+        _ => line.to_string(),
+    };
+    let given: Vec<String> = pairs.lines().filter(|line| !line.starts_with("offer ")).map(without_word).collect();
+    expected.iter().any(|line| line.starts_with('O')) && given == expected
 }
 
 /// Whether a text ends as `Shows::Broken` says.
@@ -120,9 +210,38 @@ mod tests {
         shows(Shows::Answers(vec![None, Some("A 0 1".to_string())]), "U 0 0\nA 0 1\nend\n", "A 0 1\nU 0 0\n");
     }
 
+    fn state(clock: u32) -> String {
+        format!("settings 0 4 8 1 1\nclock {clock}\nend\n")
+    }
+
+    #[test]
+    fn a_state_is_one_line() {
+        let text = |clock| format!("B 0 0 0 0 4 0\n{}{}O 26\n{}", state(8), state(9), state(clock));
+        let lines = ["B 0 0 0 0 4 0", "state", "state", "O 26", "same"].map(str::to_string).to_vec();
+        shows(Shows::Writes(lines), &text(9), &text(8));
+    }
+
+    #[test]
+    fn refusals_go_with_closing_numbers() {
+        let text = |begin: &str| format!("T 0 1 0 0 0 0\n{begin}\nT 1 0 0 0 0 0\nB 1 0 0 0 0 0\nS 0\nB 0\n");
+        shows(Shows::Refused(25), &text("B 25 0 0 0 0 0"), &text("B 1 0 0 0 0 0"));
+        shows(Shows::Refused(25), &text("B 25 0 0 0 0 0"), &text("B 25 0 0 0 0 1"));
+        shows(Shows::Refused(26), "T 1 0\nO 1 0 0 0 0 0 0 0 0 0 0 0\n", "T 1 0\nS 1\n");
+    }
+
+    #[test]
+    fn a_step_is_a_begin_and_a_probe() {
+        let steps = "U 0 0\nS 0 2 9 0 0 4 1 0 0 0 0 0\nS 0 0 10 0 0 2 0 0 0 0 0 0\nend\n";
+        let text = |drops: u8, later: &str| {
+            let first = format!("B 0 2 9 0 4 3\noffer 0 7 1 1\nO 0 {drops} 9 0 0 4 1 0 0 0 0 0");
+            format!("{steps}U 0 0\n{first}\nB {later} 0 0 0 0 0\nO 0 0 10 0 0 2 0 0 0 0 0 0\nend\n")
+        };
+        shows(Shows::Pairs, &text(0, "25"), &text(2, "25"));
+        shows(Shows::Pairs, &text(0, "25"), &text(0, "0"));
+    }
+
     #[test]
     fn a_broken_state_comes_back_as_it_was() {
-        let state = |clock| format!("settings 0 4 8 1 1\nclock {clock}\nend\n");
         let refused = all_refused("9", 7);
         let text = |stands: u8, after| format!("U 0 0\nT {stands} 9 0 0 0 0\n{}{refused}{}", state(9), state(after));
         shows(Shows::Broken(7), &text(0, 9), &text(0, 10));

@@ -1,6 +1,6 @@
 //! All cases, in sets: the tables, the seeded ones, and files.
 
-use crate::case::{Case, Kind};
+use crate::case::{Case, Kind, Shows};
 use crate::{scenario, script};
 use std::borrow::Cow;
 use std::collections::BTreeSet;
@@ -70,6 +70,10 @@ pub fn tables() -> Vec<Set> {
         Set::listed("faults of admissions, none or more", Kind::Script, script::admissions()),
         Set::listed("states of scripts/lent.table", Kind::Script, script::listed()),
         Set::listed("fields of lent states", Kind::Script, script::swept()),
+        Set::listed("rows of scripts/begin.table", Kind::Script, script::written()),
+        Set::listed("orders of 1, 25, 26 and 17", Kind::Script, script::orders()),
+        Set::listed("contenders as a contention begins", Kind::Script, script::contenders()),
+        Set::listed("steps, and begins and probes", Kind::Script, script::pairs()),
         Set { joins: false, ..Set::listed("odd texts", Kind::Script, script::odd_texts()) },
     ]
 }
@@ -84,13 +88,27 @@ pub fn seeded(seed: u64, scenarios: usize, scripts: usize) -> Vec<Set> {
 
 /// Files, of which those that end in '.script' are scripts and the others scenarios.
 pub fn files(paths: &[&str]) -> Result<Vec<Set>, String> {
-    let case =
-        |path: &str| Ok(Case::new(path, fs::read(path).map_err(|fault| format!("{path}: {fault}"))?, Vec::new()));
+    let case = |path: &str| {
+        let input = fs::read(path).map_err(|fault| format!("{path}: {fault}"))?;
+        let shows = said(&input);
+        Ok(Case::new(path, input, shows))
+    };
     let set = |name, kind, are_scripts| {
         let paths = paths.iter().filter(|path| path.ends_with(".script") == are_scripts);
         paths.map(|path| case(path)).collect::<Result<_, String>>().map(|cases| Set::listed(name, kind, cases))
     };
     Ok(vec![set("files of scenarios", Kind::Scenario, false)?, set("files of scripts", Kind::Script, true)?])
+}
+
+/// A script may say what it writes, in lines that begin with '#> '.
+fn said(input: &[u8]) -> Vec<Shows> {
+    let text = String::from_utf8_lossy(input);
+    let lines: Vec<String> = text.lines().filter_map(|line| line.strip_prefix("#> ")).map(str::to_string).collect();
+    if lines.is_empty() {
+        Vec::new()
+    } else {
+        vec![Shows::Writes(lines)]
+    }
 }
 
 #[cfg(test)]
@@ -104,6 +122,13 @@ mod tests {
             let names: BTreeSet<String> = (0..set.count()).map(|number| set.case(number).name.clone()).collect();
             assert_eq!(names.len(), set.count(), "{}", set.name);
         }
+    }
+
+    #[test]
+    fn a_script_says_what_it_writes() {
+        let lines = ["U 2 0", "state"].map(str::to_string).to_vec();
+        assert_eq!(said(b"U 3 # 2\n#> U 2 0\n# no more\n#> state\n"), [Shows::Writes(lines)]);
+        assert_eq!(said(b"U 3 #> 2\n"), []);
     }
 
     #[test]

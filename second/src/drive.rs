@@ -7,11 +7,14 @@ use crate::lines::Lines;
 use crate::refusal::Refusal;
 use crate::set_up::set_up;
 use crate::state::{Contender, Packet, Settings, Side, State, Station, PLACES, STATIONS};
-use crate::step::{step, Answer, Event};
+use crate::step::{begin, probe, step, Answer, Beginning, Event, Offer};
 use crate::totals::totals;
 
 /// "its first 65,536 bytes are read".
 pub const LONGEST_SCRIPT: usize = 65_536;
+
+/// The commands' letters.
+const LETTERS: &[u8] = b"UABOSRTEP";
 
 /// Numbers from here on read as the largest of 64 bits.
 const READS_AS_LARGEST: u64 = 18_446_744_073_709_551_610;
@@ -39,6 +42,8 @@ pub fn drive<W: Write>(script: &[u8], lines: &mut Lines<W>) {
         match letter {
             b'U' => play_set_up(&mut state, &mut script, lines),
             b'A' => play_admission(&mut state, &mut script, lines),
+            b'B' => play_begin(&mut state, lines),
+            b'O' => play_probe(&mut state, lines),
             b'S' => play_step(&mut state, lines),
             b'R' => play_stretch(&mut state, &mut script, lines),
             b'T' => play_totals(&state, lines),
@@ -67,7 +72,7 @@ impl Script<'_> {
         loop {
             match self.byte()? {
                 b'#' => self.pass_line(),
-                letter @ (b'U' | b'A' | b'S' | b'R' | b'T' | b'E' | b'P') => return Some(letter),
+                letter if LETTERS.contains(&letter) => return Some(letter),
                 _ => {}
             }
         }
@@ -157,27 +162,78 @@ fn admission_numbers(state: &mut State, address: u32, value: u32, length: u32) -
     }
 }
 
+/// `B`: begins a contention; after its line "for each station that contends" one more.
+fn play_begin<W: Write>(state: &mut State, lines: &mut Lines<W>) {
+    match begin(state) {
+        Ok(beginning) => write_beginning(&beginning, lines),
+        // "A refused begin writes its number, five zeros and no such line."
+        Err(refusal) => lines
+            .word("B")
+            .number(refusal.number())
+            .numbers(&[0; 5])
+            .close(),
+    }
+}
+
+/// "B refusal drops slot start size contenders", of a begin that was not refused, and its offers.
+fn write_beginning<W: Write>(beginning: &Beginning, lines: &mut Lines<W>) {
+    lines
+        .word("B")
+        .number(0u64)
+        .number(beginning.drops)
+        .number(beginning.slot)
+        .number(beginning.start)
+        .number(beginning.size)
+        .number(beginning.contenders)
+        .close();
+    for offer in &beginning.offers {
+        write_offer(offer, lines);
+    }
+}
+
+/// "offer i address number parameter".
+fn write_offer<W: Write>(offer: &Offer, lines: &mut Lines<W>) {
+    lines
+        .word("offer")
+        .number(offer.place as u64)
+        .number(offer.address)
+        .number(offer.number)
+        .number(offer.parameter)
+        .close();
+}
+
+/// `O`: "probes one slot"; "`O` and the twelve numbers of an `S` line".
+fn play_probe<W: Write>(state: &mut State, lines: &mut Lines<W>) {
+    let numbers = answered_numbers(probe(state));
+    lines.word("O").numbers(&numbers).close();
+}
+
 /// `S`: step.
 fn play_step<W: Write>(state: &mut State, lines: &mut Lines<W>) {
     lines.word("S").numbers(&step_numbers(state)).close();
 }
 
-/// Steps; "the twelve numbers of an `S` line", "zero in the answer's other fields" for a refusal.
+/// Steps; "the twelve numbers of an `S` line".
 fn step_numbers(state: &mut State) -> [u64; 12] {
-    match step(state) {
+    answered_numbers(step(state))
+}
+
+/// The twelve numbers of a step or a probe; "zero in the answer's other fields" for a refusal.
+fn answered_numbers(answered: Result<Answer, Refusal>) -> [u64; 12] {
+    match answered {
         Ok(answer) => answer_numbers(&answer),
         Err(refusal) => refused_numbers(refusal),
     }
 }
 
-/// The number of a refused step, and zeros.
+/// The number of a refused step or probe, and zeros.
 fn refused_numbers(refusal: Refusal) -> [u64; 12] {
     let mut numbers = [0; 12];
     numbers[0] = u64::from(refusal.number());
     numbers
 }
 
-/// The fields of a step that was not refused.
+/// The fields of a step or a probe that was not refused.
 fn answer_numbers(answer: &Answer) -> [u64; 12] {
     let [event, address, number, length, wait] = event_numbers(&answer.event);
     [

@@ -1,4 +1,4 @@
-//! A second engine for the window bus: set-up, admission, step, scenario reader and listing.
+//! A second engine for the window bus: set-up, admission, begin, probe, step, scenario reader and listing.
 #![forbid(unsafe_code)]
 
 pub mod admission;

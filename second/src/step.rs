@@ -1,4 +1,5 @@
-//! One step: begins a contention if none is under way, then probes one slot; refusals 1 and 17.
+//! Beginning a contention, probing one slot, and the step that is made of the two; refusals 1, 17, 25
+//! and 26.
 
 use crate::refusal::Refusal;
 use crate::standing::stands;
@@ -6,7 +7,7 @@ use crate::state::{
     Contender, Contention, Packet, Side, State, Window, PRI, QUEUE_PLACES, RTDG, RTVC,
 };
 
-/// "step with the clock above 1,073,737,728" is refused.
+/// "step with the clock above 1,073,737,728" is refused, and so is a probe.
 pub const LAST_STEP_SLOT: u32 = 1_073_737_728;
 
 #[derive(Clone, Copy, Debug, PartialEq, Eq)]
@@ -22,7 +23,32 @@ pub enum Event {
     },
 }
 
-/// A step's answer: the drops, the slot probed, the phase, the window probed, the event and the end.
+/// What one contender has in a contention that begins.
+#[derive(Clone, Copy, Debug, PartialEq, Eq)]
+pub struct Offer {
+    /// The station's place in the listed order.
+    pub place: usize,
+    pub address: u32,
+    /// Its packet's number.
+    pub number: u32,
+    pub parameter: u64,
+}
+
+/// A begin's answer: the drops, the slot, the first window, and "who contends".
+#[derive(Clone, Debug, PartialEq, Eq)]
+pub struct Beginning {
+    pub drops: u64,
+    pub slot: u32,
+    pub start: u64,
+    pub size: u64,
+    /// The word of contenders.
+    pub contenders: u64,
+    /// Of each contender, in listed order.
+    pub offers: Vec<Offer>,
+}
+
+/// A step's answer: the drops, the slot probed, the phase, the window probed, the event and the end. A
+/// probe's answer is the same, with the drops 0.
 #[derive(Clone, Copy, Debug, PartialEq, Eq)]
 pub struct Answer {
     pub drops: u64,
@@ -36,6 +62,34 @@ pub struct Answer {
     pub ended: bool,
 }
 
+/// "beginning a contention (drops, offers, parameters, first window)", on any lent state: tries 1, then
+/// "25, begin while one is under way".
+pub fn begin(state: &mut State) -> Result<Beginning, Refusal> {
+    if !stands(state) {
+        return Err(Refusal::LentState);
+    }
+    if state.contention.begun {
+        return Err(Refusal::ContentionUnderWay);
+    }
+    let drops = begin_contention(state);
+    Ok(beginning(state, drops))
+}
+
+/// "probing one slot", on any lent state: tries 1, then "26, probe while none is", and "26 before 17,
+/// which belongs to the probe".
+pub fn probe(state: &mut State) -> Result<Answer, Refusal> {
+    if !stands(state) {
+        return Err(Refusal::LentState);
+    }
+    if !state.contention.begun {
+        return Err(Refusal::NoContention);
+    }
+    if state.clock > LAST_STEP_SLOT {
+        return Err(Refusal::ClockSpent);
+    }
+    Ok(probe_slot(state, 0))
+}
+
 /// One step on any lent state.
 pub fn step(state: &mut State) -> Result<Answer, Refusal> {
     if !stands(state) {
@@ -44,7 +98,8 @@ pub fn step(state: &mut State) -> Result<Answer, Refusal> {
     step_standing(state)
 }
 
-/// One step on a state that stands: "a step tries 1, then 17".
+/// One step on a state that stands: "a step tries 1, then 17", before it begins anything; its answer is
+/// the probe's with the drops of the beginning.
 pub(crate) fn step_standing(state: &mut State) -> Result<Answer, Refusal> {
     if state.clock > LAST_STEP_SLOT {
         return Err(Refusal::ClockSpent);
@@ -52,13 +107,13 @@ pub(crate) fn step_standing(state: &mut State) -> Result<Answer, Refusal> {
     let drops = if state.contention.begun {
         0
     } else {
-        begin(state)
+        begin_contention(state)
     };
-    Ok(probe(state, drops))
+    Ok(probe_slot(state, drops))
 }
 
 /// "a step first begins one at the present slot T"; hands back the drops.
-fn begin(state: &mut State) -> u64 {
+fn begin_contention(state: &mut State) -> u64 {
     let drops = if state.settings.discipline == RTDG {
         drop_late(state)
     } else {
@@ -74,6 +129,42 @@ fn begin(state: &mut State) -> u64 {
         tie: 0,
     };
     drops
+}
+
+/// "who contends and what was dropped before the first slot is spent", of a contention just begun.
+fn beginning(state: &State, drops: u64) -> Beginning {
+    let window = &state.contention.window;
+    Beginning {
+        drops,
+        slot: state.clock,
+        start: window.start,
+        size: window.size,
+        contenders: contending(state).fold(0, |word, place| word | bit(place)),
+        offers: contending(state)
+            .map(|place| offered(state, place))
+            .collect(),
+    }
+}
+
+/// The places of those who contend, "in rising order".
+fn contending(state: &State) -> impl Iterator<Item = usize> + '_ {
+    (0..state.listed()).filter(|&place| state.contenders[place].contends)
+}
+
+/// "station i in listed order at bit i".
+fn bit(place: usize) -> u64 {
+    1 << place
+}
+
+/// "its place, its address, its packet's number and its parameter".
+fn offered(state: &State, place: usize) -> Offer {
+    let contender = &state.contenders[place];
+    Offer {
+        place,
+        address: state.stations[place].address,
+        number: contender.packet.number,
+        parameter: contender.parameter,
+    }
 }
 
 /// "every queued packet with latest start below T is dropped and counted lost".
@@ -140,7 +231,7 @@ fn level(state: &State, packet: &Packet) -> u64 {
 }
 
 /// "Every step then probes one slot."
-fn probe(state: &mut State, drops: u64) -> Answer {
+fn probe_slot(state: &mut State, drops: u64) -> Answer {
     let probed = state.contention;
     let slot = state.clock;
     let mut transmitting = (0..state.listed()).filter(|&place| transmits(state, place));

@@ -3,28 +3,23 @@
 
 use super::lent::{ADMITTED, CLOCK, LAST_WINNER, SENT};
 use super::text::{words, Script};
-use crate::case::{Case, Shows};
+use crate::case::{refused, Case, Shows};
 use crate::edges::{alone_and_with, edges, within};
 use crate::records::{LAST_NUMBER, LAST_SLOT, LAST_STEP, LONGEST, LONGEST_PACKET, PRI, QUEUE_PLACES, RTDG, RTVC};
 
 /// The numbers of a set-up in a script: discipline, D, A, q, N, the row's length, the pairs, and each station's two.
-fn plain(discipline: u8) -> [u64; 13] {
+pub(super) fn plain(discipline: u8) -> [u64; 13] {
     let laxity_step = if discipline == RTDG { 10 } else { 1 };
     let [one, two, three] = if discipline == RTVC { [4, 0, 2] } else { [0; 3] };
     [discipline.into(), 5, 300, laxity_step, 3, 3, 3, 7, one, 263, two, 299, three]
 }
 
 /// The clock at which admissions are asked for; a latest start below it is too late.
-const NOW: u64 = 50;
+pub(super) const NOW: u64 = 50;
 
 /// What a value may be.
-fn values(discipline: u8) -> (u64, u64) {
+pub(super) fn values(discipline: u8) -> (u64, u64) {
     [(0, 4), (NOW, LAST_SLOT.into()), (0, 0)][usize::from(discipline)]
-}
-
-/// The answer to a step that is refused.
-fn step_refused(number: u8) -> String {
-    format!("S {number} 0 0 0 0 0 0 0 0 0 0 0")
 }
 
 /// A fault of the plain set-up: its refusal and station, and which of the numbers is what.
@@ -56,10 +51,10 @@ fn faulty(discipline: u8, fault: &Fault, later: Option<&Fault>) -> Case {
     let faults = later.into_iter().chain([fault]);
     faults.for_each(|(_, _, at, value)| numbers[*at] = *value);
     let name = format!("set-up {} for {}", words(&numbers), fault.0);
-    let answers =
-        [format!("U {} {}", fault.0, fault.1), "A 1 0".to_string(), step_refused(1), "T 1 0 0 0 0 0".to_string()];
-    let text = format!("U {}\nP A 7 0 1 S T", words(&numbers));
-    Case::new(name, text, vec![Shows::Answers(answers.map(Some).to_vec())])
+    let calls = ['A', 'B', 'O', 'S', 'T'].map(|letter| refused(letter, 1));
+    let answers = [format!("U {} {}", fault.0, fault.1)].into_iter().chain(calls).map(Some).collect();
+    let text = format!("U {}\nP A 7 0 1 B O S T", words(&numbers));
+    Case::new(name, text, vec![Shows::Answers(answers)])
 }
 
 /// Admissions with no fault, one or more, on states with no fault, one or more: the first in order decides.
@@ -103,7 +98,7 @@ fn admission(discipline: u8, [broken, full, spent, unknown, short]: [bool; 5], v
 /// refuses it, and what it may be in each discipline. A row of three stations has room for no N above 3.
 struct Number(&'static str, usize, u32, u8, [&'static [(u64, u64)]; 3]);
 
-const LAST: u64 = LAST_SLOT as u64;
+pub(super) const LAST: u64 = LAST_SLOT as u64;
 
 #[rustfmt::skip]
 const NUMBERS: &[Number] = &[
@@ -121,7 +116,7 @@ const NUMBERS: &[Number] = &[
     Number("length of a packet",    21, 32, 13, [&[(1, LONGEST_PACKET as u64)]; 3]),
 ];
 
-/// Each number of a set-up, an admission and the clock of a step with each of its values.
+/// Each number of a set-up, an admission and the clock with each of its values: a step, and once more a begin and a probe.
 pub fn asked() -> Vec<Case> {
     NUMBERS.iter().flat_map(|number| [PRI, RTDG, RTVC].map(|discipline| number.swept(discipline))).collect()
 }
@@ -129,32 +124,39 @@ pub fn asked() -> Vec<Case> {
 impl Number {
     fn swept(&self, discipline: u8) -> Case {
         let Number(name, at, bits, _, ranges) = self;
-        let text = format!("U {} E {CLOCK} 0 {NOW} A 7 {} 1 S", words(&plain(discipline)), values(discipline).0);
+        let text = format!("U {} E {CLOCK} 0 {NOW} A 7 {} 1", words(&plain(discipline)), values(discipline).0);
         let mut script: Vec<String> = text.split(' ').map(str::to_string).collect();
         let now = script[*at].parse().expect("a number stands there");
         let ranges = ranges[usize::from(discipline)].to_vec();
         let (mut text, mut answers) = (Script::default(), Vec::new());
         for value in edges(*bits, now, &ranges) {
             script[*at] = value.to_string();
-            text.put(script.join(" "));
+            let calls = script.join(" ");
+            text.put(format_args!("{calls} S {calls} B O"));
             answers.extend(self.answers(discipline, value, within(&ranges, value)));
         }
         Case::new(format!("{name}, discipline {discipline}"), text.text, vec![Shows::Answers(answers)])
     }
 
-    /// What the set-up, the admission and the step answer, where that is sure.
-    fn answers(&self, discipline: u8, value: u64, good: bool) -> [Option<String>; 3] {
-        let set_up = || Some("U 0 0".to_string());
-        match self.3 {
-            17 if value > LAST => [set_up(), Some("A 1 0".to_string()), Some(step_refused(1))],
-            17 if value > LAST_STEP.into() => [set_up(), None, Some(step_refused(17))],
-            17 => [set_up(), None, None],
-            11.. if good => [set_up(), Some("A 0 1".to_string()), None],
-            12 if discipline == RTDG && value < NOW => [set_up(), Some("A 14 0".to_string()), None],
-            number @ 11.. => [set_up(), Some(format!("A {number} 0")), None],
-            _ if good => [None, None, None],
-            number => [Some(format!("U {number} 0")), Some("A 1 0".to_string()), Some(step_refused(1))],
-        }
+    /// What set-up, admission and step answer, and set-up, admission, begin and probe, where that is sure.
+    fn answers(&self, discipline: u8, value: u64, good: bool) -> Vec<Option<String>> {
+        let (accepted, admitted) = (Some("U 0 0".to_string()), Some("A 0 1".to_string()));
+        let all = |number| ['B', 'O', 'S'].map(|letter| Some(refused(letter, number)));
+        let (made, [begin, probe, step]) = match self.3 {
+            17 if value > LAST => ([accepted, Some(refused('A', 1))], all(1)),
+            17 if value > LAST_STEP.into() => {
+                let [_, probe, step] = all(17);
+                let waits = discipline != RTDG;
+                ([accepted, None], [Some(format!("B 0 0 {value} 0 8 {}", u8::from(waits))), probe, step])
+            }
+            17 => ([accepted, None], [None, None, None]),
+            11.. if good => ([accepted, admitted], [None, None, None]),
+            12 if discipline == RTDG && value < NOW => ([accepted, Some(refused('A', 14))], [None, None, None]),
+            number @ 11.. => ([accepted, Some(refused('A', number))], [None, None, None]),
+            _ if good => ([None, None], [None, None, None]),
+            number => ([Some(refused('U', number)), Some(refused('A', 1))], all(1)),
+        };
+        [&made[..], &[step], &made, &[begin, probe]].concat()
     }
 }
 
@@ -172,7 +174,7 @@ const TEXTS: &[&str] = &[
     "",
     "P",
     "# S\rS S\rS\nP",
-    "# no command at all: U A S R T E P\n",
+    "# no command at all: U A B O S R T E P\n",
     "U0,4,8,1,3,3,3:1-0;5-0;6-0 A5/2/3A6 2 1 A 1\t3\r\n2SSR2,1,1:0-5/2/3S",
     "U 0 4 8 1 3 3 3 1 0 5 0 6 0 A 5 2 3 # S S S\nS xyz S ~ Q 1 2 3 S",
     "U 0 4 8 1 3 3 3 1 0 5 0 6 0 A 5 # 2 3 is read\nS",
@@ -186,6 +188,10 @@ const TEXTS: &[&str] = &[
     "E 31 63 4294967298 P E 20 1 0 P E 20 65 1 P E 31 0 1 P E 21 40 3 E 31 1 9223372036854775808 P E 20 127 2 P",
     "E 21 5 4294967296 E 25 3 8589934592 E 10 0 4294967296 P",
     "U 4294967296 4294967300 8 4294967297 1 1 1 4294967297 4294967296 A 1 0 1 R 4294967298 1 1 4294967296 4294967297 0 1 P",
+    "B O P S B",
+    "U0,4,8,1,2,2,2:1-0;5-0A1/3/1BOBA5/0/1BOOBOO",
+    "U 0 4 8 1 2 2 2 1 0 5 0 A 1 3 1 b o # B O\nB 7 O 9,B # O\rO\nO",
+    "U 0 4 8 1 1 1 1 1 0 E 8 B 0 O 5 B 8 0 9 O P",
     "U 0 4 8 1 2 2 70 1 0 2 0 3 0 4 0 5 0 6 0 7 0 0 0 A 1 0 1 S",
     "U 0 4 8 1 2 2 2 1 0 2",
     "U 2 4 8 1 2 2 2 1 0 2 3 E 12 0 3 E 13 0 3 P T E 12 0 2 P T E 17 0 7 E 17 0 6 A 1 0 1 R 2 2 18446744073709551615 0 1 0 1",

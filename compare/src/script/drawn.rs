@@ -25,7 +25,10 @@ pub fn drawn(seed: u64, number: usize) -> Case {
     Case::new(*name, script.text, shows.to_vec())
 }
 
-/// Admissions, most of which pass, steps, stretches, closing numbers and states.
+/// The calls that take no numbers: a step, a begin or a probe, or a begin and a probe.
+const CALLS: &[&str] = &["S", "S", "B", "O", "O", "B O"];
+
+/// Admissions, most of which pass, calls, stretches, closing numbers and states.
 fn played(numbers: &mut Numbers, script: &mut Script) {
     let (discipline, wanted) = (numbers.below(3) as u8, numbers.between((1, 6)));
     let spaces = if numbers.once_in(4) { LARGE } else { SMALL };
@@ -35,7 +38,7 @@ fn played(numbers: &mut Numbers, script: &mut Script) {
     for slot in 0..numbers.between((20, 80)) {
         match numbers.below(10) {
             0..=3 => script.admit(&admission(numbers, &scenario, slot)),
-            4..=7 => script.put("S"),
+            4..=7 => script.put(numbers.pick(CALLS)),
             8 => stretch(numbers, script, slot, |numbers| admission(numbers, &scenario, slot)),
             _ => script.put(numbers.pick(&["T", "P"])),
         }
@@ -92,13 +95,13 @@ fn lent(numbers: &mut Numbers, script: &mut Script) {
         match numbers.below(8) {
             0..=1 => script.admit(&lent.admission(numbers)),
             2 => stretch(numbers, script, lent.one(CLOCK), |numbers| lent.admission(numbers)),
-            _ => script.put("S"),
+            _ => script.put(numbers.pick(CALLS)),
         }
     }
 }
 
-/// A lent state with one field after another edited, the word of contenders more often than others, each call on it, and the
-/// edit taken back.
+/// A lent state with one field after another edited, the word of contenders more often than others, an admission and one of the
+/// other calls on it, and the edit taken back.
 fn edited(numbers: &mut Numbers, script: &mut Script) {
     let lent = drawn_state(numbers, script);
     for _ in 0..3 {
@@ -107,7 +110,7 @@ fn edited(numbers: &mut Numbers, script: &mut Script) {
         script.edit(field, place, lent.drawn(numbers, field, place));
         let admission = lent.admission(numbers);
         script.admit(&admission);
-        script.put("P S P T");
+        script.put(format_args!("P {} P T", numbers.pick(CALLS)));
         if numbers.once_in(3) {
             stretch(numbers, script, 0, |_| admission);
             script.put("P");
@@ -120,12 +123,27 @@ fn edited(numbers: &mut Numbers, script: &mut Script) {
 #[cfg(test)]
 mod tests {
     use super::*;
+    use std::collections::BTreeSet;
+
+    fn scripts() -> impl Iterator<Item = String> {
+        (0..400).map(|number| String::from_utf8(drawn(1, number).input).expect("a script is text"))
+    }
+
+    #[test]
+    fn any_call_follows_any() {
+        let (calls, mut pairs) = ("UABOSR", BTreeSet::new());
+        for script in scripts() {
+            let letters: Vec<char> = script.chars().filter(|letter| calls.contains(*letter)).collect();
+            pairs.extend(letters.windows(2).map(|pair| (pair[0], pair[1])));
+        }
+        let follows = |call| calls.chars().all(|other| pairs.contains(&(call, other)));
+        assert!("ABOSR".chars().all(follows), "{pairs:?}");
+    }
 
     #[test]
     fn words_of_contenders_are_drawn() {
-        let scripts = (0..300).map(|number| String::from_utf8(drawn(1, number).input).expect("a script is text"));
         let edit = format!("E {WORD} 0 ");
-        let words: Vec<u64> = scripts
+        let words: Vec<u64> = scripts()
             .flat_map(|text| text.lines().filter_map(|line| line.strip_prefix(&edit)?.parse().ok()).collect::<Vec<_>>())
             .collect();
         let many = |is: fn(u64) -> bool| words.iter().filter(|word| is(**word)).count() > 20;

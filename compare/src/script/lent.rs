@@ -55,6 +55,11 @@ pub type State = (u8, Phase);
 
 pub const PHASES: [Phase; 3] = [Phase::Between, Phase::Parameters, Phase::Ties];
 
+/// Each discipline with each phase.
+pub fn states() -> Vec<State> {
+    [PRI, RTDG, RTVC].into_iter().flat_map(|discipline| PHASES.map(|phase| (discipline, phase))).collect()
+}
+
 /// More stations than this are many.
 const MANY: usize = 8;
 

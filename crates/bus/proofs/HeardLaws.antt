@@ -7,12 +7,12 @@ use mathlib.Core.List.{List, [], _∷_}
 use native.Mathlib.Omega.{arith}
 use lib.ListN.{length}
 use borrow.Author.Tests.{eq-eqb, ne-eqb}
-use Rattle.word.specs.Word.{firstOr, countOf, lowestOf}
+use Rattle.word.specs.Word.{bitAt, members, firstOr, countOf, lowestOf}
 use Rattle.rules.specs.Probe.{success}
 use Rattle.bus.specs.Types.{Segment, State}
-use Rattle.bus.specs.Parts.{Moved, transmittersIn, movedBy, withMoved}
+use Rattle.bus.specs.Parts.{Moved, transmittersIn, withMoved, Sole, noSole, soleAt, soleOf, heardIn, movedIn}
 use Rattle.state.proofs.Stands.{Lent}
-use Rattle.bus.proofs.ProbedSlot.{probed, Sole, noSole, soleAt, soleOf, sole-more, heardIn, first-sends, sent-short, sent-counted, progressOf}
+use Rattle.bus.proofs.ProbedSlot.{probed, sole-more, first-in, first-sends, sent-short, sent-counted}
 
 -- ---- the parts of a probe
 
@@ -21,7 +21,7 @@ module _ (g : Segment) (drops : ℕ) where
   sole = soleOf g (heardIn g)
 
   abbrev m : Moved
-  m = movedBy (g .settings) (progressOf g) drops (countOf (transmittersIn g)) (sole .listed) (sole .packet)
+  m = movedIn g drops
 
   pub answer-moved : probed g drops .answer ≡ m .answer
   answer-moved = refl
@@ -31,6 +31,14 @@ module _ (g : Segment) (drops : ℕ) where
 
   pub winner-moved : m .answer .event ≡ success → probed g drops .winner ≡ sole .place
   winner-moved e = ap (λ t. cond t (sole .place) 0) (eq-eqb (m .answer .event) success e)
+
+-- the lowest bit of a word, where one is set, is a place of the rows
+pub lowest-in : (w : ℕ) → countOf w ≡ 1 → lowestOf w < 64
+lowest-in w = go (members w) refl
+  where
+    go : (ms : List ℕ) → members w ≡ ms → length ms ≡ 1 → firstOr ms < 64
+    go [] e one = absurd (omega arith)
+    go (i ∷ ms) e one = omega (arith, first-in (bitAt w) 0 64 e .1)
 
 -- ---- what `moved` requires, of a state that stands with a contention under way
 
@@ -52,11 +60,7 @@ module _ (s : State) (r : Lent s) (begun : s .segment .contention .begun ≡ tru
 
   -- the lowest of them is a place of the rows
   pub lowest-there : countOf (transmittersIn (s .segment)) ≡ 1 → lowestOf (transmittersIn (s .segment)) < 64
-  lowest-there = go (heardIn (s .segment)) refl
-    where
-      go : (ms : List ℕ) → heardIn (s .segment) ≡ ms → length ms ≡ 1 → firstOr ms < 64
-      go [] e one = absurd (omega arith)
-      go (i ∷ ms) e one = omega (arith, first-sends s r e .0, r .few)
+  lowest-there = lowest-in (transmittersIn (s .segment))
 
 -- ---- the sole winner, as the code finds it: by the word of those who transmit, how many they are and the lowest of them
 

@@ -1,4 +1,5 @@
--- A call made in place, on a segment and queues that are held apart: the laws that `admit`, `step` and `playing::calls` go by. Assumes nothing.
+-- A call made in place, on a segment and queues that are held apart: the laws that `admit`, `begin`, `probe`, `step` and `playing::calls` go by.
+-- Assumes nothing.
 use Prim.Native.Nat.{ℕ, _+_, _-_, _≤_, _<_}
 use mathlib.Core.Path.{_≡_, refl, sym, ap, ap₂, _∙_, subst}
 use mathlib.Core.Bool.{Bool, true, false, _&&_, cond}
@@ -16,34 +17,34 @@ use Rattle.rules.specs.Standing.{Standing}
 use Rattle.rules.specs.Admission as Rules
 use Rattle.rules.specs.Admission.{admissionRefusal}
 use Rattle.rules.specs.Begin.{begin, dropsOf}
-use Rattle.rules.specs.Probe.{success, refusedAnswer}
+use Rattle.rules.specs.Probe.{success, probe, refusedAnswer}
 use Rattle.rules.specs.Step.{opened}
 use Rattle.rules.specs.Engine as Engine
 use Rattle.rules.specs.Engine.{machine, Call, next}
 use Rattle.rules.proofs.Keeps.{begin-stands}
 use Rattle.rules.proofs.Laws.{clash, true-and}
 use Rattle.rules.proofs.Tests as Tests
-use Rattle.rules.proofs.Standing.{stands-exactly}
+use Rattle.rules.proofs.Standing.{stands-exactly, set-up-stands}
 use Rattle.bus.specs.Types.{Address, Settings, Segment, Queues, State, Arrival}
 use Rattle.word.specs.Word.{countOf}
-use Rattle.state.specs.State.{Recorded, recordedIn, Held, meaning, form, queueAt, standing}
+use Rattle.state.specs.State.{Recorded, recordedIn, Held, meaning, form, queueAt, standing, waitingIn}
 use Rattle.bus.specs.Coded.{Answer, Stepped, Admission, arrivalOf, codedAdmit, codedStep, coded, admissionResult, stepResult}
 use Rattle.bus.specs.Stretch.{Arrivals, Report, noArrival, most-calls, noReport, asks, due, arrivalReport, stepReport, inRow, mayBeMore}
-use Rattle.bus.specs.Parts.{refusalAt, answered, Asked, askedIf, begunWith, Progress, Moved, unheardOn, wonOn, collidedOn, transmittersIn, movedBy, withMoved, segmentWith, queueForm, stays, Sent}
-use Rattle.state.specs.Parts.{noContenders}
+use Rattle.bus.specs.Parts.{refusalAt, answered, Asked, askedIf, begunWith, Progress, Moved, unheardOn, wonOn, collidedOn, transmittersIn, movedBy, withMoved, segmentWith, queueForm, stays, Sent, Heard, progressOf, Sole, soleOf, heardIn, movedIn, heardOf}
+use Rattle.state.specs.Parts.{noContenders, queueOf}
 use Rattle.state.proofs.Contenders.{zeroed, none-recorded}
-use Rattle.state.proofs.Form.{held-form, parts-padded}
+use Rattle.state.proofs.Form.{form-meaning, standing-fits, held-form, parts-padded}
 use Rattle.state.proofs.Stands.{form-stands}
-use Rattle.bus.proofs.Coded.{next-is, next-stands}
-use Rattle.state.proofs.Stands.{Lent, lent-held}
+use Rattle.bus.proofs.Coded.{coded-next, next-stands}
+use Rattle.state.proofs.Stands.{Lent, lent-held, few-packets}
 use Rattle.bus.proofs.Admitting.{refusal-is, gives-1, gives-refusal, joinedAt, in-row, room-at, joined-in-place, addressPlace}
 use Rattle.bus.proofs.SingleCalls.{next-same}
-use Rattle.bus.proofs.ClosingUp.{LeftIn}
-use Rattle.bus.proofs.BeginningLaws.{inTimeAt, begunState, begun-is, waiting-dropped}
+use Rattle.bus.proofs.ClosingUp.{LeftIn, left-one}
+use Rattle.bus.proofs.BeginningLaws.{inTimeAt, droppingTo, dropping-few, left-late, all-formed, room-left, late-counted, lost-counted, begunState, begun-is, waiting-dropped}
 use Rattle.bus.proofs.Steps as Steps
 use Rattle.bus.proofs.Steps.{gives-17, goes-on, begins, probes}
-use Rattle.bus.proofs.ProbedSlot.{Probed, probed, Sole, soleOf, heardIn, queuesAfter, slotWith, winner-there, probed-is, openOf, progressOf}
-use Rattle.bus.proofs.HeardLaws.{answer-moved, segment-moved, winner-moved}
+use Rattle.bus.proofs.ProbedSlot.{Probed, probed, queuesAfter, slotWith, stepped, winner-there, probed-is, openOf}
+use Rattle.bus.proofs.HeardLaws.{answer-moved, segment-moved, winner-moved, sole-short, sole-counted}
 use Rattle.bus.proofs.Stretched.{So-far, at-first, row-due, took, stepped-on}
 use Rattle.bus.proofs.QueueLaws.{withQueue}
 
@@ -62,7 +63,10 @@ passed s r = true-and (parts-padded s (r .zeros)) (Tests.told (stands-exactly (m
 
 lent-next : (s : State) → Lent s → (c : Call) → Lent (next coded s c)
 lent-next s r c =
-    let held = subst Held (sym (next-is s c (parts-padded s (r .zeros)))) (held-form (next machine (meaning s) c)) in
+    let b = meaning s in
+    let next! : next coded s c ≡ form (next machine b c) =
+    ap (λ t. next coded t c) (sym (form-meaning s (r .held) (parts-padded s (r .zeros)))) ∙ coded-next b (standing-fits b (r .stands)) c in
+    let held = subst Held (sym next!) (held-form (next machine b c)) in
     lent-held (next coded s c) held (next-stands s c (passed s r))
 
 -- ---- a call on a state that stands, or does not
@@ -172,6 +176,30 @@ step-on false s r refusal e z = absurd (omega arith)
 
 -- ---- the contention is under way, or has just begun
 
+-- a step from s probes x, where so many packets have been dropped
+record Begun (s x : State) (drops : ℕ) : Type 0 where
+  pub is : opened (meaning s) ≡ openOf x drops
+  pub ready : Lent x
+  pub begun : x .segment .contention .begun ≡ true
+  pub clock : x .segment .clock ≡ s .segment .clock
+
+had-begun : (s : State) → Lent s → s .segment .contention .begun ≡ true → Begun s s 0
+had-begun s r e = record { is = goes-on s e; ready = r; begun = e; clock = refl }
+
+just-begun : (s : State) → Lent s → s .segment .contention .begun ≡ false → Begun s (form (begin (meaning s))) (dropsOf (meaning s))
+just-begun s r e =
+    record {
+      is = begins s r e;
+      ready = lent-form (begin (meaning s)) (begin-stands (meaning s) (r .stands));
+      begun = refl;
+      clock = refl;
+    }
+
+-- the same, of equal things
+begun-as : {s x x′ : State} {drops drops′ : ℕ} → x′ ≡ x → drops′ ≡ drops → Begun s x drops → Begun s x′ drops′
+begun-as {s} {x} {x′} {drops} a b o = subst (Begun s x′) (sym b) (subst (λ (y : State). Begun s y drops) (sym a) o)
+
+-- the same of its parts, which have their settings and stations as they were
 pub record Opened (s : State) (g : Segment) (queues : Queues) (drops : ℕ) : Type 0 where
   pub is : opened (meaning s) ≡ openOf (whole g queues) drops
   pub ready : Lent (whole g queues)
@@ -180,8 +208,14 @@ pub record Opened (s : State) (g : Segment) (queues : Queues) (drops : ℕ) : Ty
   pub settings : g .settings ≡ s .segment .settings
   pub listed : g .listed ≡ s .segment .listed
 
+opened-with :
+    (s x : State) (drops : ℕ) → Begun s x drops → x .segment .settings ≡ s .segment .settings → x .segment .listed ≡ s .segment .listed
+    → Opened s (x .segment) (x .queues) drops
+opened-with s x drops b set-up same =
+    record { is = b .is; ready = b .ready; begun = b .begun; clock = b .clock; settings = set-up; listed = same }
+
 pub was-open : (s : State) → Lent s → s .segment .contention .begun ≡ true → Opened s (s .segment) (s .queues) 0
-was-open s r e = record { is = goes-on s e; ready = r; begun = e; clock = refl; settings = refl; listed = refl }
+was-open s r e = opened-with s s 0 (had-begun s r e) refl refl
 
 -- the same, of equal things
 pub opened-as :
@@ -196,49 +230,7 @@ now-open :
     (s : State) → Lent s → s .segment .contention .begun ≡ false → (x : State) → x ≡ form (begin (meaning s))
     → x .segment .settings ≡ s .segment .settings → x .segment .listed ≡ s .segment .listed → (drops : ℕ) → drops ≡ dropsOf (meaning s) → Opened s (x .segment) (x .queues) drops
 now-open s r e x f set-up same drops d =
-    let o = begun-form in
-    record {
-      is = o .is;
-      ready = o .ready;
-      begun = o .begun;
-      clock = o .clock;
-      settings = set-up;
-      listed = same;
-    }
-  where
-    -- all but how the stations are listed, of the form
-    begun-form :
-        record {
-          is : opened (meaning s) ≡ openOf (whole (x .segment) (x .queues)) drops;
-          ready : Lent (whole (x .segment) (x .queues));
-          begun : x .segment .contention .begun ≡ true;
-          clock : x .segment .clock ≡ s .segment .clock;
-        }
-    begun-form =
-        subst
-        (λ (y : State).
-        record {
-          is : opened (meaning s) ≡ openOf (whole (y .segment) (y .queues)) drops;
-          ready : Lent (whole (y .segment) (y .queues));
-          begun : y .segment .contention .begun ≡ true;
-          clock : y .segment .clock ≡ s .segment .clock;
-        })
-        (sym f)
-        (subst
-        (λ (k : ℕ).
-        record {
-          is : opened (meaning s) ≡ openOf (form (begin (meaning s))) k;
-          ready : Lent (form (begin (meaning s)));
-          begun : form (begin (meaning s)) .segment .contention .begun ≡ true;
-          clock : form (begin (meaning s)) .segment .clock ≡ s .segment .clock;
-        })
-        (sym d)
-        (record {
-          is = begins s r e;
-          ready = lent-form (begin (meaning s)) (begin-stands (meaning s) (r .stands));
-          begun = refl;
-          clock = refl;
-        }))
+    opened-with s x drops (begun-as f d (just-begun s r e)) set-up same
 
 -- the packets that are left
 module _ (s : State) (r : Lent s) (between : s .segment .contention .begun ≡ false) (rest : Queues)
@@ -248,6 +240,52 @@ module _ (s : State) (r : Lent s) (between : s .segment .contention .begun ≡ f
   begun-open drops e g f =
       opened-as f refl refl
       (now-open s r between (begunState s rest drops) (begun-is s r rest kept drops e ls ps) refl refl drops e)
+
+-- late packets leave, and each station offers one: what `begin` does in place, and a `step` that begins
+module _ (s : State) (r : Lent s) (to : ℕ) (to! : to ≡ droppingTo (s .segment .settings .discipline) (s .segment .settings .n)) where
+  abbrev n : ℕ
+  n = s .segment .settings .n
+
+  -- `without` may be called
+  pub may-leave :
+      (to ≤ 64)
+      × (((j : ℕ) → j < 64 → queueOf (s .queues) j ≡ queueForm (queueAt (s .queues) j))
+      × ((j : ℕ) → j < 64 → getD (s .queues .lengths) j 0 ≤ 16))
+  may-leave = (omega (arith, to!, dropping-few (s .segment .settings .discipline) n, r .few), (all-formed s r, few-packets s r))
+
+  module _ (rest : Queues) (gone : LeftIn (inTimeAt s) (s .queues) 0 to rest) (arrays : (length (rest .lengths) ≡ 64) × (length (rest .packets) ≡ 1024)) where
+    kept-in-time : LeftIn (inTimeAt s) (s .queues) 0 n rest
+    kept-in-time =
+        left-late (s .segment .settings .discipline) (s .segment .clock) (s .queues) n rest (all-formed s r)
+        (subst (λ (k : ℕ). LeftIn (inTimeAt s) (s .queues) 0 k rest) to! gone)
+
+    -- `dropped` may be called
+    pub fewer-wait : waitingIn (rest .lengths) n ≤ waitingIn (s .queues .lengths) n
+    fewer-wait = omega (arith, late-counted s r rest kept-in-time (arrays .0))
+
+    module _ (drops : ℕ) (drops! : drops ≡ waitingIn (s .queues .lengths) n - waitingIn (rest .lengths) n) where
+      pub all-dropped : drops ≡ dropsOf (meaning s)
+      all-dropped = omega (arith, drops!, late-counted s r rest kept-in-time (arrays .0))
+
+      -- `begun` may be called
+      pub may-begin :
+          (n ≤ 64)
+          × (((i : ℕ) → i < n → getD (rest .lengths) i 0 ≤ 16)
+          × ((1 ≤ s .segment .settings .q) × ((1 ≤ s .segment .settings .d) × (s .segment .lost + drops ≤ 18446744073709551615))))
+      may-begin =
+          let spaces = set-up-stands (meaning s) (r .stands) in
+          let count = lost-counted s r in
+          let dropped! = all-dropped in
+          (r .few, (room-left s r rest kept-in-time, (spaces .q-least, (omega (arith, spaces .D-least), omega arith))))
+
+      -- the contention has begun
+      module _ (g : Segment) (g! : g ≡ begunWith (s .segment) rest drops) where
+        pub begun-form : whole g rest ≡ form (begin (meaning s))
+        begun-form =
+            ap (λ (x : Segment). whole x rest) g! ∙ begun-is s r rest kept-in-time drops all-dropped (arrays .0) (arrays .1)
+
+        pub late-gone : s .segment .contention .begun ≡ false → Opened s g rest drops
+        late-gone between = begun-open s r between rest kept-in-time (arrays .0) (arrays .1) drops all-dropped g g!
 
 -- no packet leaves where all are in time
 pub offered-open :
@@ -281,35 +319,10 @@ module _ (g : Settings) (pr : Progress) (drops count : ℕ) (sole : Sole) where
       (sym (ap (λ (o : Moved). o .answer .ended) e) ∙ f)
       (sym (ap (λ (o : Moved). o .answer .event) e) ∙ k)
 
-module _ (s : State) (r : Lent s) (in-time : ltb last-slot (s .segment .clock .0) ≡ false) (g : Segment) (queues : Queues) (drops : ℕ)
-    (o : Opened s g queues drops) (sole : Sole) (h : sole ≡ soleOf g (heardIn g)) (m : Moved)
-    (e : m ≡ movedBy (g .settings) (progressOf g) drops (countOf (transmittersIn g)) (sole .listed) (sole .packet)) where
-  -- it is what the machine's probe makes of the bus
-  whole-moved : m ≡ movedBy (g .settings) (progressOf g) drops (countOf (transmittersIn g)) (soleOf g (heardIn g) .listed) (soleOf g (heardIn g) .packet)
-  whole-moved = e ∙ ap (λ (x : Sole). movedBy (g .settings) (progressOf g) drops (countOf (transmittersIn g)) (x .listed) (x .packet)) h
-
-  abbrev p : Probed
-  p = probed g drops
-
-  answer! : m .answer ≡ p .answer
-  answer! = ap (λ (o : Moved). o .answer) whole-moved ∙ sym (answer-moved g drops)
-
-  segment! : withMoved g m ≡ p .segment
-  segment! = ap (withMoved g) whole-moved ∙ sym (segment-moved g drops)
-
-  -- the segment moved, and the queues by whether a packet was sent
+-- what has been moved, and the segment and the queues after it
+module _ (g : Segment) (m : Moved) where
   abbrev after : Queues → Stepped
   after rest = record { answer = m .answer; state = whole (withMoved g m) rest }
-
-  after-is :
-      (sent : Bool) → eqb (p .answer .event) success ≡ sent → (rest : Queues) → rest ≡ cond sent (queuesAfter (whole g queues) p) queues
-      → after rest ≡ stepResult (codedStep s)
-  after-is sent f rest k =
-      ap₂ (λ (answer : Answer) (q : Queues). record { answer = answer; state = whole (withMoved g m) q }) answer! k
-      ∙ ap (λ (x : Segment). record { answer = p .answer; state = whole x (cond sent (queuesAfter (whole g queues) p) queues) }) segment!
-      ∙ ap (λ (t : Bool). slotWith p (cond t (queuesAfter (whole g queues) p) queues)) (sym f)
-      ∙ probed-is (whole g queues) (o .ready) (o .begun) drops p refl
-      ∙ probes s r in-time (openOf (whole g queues) drops) (o .is)
 
   -- the answer, and the state with these contenders and queues
   abbrev placed : Recorded → Queues → Stepped
@@ -326,24 +339,53 @@ module _ (s : State) (r : Lent s) (in-time : ltb last-slot (s .segment .clock .0
       {ended : Bool} → m .answer .ended ≡ ended → (rest : Queues) → placed (cond ended noContenders (recordedIn g)) rest ≡ after rest
   contenders-of f rest = ap (λ (t : Bool). placed (cond t noContenders (recordedIn g)) rest) (sym f)
 
+  cleared : (rest : Queues) → placed zeroed rest ≡ placed noContenders rest
+  cleared rest = ap (λ (os : Recorded). placed os rest) none-recorded
+
+-- it is what the machine's probe makes of the bus
+module _ (g : Segment) (queues : Queues) (drops : ℕ) (ready : Lent (whole g queues)) (begun : g .contention .begun ≡ true) (sole : Sole)
+    (h : sole ≡ soleOf g (heardIn g)) (m : Moved)
+    (e : m ≡ movedBy (g .settings) (progressOf g) drops (countOf (transmittersIn g)) (sole .listed) (sole .packet)) where
+  whole-moved : m ≡ movedBy (g .settings) (progressOf g) drops (countOf (transmittersIn g)) (soleOf g (heardIn g) .listed) (soleOf g (heardIn g) .packet)
+  whole-moved = e ∙ ap (λ (x : Sole). movedBy (g .settings) (progressOf g) drops (countOf (transmittersIn g)) (x .listed) (x .packet)) h
+
+  abbrev p : Probed
+  p = probed g drops
+
+  answer! : m .answer ≡ p .answer
+  answer! = ap (λ (o : Moved). o .answer) whole-moved ∙ sym (answer-moved g drops)
+
+  segment! : withMoved g m ≡ p .segment
+  segment! = ap (withMoved g) whole-moved ∙ sym (segment-moved g drops)
+
+  -- the queues by whether a packet was sent
+  after-is :
+      (sent : Bool) → eqb (p .answer .event) success ≡ sent → (rest : Queues) → rest ≡ cond sent (queuesAfter (whole g queues) p) queues
+      → after g m rest ≡ stepped (probe (openOf (whole g queues) drops))
+  after-is sent f rest k =
+      ap₂ (λ (answer : Answer) (q : Queues). record { answer = answer; state = whole (withMoved g m) q }) answer! k
+      ∙ ap (λ (x : Segment). record { answer = p .answer; state = whole x (cond sent (queuesAfter (whole g queues) p) queues) }) segment!
+      ∙ ap (λ (t : Bool). slotWith p (cond t (queuesAfter (whole g queues) p) queues)) (sym f)
+      ∙ probed-is (whole g queues) ready begun drops p refl
+
   -- no packet was sent
-  pub none-sent : ¬ (m .answer .event ≡ success) → after queues ≡ stepResult (codedStep s)
-  none-sent n =
+  probed-unsent : ¬ (m .answer .event ≡ success) → after g m queues ≡ stepped (probe (openOf (whole g queues) drops))
+  probed-unsent n =
       after-is false (ne-eqb (p .answer .event) success (λ k. n (ap (λ (x : Answer). x .event) answer! ∙ k))) queues refl
 
   -- the winner is a station
   winner! : m .answer .event ≡ success → sole .place ≡ p .winner
   winner! k = ap (λ (x : Sole). x .place) h ∙ sym (winner-moved g drops (ap (λ (x : Moved). x .answer .event) (sym whole-moved) ∙ k))
 
-  pub winner-in : m .answer .event ≡ success → sole .place < most-stations
-  winner-in k = omega (arith, winner! k, winner-there (whole g queues) (o .ready) drops p refl)
+  winner-placed : m .answer .event ≡ success → sole .place < most-stations
+  winner-placed k = omega (arith, winner! k, winner-there (whole g queues) ready drops p refl)
 
   -- the winner's packet leaves its queue
-  pub one-sent :
+  probed-sent :
       m .answer .event ≡ success → (rest : Queues)
       → rest ≡ withQueue queues (sole .place) (queueForm (keep (stays (Sent (m .answer .number))) (queueAt queues (sole .place))))
-      → after rest ≡ stepResult (codedStep s)
-  one-sent k rest f =
+      → after g m rest ≡ stepped (probe (openOf (whole g queues) drops))
+  probed-sent k rest f =
       after-is true
       (eq-eqb (p .answer .event) success (sym (ap (λ (x : Answer). x .event) answer!) ∙ k))
       rest
@@ -353,22 +395,87 @@ module _ (s : State) (r : Lent s) (in-time : ltb last-slot (s .segment .clock .0
       (winner! k)
       (ap (λ (x : Answer). x .number) answer!))
 
-  -- the contention goes on; or it ends, without a winner or with one
-  pub still-on : m .answer .ended ≡ false → placed (recordedIn g) queues ≡ stepResult (codedStep s)
-  still-on f = contenders-of f queues ∙ none-sent (unended (g .settings) (progressOf g) drops (countOf (transmittersIn g)) sole m e f)
+-- the segment is probed, and the winner's packet leaves its queue: what `probe` does in place, and each `step`
+module _ (g : Segment) (queues : Queues) (drops : ℕ) (ready : Lent (whole g queues)) (begun : g .contention .begun ≡ true) where
+  abbrev it : State
+  it = whole g queues
 
-  cleared : (rest : Queues) → placed zeroed rest ≡ placed noContenders rest
-  cleared rest = ap (λ (os : Recorded). placed os rest) none-recorded
+  -- `heard_in` may be called
+  pub may-probe :
+      (g .clock .0 ≤ 1073741824)
+      × ((soleOf g (heardIn g) .packet .length ≤ 4096) × (countOf (transmittersIn g) ≡ 1 → g .sent < 4294967295))
+  may-probe = (ready .stands .clock-in, (sole-short it ready begun, sole-counted it ready begun))
+
+  module _ (h : Heard) (h! : h ≡ heardOf g drops) where
+    event! : h .answer .event ≡ movedIn g drops .answer .event
+    event! = ap (λ (x : Heard). x .answer .event) h!
+
+    abbrev heard-with : Heard → Queues → Stepped
+    heard-with x rest = record { answer = x .answer; state = whole (x .segment) rest }
+
+    pub none-won : ¬ (h .answer .event ≡ success) → heard-with h queues ≡ stepped (probe (openOf it drops))
+    none-won n =
+        ap (λ (x : Heard). heard-with x queues) h!
+        ∙ probed-unsent g queues drops ready begun (soleOf g (heardIn g)) refl (movedIn g drops) refl (λ k. n (event! ∙ k))
+
+    module _ (won : h .answer .event ≡ success) where
+      pub winner-there! : h .place < 64
+      winner-there! =
+          omega (
+            arith,
+            ap (λ (x : Heard). x .place) h!,
+            winner-placed g queues drops ready begun (soleOf g (heardIn g)) refl (movedIn g drops) refl (sym event! ∙ won),
+          )
+
+      -- `without` may be called
+      pub may-send :
+          (h .place + 1 ≤ 64)
+          × (((j : ℕ) → j < 64 → queueOf queues j ≡ queueForm (queueAt queues j)) × ((j : ℕ) → j < 64 → getD (queues .lengths) j 0 ≤ 16))
+      may-send = (omega (arith, winner-there!), (all-formed it ready, few-packets it ready))
+
+      pub one-won :
+          (rest : Queues) → LeftIn (stays (Sent (h .answer .number))) queues (h .place) (h .place + 1) rest
+          → (length (rest .lengths) ≡ 64) × (length (rest .packets) ≡ 1024) → heard-with h rest ≡ stepped (probe (openOf it drops))
+      one-won rest gone arrays =
+          ap (λ (x : Heard). heard-with x rest) h!
+          ∙ probed-sent g queues drops ready begun (soleOf g (heardIn g)) refl (movedIn g drops) refl (sym event! ∙ won) rest
+          (left-one (stays (Sent (h .answer .number))) queues rest (h .place) winner-there! (ready .held .lengths) (ready .held .packets) (arrays .0) (arrays .1)
+          (few-packets it ready (h .place) winner-there!)
+          gone
+          ∙ ap (λ (x : Heard). withQueue queues (x .place) (queueForm (keep (stays (Sent (x .answer .number))) (queueAt queues (x .place))))) h!)
+
+-- and so it is the step
+module _ (s : State) (r : Lent s) (in-time : ltb last-slot (s .segment .clock .0) ≡ false) (g : Segment) (queues : Queues) (drops : ℕ)
+    (o : Opened s g queues drops) (sole : Sole) (h : sole ≡ soleOf g (heardIn g)) (m : Moved)
+    (e : m ≡ movedBy (g .settings) (progressOf g) drops (countOf (transmittersIn g)) (sole .listed) (sole .packet)) where
+  of-step : stepped (probe (openOf (whole g queues) drops)) ≡ stepResult (codedStep s)
+  of-step = probes s r in-time (openOf (whole g queues) drops) (o .is)
+
+  none-sent : ¬ (m .answer .event ≡ success) → after g m queues ≡ stepResult (codedStep s)
+  none-sent n = probed-unsent g queues drops (o .ready) (o .begun) sole h m e n ∙ of-step
+
+  one-sent :
+      m .answer .event ≡ success → (rest : Queues)
+      → rest ≡ withQueue queues (sole .place) (queueForm (keep (stays (Sent (m .answer .number))) (queueAt queues (sole .place))))
+      → after g m rest ≡ stepResult (codedStep s)
+  one-sent k rest f = probed-sent g queues drops (o .ready) (o .begun) sole h m e k rest f ∙ of-step
+
+  pub winner-in : m .answer .event ≡ success → sole .place < most-stations
+  winner-in = winner-placed g queues drops (o .ready) (o .begun) sole h m e
+
+  -- the contention goes on; or it ends, without a winner or with one
+  pub still-on : m .answer .ended ≡ false → placed g m (recordedIn g) queues ≡ stepResult (codedStep s)
+  still-on f = contenders-of g m f queues ∙ none-sent (unended (g .settings) (progressOf g) drops (countOf (transmittersIn g)) sole m e f)
 
   pub ends-unheard :
-      m .answer .ended ≡ true → ¬ (m .answer .event ≡ success) → placed zeroed queues ≡ stepResult (codedStep s)
-  ends-unheard f n = cleared queues ∙ contenders-of f queues ∙ none-sent n
+      m .answer .ended ≡ true → ¬ (m .answer .event ≡ success) → placed g m zeroed queues ≡ stepResult (codedStep s)
+  ends-unheard f n = cleared g m queues ∙ contenders-of g m f queues ∙ none-sent n
 
   pub ends-won :
       m .answer .ended ≡ true → m .answer .event ≡ success → (rest : Queues)
       → rest ≡ withQueue queues (sole .place) (queueForm (keep (stays (Sent (m .answer .number))) (queueAt queues (sole .place))))
-      → placed zeroed rest ≡ stepResult (codedStep s)
-  ends-won f k rest h′ = cleared rest ∙ contenders-of f rest ∙ one-sent k rest h′
+      → placed g m zeroed rest ≡ stepResult (codedStep s)
+  ends-won f k rest h′ = cleared g m rest ∙ contenders-of g m f rest ∙ one-sent k rest h′
 
 -- ---- what a stretch has come to, in place
 

@@ -12,7 +12,7 @@ use lib.ListN.{length, getD}
 use borrow.Author.Tests.{eqb-true, ne-eqb}
 use Rattle.window.specs.declared.Side.{Side}
 use Rattle.window.specs.declared.Side.the-variants.{Left, Right}
-use Rattle.word.specs.Word.{bitAt, members, placesFrom, placed, firstOr}
+use Rattle.word.specs.Word.{bitAt, placesFrom, placed, firstOr}
 use Rattle.word.proofs.Laws.{members-word, places-same, places-none, places-split}
 use Rattle.window.specs.Splitting as Splitting
 use Rattle.window.specs.Splitting.{firstWindow, leftHalf, moveRight, movedRight, inWindow}
@@ -25,10 +25,10 @@ use Rattle.rules.specs.Standing.{OfferStands, StationStands, WindowStands, Cont
 use Rattle.rules.specs.Probe as Probe
 use Rattle.rules.specs.Probe.{contending, contenders, lies-in, able, transmits, transmitters, phaseOf, tie-phase, parameter-phase, idle, collision, success, waitOf, answered, unsent, sentBy, goesOn, withdrawn, unwon, left, lastWinner, tiedAt, split, heard, probe}
 use Rattle.rules.proofs.Laws.{and-true, true-and, count-some, count-le, total-among}
-use Rattle.bus.specs.Types.{Packet, Address, Capability, Listed, Contention, Round, Segment, Queues, State}
+use Rattle.bus.specs.Types.{Packet, Address, Capability, Contention, Round, Segment, Queues, State}
 use Rattle.state.specs.State.{Held, recordedIn, recordedAt, placeIn, noPacket, noContender, noRound, noContention, nobody, queueAt, offerOf, stationWith, stationAt, valuesFrom, stationsOf, lastOf, tieOf, contentionOf, meaning, form, contender-padded, no-station, round-padded, no-window, contention-padded}
 use Rattle.bus.specs.Coded.{Answer, Stepped, answerForm, stepResult}
-use Rattle.bus.specs.Parts.{Progress, Moved, Sent, stays, queueForm, contenderAt, liesIn, addressesOf, transmittersIn, answerAt, splitOf, collidedOn, unheardOn, roundAfter, wonOn, movedBy, segmentWith, withMoved}
+use Rattle.bus.specs.Parts.{Progress, Moved, Sent, stays, queueForm, contenderAt, liesIn, addressesOf, answerAt, splitOf, collidedOn, unheardOn, roundAfter, wonOn, movedBy, segmentWith, withMoved, progressOf, Sole, noSole, soleAt, soleOf, heardIn}
 use Rattle.state.specs.Parts.{noContenders}
 use Rattle.state.proofs.Rows.{values-map, values-same, row-at, among-values}
 use Rattle.state.proofs.Contenders.{recorded-held, place-recorded}
@@ -54,29 +54,9 @@ pub record Probed : Type 0 where
   pub segment : Segment
   pub winner : ℕ
 
--- what a probe moves, of a segment
-abbrev pub progressOf : Segment → Progress
-progressOf g = record { clock = g .clock; sent = g .sent; round = g .round; contention = g .contention }
-
 abbrev probedWith : Segment → Moved → ℕ → Probed
 probedWith g m place =
     record { answer = m .answer; segment = withMoved g m; winner = cond (eqb (m .answer .event) success) place 0 }
-
--- the sole winner where one transmits: its place, how it is listed, and its packet; zeros where none or more than one do
-pub record Sole : Type 0 where
-  pub place : ℕ
-  pub listed : Listed
-  pub packet : Packet
-
-abbrev pub noSole : Sole
-noSole = record { place = 0; listed = nobody; packet = noPacket }
-
-abbrev pub soleAt : Segment → ℕ → Sole
-soleAt g i = record { place = i; listed = getD (g .listed) i nobody; packet = recordedAt g i .packet }
-
--- of the places of those who transmit
-abbrev pub soleOf : Segment → List ℕ → Sole
-soleOf g places = cond (eqb (length places) 1) (soleAt g (firstOr places)) noSole
 
 -- two or more have no sole winner
 pub sole-more : (g : Segment) (i j : ℕ) (places : List ℕ) → soleOf g (i ∷ j ∷ places) ≡ noSole
@@ -111,16 +91,13 @@ probed-more g drops i j places =
     (ne-eqb (suc (suc (length places))) 0 (λ e. omega arith))
     (ne-eqb (suc (suc (length places))) 1 (λ e. omega arith))
 
-abbrev pub heardIn : Segment → List ℕ
-heardIn g = members (transmittersIn g)
-
 abbrev pub probed : Segment → ℕ → Probed
 probed g drops = probedBy g drops (heardIn g)
 
 -- ---- who transmits
 
 -- the first of the places for which a test holds is one of them
-first-in :
+pub first-in :
     (f : ℕ → Bool) (i k : ℕ) {m : ℕ} {ms : List ℕ} → placesFrom f i k ≡ m ∷ ms → (i ≤ m) × (m < i + k) × (f m ≡ true)
 first-in f i zero e = let n = ap length e in absurd (omega arith)
 first-in f i (suc k) {m} {ms} e = go (f i) refl e (first-in f (suc i) k)

@@ -9,15 +9,16 @@ use Rattle.rules.specs.Lists.{All}
 use Rattle.rules.specs.SetUp.{Request}
 use Rattle.rules.specs.declared.Admitted.{Admitted}
 use Rattle.rules.specs.Probe.{Answer}
+use Rattle.rules.specs.Step.{Begun}
 use Rattle.rules.specs.Engine as Engine
-use Rattle.rules.specs.Engine.{Reply, admitted, stepped, Call, admission, one-step, replies, reach}
+use Rattle.rules.specs.Engine.{Reply, admitted, probed, Call, admission, one-begin, one-probe, one-step, replies, reach}
 use Rattle.rules.proofs.Laws.{all-nil, all-cons, map-into}
 use Rattle.rules.proofs.Reach.{after-more}
 use Rattle.bus.specs.Types.{State, Arrival}
 use Rattle.state.specs.State.{Held, standing}
 use Rattle.bus.specs.Coded.{codedAdmit, codedStep, coded}
 use Rattle.bus.specs.Stretch.{Course, asks, due, arrivalReport, rests, after, stepThen, course, stepReports, afterSteps, replyOf, refusalIn, Called}
-use Rattle.bus.proofs.Coded.{hands-back-admission, hands-back-step, standing-exactly-admission, standing-exactly-step, next-stands, answer-read}
+use Rattle.bus.proofs.Coded.{hands-back-admission, hands-back-begin, hands-back-probe, hands-back-step, standing-exactly-admission, standing-exactly-begin, standing-exactly-probe, standing-exactly-step, next-stands, answer-read}
 
 -- ---- where no arrival comes, a stretch is that many steps, one after the other
 
@@ -37,7 +38,7 @@ by-step s c x =
     record {
       calls = one-step ∷ x .calls;
       state = x .state;
-      replied = ap₂ (λ (r : Reply) (rs : List Reply). r ∷ rs) (ap stepped (answer-read s)) (x .replied);
+      replied = ap₂ (λ (r : Reply) (rs : List Reply). r ∷ rs) (ap probed (answer-read s)) (x .replied);
     }
 
 by-arrival :
@@ -104,6 +105,8 @@ not-accepted one z = omega arith
 
 reply-refused : (s : State) → standing s ≡ false → (c : Call) → refusalIn (Engine.reply coded s c) ≡ 1
 reply-refused s e (admission a) = standing-exactly-admission s a .1 e
+reply-refused s e one-begin = standing-exactly-begin s .1 e
+reply-refused s e one-probe = standing-exactly-probe s .1 e
 reply-refused s e one-step = standing-exactly-step s .1 e
 
 -- a call that is accepted was lent a state that stands, and leaves one
@@ -118,6 +121,8 @@ module _ (s : State) (held : Held s) (e : standing s ≡ false) where
   pub next-same : (c : Call) → Engine.next coded s c ≡ s
   next-same (admission a) =
       ap (λ (o : Admitted × State). o .1) (hands-back-admission s held a (not-accepted (reply-refused s e (admission a))))
+  next-same one-begin = ap (λ (o : Begun × State). o .1) (hands-back-begin s held (not-accepted (reply-refused s e one-begin)))
+  next-same one-probe = ap (λ (o : Answer × State). o .1) (hands-back-probe s held (not-accepted (reply-refused s e one-probe)))
   next-same one-step = ap (λ (o : Answer × State). o .1) (hands-back-step s held (not-accepted (reply-refused s e one-step)))
 
   after-same : (calls : List Call) → Engine.after coded s calls ≡ s

@@ -1,12 +1,13 @@
 -- A step in the code's terms: what a refused one gives back, and the bus that it probes, whether a contention is under way or begins.
 -- Assumes nothing.
 use Prim.Native.Nat.{ℕ}
-use mathlib.Core.Path.{_≡_, sym, ap, _∙_}
-use mathlib.Core.Bool.{Bool, true, false, cond}
+use mathlib.Core.Path.{_≡_, refl, sym, ap, _∙_}
+use mathlib.Core.Bool.{Bool, true, false, _&&_, cond}
 use mathlib.Core.Option.{none, some}
 use native.Mathlib.Omega.{arith}
 use lib.Dec.{ltb}
 use Rattle.rules.specs.Bus.{Bus, last-slot}
+use Rattle.rules.specs.Standing.{stands}
 use Rattle.rules.specs.Begin.{begin, dropsOf, opening}
 use Rattle.rules.specs.Probe.{Answer, Open, probe, refusedAnswer}
 use Rattle.rules.specs.Step.{openedBy, opened, stepRefusal, step}
@@ -14,11 +15,11 @@ use Rattle.rules.proofs.Tests.{told}
 use Rattle.rules.proofs.Standing.{stands-exactly, step-is}
 use Rattle.rules.proofs.Keeps.{begin-stands}
 use Rattle.bus.specs.Types.{State}
-use Rattle.state.specs.State.{Held, tieOf, meaning, form, standing}
-use Rattle.bus.specs.Coded.{codedStep, stepResult}
-use Rattle.state.proofs.Form.{parts-padded, Fits, standing-fits, meaning-form}
-use Rattle.bus.proofs.Coded.{hands-back-step, step-bears, standing-exactly-step}
-use Rattle.state.proofs.Stands.{Lent}
+use Rattle.state.specs.State.{Held, tieOf, meaning, form, padded, standing}
+use Rattle.bus.specs.Coded.{onMeaning, codedStep, stepResult}
+use Rattle.state.proofs.Form.{form-meaning, parts-padded, Fits, standing-fits, meaning-form}
+use Rattle.bus.proofs.Coded.{coded-step, hands-back-step, step-bears, standing-exactly-step}
+use Rattle.state.proofs.Stands.{Lent, lent-held}
 use Rattle.bus.proofs.ProbedSlot.{openOf}
 
 -- ---- a refused step gives its number, and the state as lent
@@ -46,7 +47,8 @@ goes-on s e = ap (opened-by s) e
 module _ (s : State) (r : Lent s) where
   -- it is the step of the rules
   of-rules : codedStep s ≡ (step (meaning s) .0, form (step (meaning s) .1))
-  of-rules = ap (λ t. cond t (step (meaning s) .0, form (step (meaning s) .1)) (refusedAnswer 1, s)) (parts-padded s (r .zeros))
+  of-rules =
+      ap codedStep (sym (form-meaning s (r .held) (parts-padded s (r .zeros)))) ∙ coded-step (meaning s) (standing-fits (meaning s) (r .stands))
 
   pub gives-17 : ltb last-slot (s .segment .clock .0) ≡ true → stepResult (refusedAnswer 17, s) ≡ stepResult (codedStep s)
   gives-17 late! =
@@ -77,3 +79,23 @@ module _ (s : State) (r : Lent s) where
   begins e =
       let same = meaning-form (begin (meaning s)) begun-fits in
       ap (opened-by s) e ∙ (λ i. record { bus = sym same i; contention = opening (meaning s); drops = dropsOf (meaning s) })
+
+-- on any state in the code, a step is paper 01's on what it means
+pub step-of-paper : (s : State) → Held s → codedStep s ≡ onMeaning step (refusedAnswer 1) s
+step-of-paper s held = go (standing s) refl
+  where
+    result : Bool → Answer × State
+    result t = cond t (step (meaning s) .0, form (step (meaning s) .1)) (refusedAnswer 1, s)
+
+    -- paper 01's step of a state that does not stand
+    refused : (t : Bool) → padded s ≡ t → (t && stands (meaning s)) ≡ false → (refusedAnswer 1, s) ≡ result t
+    refused true e n = sym (rw n (ap (λ lent. (refusedAnswer 1, lent)) (form-meaning s held e)))
+    refused false e n = refl
+
+    go : (t : Bool) → standing s ≡ t → codedStep s ≡ result (padded s)
+    go true e =
+        let r = lent-held s held e in
+        of-rules s r ∙ sym (ap result (parts-padded s (r .zeros)))
+    go false e =
+        let one = standing-exactly-step s .1 e in
+        hands-back-step s held (λ z. omega (arith, z, one)) ∙ ap (λ n. (refusedAnswer n, s)) one ∙ refused (padded s) refl e

@@ -8,7 +8,7 @@ use lib.ListN.{length, getD, replicate}
 use Rattle.window.specs.declared.Side.{Side}
 use Rattle.window.specs.declared.Side.the-variants.{Left, Right}
 use Rattle.window.specs.Splitting.{firstWindow, leftHalf, movedRight, inWindow}
-use Rattle.word.specs.Word.{bitAt, wordOf}
+use Rattle.word.specs.Word.{bitAt, members, wordOf, firstOr, countOf}
 use Rattle.rules.specs.Lists.{firstOf}
 use Rattle.rules.specs.Bus.{places, most-admitted, Discipline, PRI, RTDG, RTVC, late}
 use Rattle.rules.specs.SetUp.{disciplineOf}
@@ -20,13 +20,14 @@ use Rattle.rules.specs.Probe.{idle, collision, success, parameter-phase, tie-ph
 use Rattle.bus.specs.Types.{Slot, Address, Capability, Settings, Listed, Contender, Contention, Round, Segment, Queues, Queue, Packet}
 use Rattle.state.specs.Parts.{noContenders}
 use Rattle.state.specs.State.{Recorded, recordedIn, recordedAt, recorded, noPacket, noContender, noContention, noRound, nobody, row, queueAt, lastOf}
-use Rattle.bus.specs.Coded.{Answer}
+use Rattle.bus.specs.Coded.{Begun, Answer}
 pub use Rattle.bus.specs.declared.Leaving.{Leaving}
 pub use Rattle.bus.specs.declared.Leaving.the-variants.{Late, Sent}
 pub use Rattle.bus.specs.declared.Chosen.{Chosen}
 pub use Rattle.bus.specs.declared.Asked.{Asked}
 pub use Rattle.bus.specs.declared.Progress.{Progress}
 pub use Rattle.bus.specs.declared.Moved.{Moved}
+pub use Rattle.bus.specs.declared.Heard.{Heard}
 
 -- ---- the disciplines
 
@@ -151,6 +152,25 @@ offersOf g queues = segmentCounting g (g .admitted) (g .lost) (g .contention) (r
 abbrev pub begunWith : Segment → Queues → ℕ → Segment
 begunWith g queues drops =
     segmentCounting g (g .admitted) (g .lost + drops) (openingOf (g .settings .d)) (recorded (offerAt g queues))
+
+-- the addresses of those in a word, by station; zeros elsewhere
+abbrev pub contendingOf : ℕ → List Listed → List Address
+contendingOf word listed = row 64 (λ i. cond (bitAt word i) (getD listed i nobody .address) (record { 0 = 0 }))
+
+-- what a begin shows of the segment in which a contention has begun
+abbrev pub shownOf : Segment → ℕ → Begun
+shownOf g drops =
+    record {
+      refusal = 0;
+      drops = drops;
+      slot = g .clock;
+      start = g .contention .window .start;
+      size = g .contention .window .size;
+      contenders = g .contenders;
+      addresses = contendingOf (g .contenders) (g .listed);
+      numbers = g .numbers;
+      parameters = g .parameters;
+    }
 
 -- ---- a slot is probed
 
@@ -298,3 +318,37 @@ withMoved g m =
     (m .progress .round)
     (m .progress .contention)
     (cond (m .answer .ended) noContenders (recordedIn g))
+
+-- what a probe moves, of a segment
+abbrev pub progressOf : Segment → Progress
+progressOf g = record { clock = g .clock; sent = g .sent; round = g .round; contention = g .contention }
+
+-- the sole winner where one transmits: its place, how it is listed, and its packet; zeros where none or more than one do
+pub record Sole : Type 0 where
+  pub place : ℕ
+  pub listed : Listed
+  pub packet : Packet
+
+abbrev pub noSole : Sole
+noSole = record { place = 0; listed = nobody; packet = noPacket }
+
+abbrev pub soleAt : Segment → ℕ → Sole
+soleAt g i = record { place = i; listed = getD (g .listed) i nobody; packet = recordedAt g i .packet }
+
+-- of the places of those who transmit
+abbrev pub soleOf : Segment → List ℕ → Sole
+soleOf g places = cond (eqb (length places) 1) (soleAt g (firstOr places)) noSole
+
+-- the places of those who transmit in a segment
+abbrev pub heardIn : Segment → List ℕ
+heardIn g = members (transmittersIn g)
+
+-- what a probe of a segment moves, where so many packets have been dropped
+abbrev pub movedIn : Segment → ℕ → Moved
+movedIn g drops =
+    movedBy (g .settings) (progressOf g) drops (countOf (transmittersIn g)) (soleOf g (heardIn g) .listed) (soleOf g (heardIn g) .packet)
+
+-- what it hears: its answer, the sole winner's place, and the segment after it
+abbrev pub heardOf : Segment → ℕ → Heard
+heardOf g drops =
+    record { answer = movedIn g drops .answer; place = soleOf g (heardIn g) .place; segment = withMoved g (movedIn g drops) }

@@ -133,12 +133,13 @@ stretchForm c =
 
 -- what a report says that the engine replied
 abbrev pub replyOf : Report → Reply
-replyOf r = cond (r .arrival) (Engine.admitted (r .admitted)) (Engine.stepped (answerOf (r .answer)))
+replyOf r = cond (r .arrival) (Engine.admitted (r .admitted)) (Engine.probed (answerOf (r .answer)))
 
 -- the refusal number in a reply, 0 where the call was accepted
 abbrev pub refusalIn : Reply → ℕ
 refusalIn (Engine.admitted a) = a .refusal
-refusalIn (Engine.stepped a) = a .refusal
+refusalIn (Engine.begun o) = o .refusal
+refusalIn (Engine.probed a) = a .refusal
 
 -- the calls of a course from a state: it comes to the state that they come to, and its reports say what is replied to them
 pub record Called (s : State) (c : Course) : Type 0 where

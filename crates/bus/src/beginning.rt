@@ -1,7 +1,9 @@
 // Beginning a contention: late packets are counted lost, each station offers one packet, and parameters and the first window are fixed.
+use crate::Begun;
 use crate::offering;
 use crate::waiting;
 use rules::Slot;
+use sorts::Address;
 use sorts::Capability;
 use sorts::disciplines;
 use state::Contender;
@@ -22,7 +24,7 @@ ghost use lib.ListN.{getD};
 ghost use Rattle.rules.specs.SetUp.{disciplineOf};
 ghost use Rattle.rules.specs.Begin.{sits-out};
 ghost use Rattle.state.specs.State.{lastOf, waitingIn};
-ghost use Rattle.bus.specs.Parts.{contenderFor, openingOf, offersOf, begunWith};
+ghost use Rattle.bus.specs.Parts.{contenderFor, openingOf, offersOf, begunWith, contendingOf, shownOf};
 ghost use Rattle.state.specs.Parts.{packetsOf};
 
 // Whether a station has no packet, or sits out.
@@ -160,4 +162,43 @@ pub fn begun(g: Segment, queues: Queues, drops: u64) -> Segment
     next.lost = g.lost + drops;
     next.contention = contention;
     next
+}
+
+// The addresses of those in a word, by station.
+fn contending(contenders: u64, listed: [Listed; 64]) -> [Address; 64]
+    ensures { λ r. ⌜ r ≡ contendingOf contenders listed ⌝ }
+{
+    let mut addresses = [Address(0); 64];
+    for i in 0..64 {
+        if word::test(contenders, i) {
+            let l = listed[i];
+            let address = l.address;
+            addresses[i] = address;
+        }
+    }
+    addresses
+}
+
+// What a begin shows of the segment in which a contention has begun.
+pub fn shown(g: Segment, drops: u64) -> Begun
+    ensures { λ r. ⌜ r ≡ shownOf g drops ⌝ }
+{
+    let contention = g.contention;
+    let w = contention.window;
+    let slot = g.clock;
+    let listed = g.listed;
+    let addresses = contending(g.contenders, listed);
+    let numbers = g.numbers;
+    let parameters = g.parameters;
+    Begun {
+        refusal: 0,
+        drops,
+        slot,
+        start: w.start,
+        size: w.size,
+        contenders: g.contenders,
+        addresses,
+        numbers,
+        parameters,
+    }
 }

@@ -5,8 +5,9 @@ ghost use mathlib.Core.Bool.{cond};
 ghost use lib.Dec.{ltb};
 ghost use Rattle.rules.specs.Bus.{last-slot};
 ghost use Rattle.rules.specs.Probe.{refusedAnswer};
+ghost use Rattle.rules.specs.Step.{refusedBegun};
 ghost use Rattle.bus.specs.Stretch.{stretchOf, stretchForm};
-ghost use Rattle.bus.specs.Coded.{codedAdmit, codedStep, admissionResult, stepResult, arrivalOf, answerForm, totalsOf};
+ghost use Rattle.bus.specs.Coded.{codedAdmit, codedBegin, codedProbe, codedStep, admissionResult, beginResult, stepResult, arrivalOf, begunForm, answerForm, totalsOf};
 use rules::Admitted;
 use rules::Packet;
 use rules::Slot;
@@ -14,9 +15,9 @@ use sorts::Address;
 use state::Arrival;
 use state::Contention;
 use state::Round;
+use state::Segment;
 use state::State;
 use state::standing;
-use state::zeros;
 
 mod beginning;
 mod joining;
@@ -25,10 +26,10 @@ mod playing;
 mod probing;
 mod waiting;
 
-// 'step with the clock above 1,073,737,728'
+// 'step with the clock above 1,073,737,728'; a probe too.
 const LAST_SLOT: u32 = 1_073_737_728;
 
-// The answer to no step.
+// The answer to no step and no probe.
 const NO_ANSWER: Answer = Answer {
     refusal: 0,
     drops: 0,
@@ -50,8 +51,29 @@ pub struct Admission {
     pub state: State,
 }
 
-// A step's answer: phase 0 is the parameter phase, 1 the tie phase; event 0 idle, 1 collision, 2 success. The address, the packet's
-// number, its length and its wait, the number of slots from its admission slot to the slot probed, are 0 unless one succeeded.
+// A begin's answer: the drops, the slot, the first window's start and size; the word of contenders, and by station the contender's address, its
+// packet's number and its parameter. What has no meaning is zero.
+pub struct Begun {
+    pub refusal: u32,
+    pub drops: u64,
+    pub slot: Slot,
+    pub start: u64,
+    pub size: u64,
+    pub contenders: u64,
+    pub addresses: [Address; 64],
+    pub numbers: [u32; 64],
+    pub parameters: [u64; 64],
+}
+
+// A begin's answer, and the state.
+pub struct Started {
+    pub answer: Begun,
+    pub state: State,
+}
+
+// The answer to a step or a probe; the drops of a probe are 0. Phase 0 is the parameter phase, 1 the tie phase; event 0 idle, 1 collision,
+// 2 success. The address, the packet's number, its length and its wait, the number of slots from its admission slot to the slot probed, are 0
+// unless one succeeded.
 pub struct Answer {
     pub refusal: u32,
     pub drops: u64,
@@ -67,7 +89,7 @@ pub struct Answer {
     pub ended: bool,
 }
 
-// A step's answer, and the state.
+// The answer to a step or a probe, and the state.
 pub struct Stepped {
     pub answer: Answer,
     pub state: State,
@@ -145,6 +167,13 @@ struct Moved {
     pub progress: Progress,
 }
 
+// What a probe hears in a segment: its answer, the sole winner's place, which is 0 where there is none, and the segment after it.
+struct Heard {
+    pub answer: Answer,
+    pub place: usize,
+    pub segment: Segment,
+}
+
 // 'Admission tries 1, then 11 to 16'; an accepted packet takes the first free place of its station's queue.
 pub fn admit(s: State, address: Address, value: u32, length: u32) -> Admission
     ensures { λ r. ⌜ r ≡ admissionResult (codedAdmit s (arrivalOf address value length)) ⌝ }
@@ -186,6 +215,101 @@ pub fn admit(s: State, address: Address, value: u32, length: u32) -> Admission
     Admission { answer, state }
 }
 
+// '25, begin while one is under way; .. after 1': the refusal, or 0.
+fn begin_refusal(stands: bool, begun: bool) -> u32
+    ensures { λ r. ⌜ r ≡ cond stands (cond begun 25 0) 1 ⌝ }
+{
+    if !stands {
+        return 1;
+    }
+    if begun {
+        return 25;
+    }
+    0
+}
+
+// The answer to a refused begin: 'zero in the answer's other fields'.
+fn unbegun(refusal: u32) -> Begun
+    ensures { λ r. ⌜ r ≡ begunForm (refusedBegun refusal) ⌝ }
+{
+    Begun {
+        refusal,
+        drops: 0,
+        slot: Slot(0),
+        start: 0,
+        size: 0,
+        contenders: 0,
+        addresses: [Address(0); 64],
+        numbers: [0; 64],
+        parameters: [0; 64],
+    }
+}
+
+// 'who contends and what was dropped before the first slot is spent': late packets leave, each station offers one packet, and parameters and the
+// first window are fixed. It takes no slot, and is accepted at any clock of a state that stands and has no contention under way.
+pub fn begin(mut s: State) -> Started
+    ensures { λ r. ⌜ r ≡ beginResult (codedBegin s) ⌝ }
+{
+    let stands = standing::stands(s);
+    let under_way = s.segment.contention;
+    let refusal = begin_refusal(stands, under_way.begun);
+    let mut answer = unbegun(refusal);
+    if refusal == 0 {
+        let settings = s.segment.settings;
+        let n = settings.n;
+        let to = beginning::dropping(settings.discipline, n);
+        let clock = s.segment.clock;
+        let leaving = Leaving::Late(settings.discipline, clock);
+        let lengths = s.queues.lengths;
+        s.queues = waiting::without(s.queues, 0, to, leaving);
+        let kept = s.queues.lengths;
+        let drops = beginning::dropped(lengths, kept, n);
+        s.segment = beginning::begun(s.segment, s.queues, drops);
+        let g = s.segment;
+        answer = beginning::shown(g, drops);
+    }
+    Started { answer, state: s }
+}
+
+// '26, probe while none is; .. after 1, and 26 before 17, which belongs to the probe': the refusal, or 0.
+fn probe_refusal(stands: bool, begun: bool, clock: Slot) -> u32
+    ensures { λ r. ⌜ r ≡ cond stands (cond begun (cond (ltb last-slot (clock .0)) 17 0) 26) 1 ⌝ }
+{
+    if !stands {
+        return 1;
+    }
+    if !begun {
+        return 26;
+    }
+    if sorts::before(Slot(LAST_SLOT), clock) {
+        return 17;
+    }
+    0
+}
+
+// Probes one slot of the contention under way: who transmits, what is heard, and what becomes of the window and the state.
+pub fn probe(mut s: State) -> Stepped
+    ensures { λ r. ⌜ r ≡ stepResult (codedProbe s) ⌝ }
+{
+    let stands = standing::stands(s);
+    let under_way = s.segment.contention;
+    let refusal = probe_refusal(stands, under_way.begun, s.segment.clock);
+    let mut answer = refused(refusal);
+    if refusal == 0 {
+        let heard = probing::heard_in(s.segment, 0);
+        answer = heard.answer;
+        let segment = heard.segment;
+        s.segment = segment;
+        // 'That packet leaves its queue.'
+        if answer.event == probing::SUCCESS {
+            let place = heard.place;
+            let sent = Leaving::Sent(answer.number);
+            s.queues = waiting::without(s.queues, place, place + 1, sent);
+        }
+    }
+    Stepped { answer, state: s }
+}
+
 // 'a step tries 1, then 17': the refusal, or 0.
 fn step_refusal(stands: bool, clock: Slot) -> u32
     ensures { λ r. ⌜ r ≡ cond stands (cond (ltb last-slot (clock .0)) 17 0) 1 ⌝ }
@@ -199,7 +323,7 @@ fn step_refusal(stands: bool, clock: Slot) -> u32
     0
 }
 
-// The answer to a refused step: 'zero in the answer's other fields'; with 0, that to no step.
+// The answer to a refused step or probe: 'zero in the answer's other fields'; with 0, that to no step.
 fn refused(refusal: u32) -> Answer
     ensures { λ r. ⌜ r ≡ answerForm (refusedAnswer refusal) ⌝ }
 {
@@ -208,7 +332,8 @@ fn refused(refusal: u32) -> Answer
     answer
 }
 
-// A step begins a contention if none is under way, and probes one slot.
+// A step is the two in one: it begins a contention if none is under way, and probes one slot; its answer is the probe's with the begin's drops.
+// 'a step tries 1, then 17', before it begins anything.
 pub fn step(mut s: State) -> Stepped
     ensures { λ r. ⌜ r ≡ stepResult (codedStep s) ⌝ }
 {
@@ -232,47 +357,12 @@ pub fn step(mut s: State) -> Stepped
             s.segment = beginning::begun(s.segment, s.queues, drops);
         }
         // 'Every step then probes one slot.'
-        let g = s.segment;
-        let settings = g.settings;
-        let clock = g.clock;
-        let round = g.round;
-        let contention = g.contention;
-        let addresses = probing::addresses_of(g.listed);
-        let transmitters = probing::transmitters(
-            settings.discipline,
-            clock,
-            contention,
-            g.contenders,
-            &g.parameters,
-            &g.values,
-            &addresses,
-        );
-        let count = word::count(transmitters);
-        let mut place = 0;
-        let mut listed = zeros::NOBODY;
-        let mut packet = zeros::NO_PACKET;
-        if count == 1 {
-            place = word::lowest(transmitters);
-            listed = g.listed[place];
-            let admission = g.admissions[place];
-            packet = Packet {
-                number: g.numbers[place],
-                value: g.values[place],
-                length: g.lengths[place],
-                admission,
-            };
-        }
-        let progress = Progress {
-            clock,
-            sent: g.sent,
-            round,
-            contention,
-        };
-        let moved = probing::moved(settings, progress, drops, count, listed, packet);
-        answer = moved.answer;
-        s.segment = probing::with_moved(g, moved);
-        // 'That packet leaves its queue.'
+        let heard = probing::heard_in(s.segment, drops);
+        answer = heard.answer;
+        let segment = heard.segment;
+        s.segment = segment;
         if answer.event == probing::SUCCESS {
+            let place = heard.place;
             let leaving = Leaving::Sent(answer.number);
             s.queues = waiting::without(s.queues, place, place + 1, leaving);
         }

@@ -1,5 +1,6 @@
 // Probing one slot: who transmits, what is heard, and what becomes of the window, the clock and the round.
 use crate::Answer;
+use crate::Heard;
 use crate::Moved;
 use crate::Progress;
 use rules::Packet;
@@ -22,9 +23,9 @@ ghost use denote.Ref.{now};
 ghost use lib.Dec.{leb, ltb};
 ghost use lib.ListN.{getD};
 ghost use Rattle.window.specs.Splitting.{inWindow};
-ghost use Rattle.word.specs.Word.{wordOf};
+ghost use Rattle.word.specs.Word.{wordOf, countOf};
 ghost use Rattle.rules.specs.SetUp.{disciplineOf};
-ghost use Rattle.bus.specs.Parts.{addressesOf, transmittersOf, answerAt, wentOn, splitOf, collidedOn, unheardOn, roundAfter, wonOn, movedBy, withMoved};
+ghost use Rattle.bus.specs.Parts.{addressesOf, transmittersOf, transmittersIn, answerAt, wentOn, splitOf, collidedOn, unheardOn, roundAfter, wonOn, movedBy, withMoved, soleOf, heardIn, heardOf};
 
 // The events as numbers.
 const IDLE: u32 = 0;
@@ -323,7 +324,7 @@ pub fn moved(
 }
 
 // What a probe has moved, stored; no contenders where the contention has ended.
-pub fn with_moved(g: Segment, m: Moved) -> Segment
+fn with_moved(g: Segment, m: Moved) -> Segment
     ensures { λ r. ⌜ r ≡ withMoved g m ⌝ }
 {
     let answer = m.answer;
@@ -348,4 +349,57 @@ pub fn with_moved(g: Segment, m: Moved) -> Segment
         next.admissions = admissions;
     }
     next
+}
+
+// 'Every step then probes one slot', of a segment in which a contention is under way, where so many late packets were dropped as it began. It
+// works on the segment alone: a function that took the state by value would hold one more copy of it.
+pub fn heard_in(g: Segment, drops: u64) -> Heard
+    requires { ⌜ g .clock .0 ≤ 1073741824 ⌝ }
+    requires { ⌜ soleOf g (heardIn g) .packet .length ≤ 4096 ⌝ }
+    requires { ⌜ (countOf (transmittersIn g) ≡ 1 → g .sent < 4294967295) ⌝ }
+    ensures { λ r. ⌜ r ≡ heardOf g drops ⌝ }
+{
+    let settings = g.settings;
+    let clock = g.clock;
+    let round = g.round;
+    let contention = g.contention;
+    let addresses = addresses_of(g.listed);
+    let transmitters = transmitters(
+        settings.discipline,
+        clock,
+        contention,
+        g.contenders,
+        &g.parameters,
+        &g.values,
+        &addresses,
+    );
+    let heard = word::count(transmitters);
+    let mut place = 0;
+    let mut listed = zeros::NOBODY;
+    let mut packet = zeros::NO_PACKET;
+    if heard == 1 {
+        place = word::lowest(transmitters);
+        listed = g.listed[place];
+        let admission = g.admissions[place];
+        packet = Packet {
+            number: g.numbers[place],
+            value: g.values[place],
+            length: g.lengths[place],
+            admission,
+        };
+    }
+    let progress = Progress {
+        clock,
+        sent: g.sent,
+        round,
+        contention,
+    };
+    let moved = moved(settings, progress, drops, heard, listed, packet);
+    let answer = moved.answer;
+    let segment = with_moved(g, moved);
+    Heard {
+        answer,
+        place,
+        segment,
+    }
 }

@@ -7,6 +7,7 @@ use crate::show;
 use crate::stretch;
 use crate::words;
 use bus::Answer;
+use bus::Begun;
 use rules::Verdict;
 use sorts::Address;
 use state::SetUp;
@@ -41,8 +42,47 @@ fn admission(s: State, address: u64, value: u64, length: u64) -> State {
     r.state
 }
 
-// 'S refusal drops slot phase start size event address number length wait ended'
-fn answer(a: Answer) {
+// 'offer i address number parameter'
+fn offer(i: usize, address: Address, number: u32, parameter: u64) {
+    let numbers = [i as u64, address.0 as u64, number as u64, parameter];
+    lines::write(b"offer", &numbers);
+}
+
+// 'in rising order, for each station that contends'
+fn offers(contenders: u64, addresses: [Address; 64], packets: [u32; 64], parameters: [u64; 64]) {
+    for i in 0..64 {
+        if word::test(contenders, i) {
+            offer(i, addresses[i], packets[i], parameters[i]);
+        }
+    }
+}
+
+// 'B refusal drops slot start size contenders', and the offers
+fn begun(b: Begun) {
+    let numbers = [
+        b.refusal as u64,
+        b.drops,
+        b.slot.0 as u64,
+        b.start,
+        b.size,
+        b.contenders,
+    ];
+    lines::write(b"B", &numbers);
+    let addresses = b.addresses;
+    let packets = b.numbers;
+    let parameters = b.parameters;
+    offers(b.contenders, addresses, packets, parameters);
+}
+
+// The state that a begin hands back, whose answer is written.
+fn begin(s: State) -> State {
+    let r = bus::begin(s);
+    begun(r.answer);
+    r.state
+}
+
+// The answer to a probe or a step: its letter, and 'refusal drops slot phase start size event address number length wait ended'
+fn answer(letter: &[u8], a: Answer) {
     let number = a.number as u64;
     let length = a.length as u64;
     let wait = a.wait as u64;
@@ -61,13 +101,20 @@ fn answer(a: Answer) {
         wait,
         ended,
     ];
-    lines::write(b"S", &numbers);
+    lines::write(letter, &numbers);
+}
+
+// The state that a probe hands back, whose answer is written.
+fn probe(s: State) -> State {
+    let r = bus::probe(s);
+    answer(b"O", r.answer);
+    r.state
 }
 
 // The state that a step hands back, whose answer is written.
 fn step(s: State) -> State {
     let r = bus::step(s);
-    answer(r.answer);
+    answer(b"S", r.answer);
     r.state
 }
 
@@ -96,6 +143,12 @@ pub fn obey(s: State, c: Command) -> State {
     }
     if letter == b'A' {
         return admission(s, n[0], n[1], n[2]);
+    }
+    if letter == b'B' {
+        return begin(s);
+    }
+    if letter == b'O' {
+        return probe(s);
     }
     if letter == b'S' {
         return step(s);

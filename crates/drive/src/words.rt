@@ -21,7 +21,7 @@ fn digit_of(b: u8) -> u64 {
 // Whether a byte is a command's letter.
 fn is_letter(b: u8) -> bool {
     match b {
-        b'U' | b'A' | b'S' | b'R' | b'T' | b'E' | b'P' => true,
+        b'U' | b'A' | b'B' | b'O' | b'S' | b'R' | b'T' | b'E' | b'P' => true,
         _ => false,
     }
 }

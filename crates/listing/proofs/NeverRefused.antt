@@ -16,14 +16,14 @@ use Rattle.rules.specs.Admission as Rules
 use Rattle.rules.specs.Admission.{admissionRefusal, withPacket, admit}
 use Rattle.rules.specs.Probe.{Contender, Answer, Open, contenders, transmits, transmitters, unheard, heard}
 use Rattle.rules.specs.Step.{opened, stepRefusal, step}
-use Rattle.rules.specs.Engine.{admission, one-step}
+use Rattle.rules.specs.Engine.{admission}
 use Rattle.rules.proofs.Laws.{all-cons, all-nil, keep-from}
 use Rattle.rules.proofs.Tests.{told}
 use Rattle.rules.proofs.Standing.{stands-exactly, accepted-set-up, step-is}
 use Rattle.rules.proofs.Refusals.{probe-number}
 use Rattle.rules.proofs.Contenders.{contender-from}
 use Rattle.rules.proofs.Keeps.{keepsStanding, opened-stands, opened-contention, opened-same}
-use Rattle.rules.proofs.Reach.{next-stands}
+use Rattle.rules.proofs.Reach.{next-stands, step-stands}
 use Rattle.window.specs.declared.Side.{Side}
 use Rattle.window.specs.declared.Side.the-variants as Is
 use Rattle.state.specs.declared.Arrival.{Arrival}
@@ -137,7 +137,7 @@ run-fine (suc steps) b arrivals h room =
     all-cons
     (step (x .bus) .0)
     (step-answer (x .bus) fine)
-    (run-fine steps (step (x .bus) .1) (x .arrivals) (next-stands (x .bus) (kept .0) one-step) (omega (arith, same, moved)))
+    (run-fine steps (step (x .bus) .1) (x .arrivals) (step-stands (x .bus) (kept .0)) (omega (arith, same, moved)))
 
 -- No step of an accepted scenario's run is refused: 65,535 steps of 4,096 slots do not come to the clock's end.
 pub never-refused :

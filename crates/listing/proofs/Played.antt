@@ -14,9 +14,9 @@ use Rattle.rules.specs.declared.Admitted.{Admitted}
 use Rattle.rules.specs.Admission.{admit}
 use Rattle.rules.specs.Probe as Probe
 use Rattle.rules.specs.Step.{step}
-use Rattle.rules.specs.Engine.{admission, one-step}
+use Rattle.rules.specs.Engine.{admission}
 use Rattle.rules.proofs.Laws.{clash}
-use Rattle.rules.proofs.Reach.{next-stands}
+use Rattle.rules.proofs.Reach.{next-stands, step-stands}
 use Rattle.state.specs.declared.State.{State}
 use Rattle.state.specs.declared.Arrival.{Arrival}
 use Rattle.state.specs.State.{form}
@@ -215,7 +215,7 @@ course-runs (suc calls) b h [] others false (suc steps) all =
     step-runs b h others steps (course calls (codedStep (form b) .1) [] false steps)
     (subst (None-due b) (sym (all refl)) tt)
     (after-step b h others steps (λ (s : State). course calls s [] false steps)
-    (course-runs calls (step b .1) (next-stands b h one-step) [] others false steps all))
+    (course-runs calls (step b .1) (step-stands b h) [] others false steps all))
 course-runs (suc calls) b h (a ∷ later) others more (suc steps) all =
     by-due
     (due (b .clock) a)
@@ -223,7 +223,7 @@ course-runs (suc calls) b h (a ∷ later) others more (suc steps) all =
     (after-admission b h a (later ++ others) (suc steps) (λ (s : State). course calls s later more (suc steps))
     (course-runs calls (admit b (asks a) .1) (next-stands b h (admission (asks a))) later others more (suc steps) all))
     (after-step b h (a ∷ (later ++ others)) steps (λ (s : State). course calls s (a ∷ later) more steps)
-    (course-runs calls (step b .1) (next-stands b h one-step) (a ∷ later) others more steps all))
+    (course-runs calls (step b .1) (step-stands b h) (a ∷ later) others more steps all))
   where
     by-due :
         (t : Bool) → due (b .clock) a ≡ t → {c d : Course} → Runs (admit b (asks a) .1) (later ++ others) (suc steps) c

@@ -1,6 +1,6 @@
--- A circuit with a waiting packet, step by step: what one step does to its turn. Assumes nothing.
-use Prim.Native.Nat.{ℕ, _+_, _≤_, _<_}
-use mathlib.Core.Path.{_≡_, refl, sym, ap, _∙_, subst}
+-- A circuit with a waiting packet, probe by probe: what one probe does to its turn. Assumes nothing.
+use Prim.Native.Nat.{ℕ, _+_, _*_, _≤_, _<_}
+use mathlib.Core.Path.{_≡_, refl, sym, ap, ap₂, _∙_, subst}
 use mathlib.Core.Logic.{_⊎_, inl, inr}
 use mathlib.Core.Bool.{Bool, true, false, not, _&&_, cond}
 use mathlib.Core.Option.{Option, none, some}
@@ -10,21 +10,21 @@ use lib.Dec.{ltb, eqb}
 use borrow.Author.Tests.{eqb-true, eqb-false, eq-eqb, ne-eqb, le-ltb, lt-ltb}
 use Rattle.window.specs.declared.Side.{Side}
 use Rattle.window.specs.declared.Side.the-variants.{Left, Right}
-use Rattle.window.specs.Splitting.{moveRight}
+use Rattle.window.specs.Splitting.{exponentOf, moveRight}
 use Rattle.rules.specs.Lists.{keep, Among, at-head, All, Some}
-use Rattle.rules.specs.Bus.{late, RTDG, RTVC, code, Packet, Station, Contention, Bus}
+use Rattle.rules.specs.Bus.{late, Discipline, RTDG, RTVC, code, Packet, Station, Contention, Bus}
 use Rattle.rules.specs.Standing.{Rising, Standing}
 use Rattle.rules.specs.Admission.{Arrival, named, newPacket, queued, joined, withPacket}
 use Rattle.rules.specs.Begin.{chosen, choice, sits-out, offers, inTime, entered, begin, parameterOf}
-use Rattle.rules.specs.Probe.{Answer, Contender, contenderOf, able, transmits, transmitters, goesOn, withdrawn, unwon, left, lastWinner, won, split, unheard, heard, success, idle}
-use Rattle.rules.specs.Step.{openedBy, opened, stepRefusal, step}
-use Rattle.rules.specs.Demands.{contendersAt, Ahead, Least, sends}
+use Rattle.rules.specs.Probe.{Answer, Contender, contenderOf, able, transmits, transmitters, goesOn, withdrawn, unwon, left, lastWinner, won, split, unheard, heard, probe, success, idle}
+use Rattle.rules.specs.Step.{openedBy, opened}
+use Rattle.rules.specs.Demands.{contendersAt, Ahead, Least, mostProbes, sends}
 use Rattle.rules.proofs.Laws.{true-and, among-none, all-cons, all-nil, keep-all, keep-from, count-some, map-into, map-map, map-same}
 use Rattle.rules.proofs.Offers.{ChosenOf, chosen-first}
 use Rattle.rules.proofs.Numbers.{same-apart}
 use Rattle.rules.proofs.Contenders.{contender-from, contender-into, joined-alike, same-address, same-capability}
 use Rattle.rules.proofs.Enabled.{Enabled, opened-enabled}
-use Rattle.rules.proofs.Standing.{SetUpStands, set-up-stands, step-is}
+use Rattle.rules.proofs.Standing.{SetUpStands, set-up-stands}
 use Rattle.rules.proofs.Keeps.{opened-stands, opened-contention, opened-same}
 use Rattle.rules.proofs.Least.{Cleared, least-wins}
 use Rattle.rules.proofs.Probes.{Crowded, probesLeft, contender-stands, probes-left, rival, unwon-empty}
@@ -94,7 +94,7 @@ module _ (circuits : List ℕ) (D : ℕ) (s : Station) (p : Packet) where
       longer false = w .oldest
 
   -- as a contention begins
-  waits-begin : (b : Bus) → Standing b → Waits circuits D s p b → Waits circuits D s p (begin b)
+  pub waits-begin : (b : Bus) → Standing b → Waits circuits D s p b → Waits circuits D s p (begin b)
   waits-begin b h w =
       record {
         by-circuit = w .by-circuit;
@@ -191,9 +191,9 @@ module _ (circuits : List ℕ) (D : ℕ) (s : Station) (p : Packet) where
       (λ t. cond t (keep (λ q. not (eqb (x .packet .number) (q .number))) (w .station .queue)) (w .station .queue))
       (ne-eqb (x .address) (w .station .address) (λ e. other (e ∙ w .address))))
 
-  -- ---- one step
+  -- ---- one probe
 
-  -- What an accepted step does to the circuit's turn: its contention goes on; the circuit sends p; another circuit wins, which does
+  -- What a probe does to the circuit's turn: its contention goes on; the circuit sends p; another circuit wins, which does
   -- not sit out and, unless s does, is below s; or nobody contends, s sits out, and the round ends. Where a circuit wins, two probes
   -- were left or another circuit is above it.
   pub data Turn (b : Bus) (out : Answer × Bus) : Type 0 where
@@ -207,7 +207,7 @@ module _ (circuits : List ℕ) (D : ℕ) (s : Station) (p : Packet) where
         → sits-out RTVC (b .last) x ≡ false → (sits-out RTVC (b .last) (s .capability) ≡ false → x < s .capability)
         → 2 ≤ probesLeft b + above circuits x → out .1 .contention ≡ none → Waits circuits D s p (out .1) → Turn b out
     nobodys :
-        out .0 .ended ≡ 1 → out .0 .event ≡ idle → b .contention ≡ none → sits-out RTVC (b .last) (s .capability) ≡ true
+        out .0 .ended ≡ 1 → out .0 .event ≡ idle → probesLeft b ≡ 2 * exponentOf D → sits-out RTVC (b .last) (s .capability) ≡ true
         → out .1 .last ≡ none → out .1 .contention ≡ none → Waits circuits D s p (out .1) → Turn b out
 
   -- a bus as reached, on which s waits
@@ -274,17 +274,20 @@ module _ (circuits : List ℕ) (D : ℕ) (s : Station) (p : Packet) where
         ap (λ (y : Contender). y .packet)
         (same-address (opened b .bus .stations) (apart .addresses-apart) i (contends-too (own-part x i e)) (e ∙ sym (wo .address)))
 
-    -- and an accepted step
-    module _ (cleared : Cleared b) (z : stepRefusal b ≡ 0) where
+    -- and its probe
+    module _ (cleared : Cleared b) where
       -- where the probe is silent and the window is a right one, nobody contends, so that s sits out
-      silent : step b .0 .ended ≡ 1 → step b .0 .event ≡ idle → (b .contention ≡ none) × (sits-out RTVC (b .last) (s .capability) ≡ true)
-      silent ended unheard-event = (k .0, go (sits-out RTVC (b .last) (s .capability)) refl)
+      silent :
+          probe (opened b) .0 .ended ≡ 1 → probe (opened b) .0 .event ≡ idle
+          → (probesLeft b ≡ 2 * exponentOf D) × (sits-out RTVC (b .last) (s .capability) ≡ true)
+      silent ended unheard-event =
+          (k .0 ∙ ap₂ (λ (d : Discipline) (n : ℕ). mostProbes d (exponentOf n) (exponentOf (b .A))) (w .by-circuit) (w .space), go (sits-out RTVC (b .last) (s .capability)) refl)
         where
           not-laxity : ¬ (b .discipline ≡ RTDG)
           not-laxity e = let y : _≡_ {A = ℕ} 2 1 = ap code (sym (w .by-circuit) ∙ e) in omega arith
 
-          k : (b .contention ≡ none) × (contendersAt b ≡ [])
-          k = unwon-empty b h crowded z not-laxity ended unheard-event
+          k : (probesLeft b ≡ mostProbes (b .discipline) (exponentOf (b .D)) (exponentOf (b .A))) × (contendersAt b ≡ [])
+          k = unwon-empty b h crowded not-laxity ended unheard-event
 
           go : (t : Bool) → sits-out RTVC (b .last) (s .capability) ≡ t → t ≡ true
           go true e = refl
@@ -294,15 +297,15 @@ module _ (circuits : List ℕ) (D : ℕ) (s : Station) (p : Packet) where
       module _
           (x : Contender)
           (i : Among x (contendersAt b))
-          (won-event : step b .0 .event ≡ success)
-          (named-x : step b .0 .address ≡ x .address)
+          (won-event : probe (opened b) .0 .event ≡ success)
+          (named-x : probe (opened b) .0 .address ≡ x .address)
         where
           -- is below every other contender
           winner-below : (y : Contender) → Among y (contendersAt b) → ¬ (y .capability ≡ x .capability) → x .capability < y .capability
           winner-below y j other = go (subst (λ v. Ahead v y) same (l .least y j in-time))
             where
-              l : Least b (step b .0)
-              l = least-wins b cleared z won-event
+              l : Least b (probe (opened b) .0)
+              l = least-wins b cleared won-event
 
               same : l .winner ≡ x
               same = same-address (opened b .bus .stations) (apart .addresses-apart) (l .contends) i (sym (l .address) ∙ named-x)
@@ -339,19 +342,19 @@ module _ (circuits : List ℕ) (D : ℕ) (s : Station) (p : Packet) where
                   let one = count-some (λ k. ltb (x .capability) k) circuits (a-circuit y j) (lt-ltb _ _ (winner-below y j other)) in
                   omega (arith, probes-left b h crowded)
 
-      pub turn : Turn b (step b)
-      turn = subst (Turn b) (sym (step-is b z)) (go (transmitters (opened b .bus) (opened b .contention)) refl)
+      pub turn : Turn b (probe (opened b))
+      turn = go (transmitters (opened b .bus) (opened b .contention)) refl
         where
           waits-here : (c : Contention) → Waits circuits D s p (goesOn (opened b .bus) c)
           waits-here c = waits-on (opened b .bus) (opened b .contention) c (opened-contention b) wo
 
-          event : {r : Answer × Bus} → step b ≡ r → step b .0 .event ≡ r .0 .event
+          event : {r : Answer × Bus} → probe (opened b) ≡ r → probe (opened b) .0 .event ≡ r .0 .event
           event f = ap (λ (m : Answer × Bus). m .0 .event) f
 
-          address : {r : Answer × Bus} → step b ≡ r → step b .0 .address ≡ r .0 .address
+          address : {r : Answer × Bus} → probe (opened b) ≡ r → probe (opened b) .0 .address ≡ r .0 .address
           address f = ap (λ (m : Answer × Bus). m .0 .address) f
 
-          by-side : (d : Side) → step b ≡ unheard (opened b) d → Turn b (unheard (opened b) d)
+          by-side : (d : Side) → probe (opened b) ≡ unheard (opened b) d → Turn b (unheard (opened b) d)
           by-side Left f =
               let c : Contention = record { window = moveRight (opened b .contention .window); tie = opened b .contention .tie } in
               goes-on refl (λ y. omega arith) (opened-last b) (waits-here c)
@@ -360,7 +363,7 @@ module _ (circuits : List ℕ) (D : ℕ) (s : Station) (p : Packet) where
               nobodys refl refl (k .0) (k .1) refl refl (waits-unwon (opened b .bus) wo)
 
           lone :
-              (x : Contender) → Among x (contendersAt b) → step b ≡ heard (opened b) (x ∷ []) → (t : Bool) → eqb (x .address) (s .address) ≡ t
+              (x : Contender) → Among x (contendersAt b) → probe (opened b) ≡ heard (opened b) (x ∷ []) → (t : Bool) → eqb (x .address) (s .address) ≡ t
               → Turn b (heard (opened b) (x ∷ []))
           lone x i f true e =
               let own = eqb-true (x .address) (s .address) e in
@@ -386,8 +389,8 @@ module _ (circuits : List ℕ) (D : ℕ) (s : Station) (p : Packet) where
               (waits-won (opened b .bus) x other wo)
 
           go : (xs : List Contender) → transmitters (opened b .bus) (opened b .contention) ≡ xs → Turn b (heard (opened b) xs)
-          go [] e = by-side (opened b .contention .window .side) (step-is b z ∙ ap (heard (opened b)) e)
+          go [] e = by-side (opened b .contention .window .side) (ap (heard (opened b)) e)
           go (x ∷ []) e =
               let i = keep-from (transmits (opened b .bus) (opened b .contention)) (contendersAt b) (subst (Among x) (sym e) (at-head refl)) in
-              lone x (i .0) (step-is b z ∙ ap (heard (opened b)) e) (eqb (x .address) (s .address)) refl
+              lone x (i .0) (ap (heard (opened b)) e) (eqb (x .address) (s .address)) refl
           go (x ∷ y ∷ more) e = goes-on refl (λ y. omega arith) (opened-last b) (waits-here (split (opened b .bus) (opened b .contention)))

@@ -9,7 +9,7 @@ use Rattle.window.specs.declared.Side.{Side}
 use Rattle.window.specs.declared.Side.the-variants.{Left, Right}
 use Rattle.window.specs.declared.Window.{Window}
 use Rattle.rules.specs.Bus.{Discipline, PRI, RTDG, RTVC, Packet, Offer, Station, Contention, Bus}
-use Rattle.rules.specs.Engine.{Engine, Call, admission, one-step, Reply, admitted, stepped, reply, replies}
+use Rattle.rules.specs.Engine.{Engine, stepOf, Call, admission, one-begin, one-probe, one-step, Reply, admitted, begun, probed, reply, replies}
 
 -- `bring x k` is `k x`, with x computed first
 abbrev pub Brings : Type 0 → Type 0
@@ -76,7 +76,9 @@ pair first second p k = first (p .0) λ x. second (p .1) λ y. k (x, y)
 abbrev pub computed : (E : Engine) → Brings (E .State) → E .State → List Call → List Reply
 computed E bring s [] = []
 computed E bring s (admission a ∷ calls) = bring s λ t. let said = E .admit t a in admitted (said .0) ∷ computed E bring (said .1) calls
-computed E bring s (one-step ∷ calls) = bring s λ t. let said = E .step t in stepped (said .0) ∷ computed E bring (said .1) calls
+computed E bring s (one-begin ∷ calls) = bring s λ t. let said = E .begin t in begun (said .0) ∷ computed E bring (said .1) calls
+computed E bring s (one-probe ∷ calls) = bring s λ t. let said = E .probe t in probed (said .0) ∷ computed E bring (said .1) calls
+computed E bring s (one-step ∷ calls) = bring s λ t. let said = stepOf E t in probed (said .0) ∷ computed E bring (said .1) calls
 
 -- ---- bringing changes nothing
 
@@ -131,4 +133,6 @@ pub computed-replies : (E : Engine) (bring : Brings (E .State)) → Same bring �
     → computed E bring s calls ≡ replies E s calls
 computed-replies E bring same s [] = refl
 computed-replies E bring same s (admission a ∷ calls) = same s _ ∙ ap (λ rest. reply E s (admission a) ∷ rest) (computed-replies E bring same _ calls)
+computed-replies E bring same s (one-begin ∷ calls) = same s _ ∙ ap (λ rest. reply E s one-begin ∷ rest) (computed-replies E bring same _ calls)
+computed-replies E bring same s (one-probe ∷ calls) = same s _ ∙ ap (λ rest. reply E s one-probe ∷ rest) (computed-replies E bring same _ calls)
 computed-replies E bring same s (one-step ∷ calls) = same s _ ∙ ap (λ rest. reply E s one-step ∷ rest) (computed-replies E bring same _ calls)

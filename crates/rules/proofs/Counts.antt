@@ -14,13 +14,13 @@ use Rattle.rules.specs.Lists.{total}
 use Rattle.rules.specs.Bus.{Bus, Contention, nothing, waiting}
 use Rattle.rules.specs.SetUp.{Request, setUp, setUpVerdict, freshBus}
 use Rattle.rules.specs.Standing.{Standing}
-use Rattle.rules.specs.Admission.{Admitted}
-use Rattle.rules.specs.Probe.{Answer, Contender, Open, transmitters, unheard, heard, probe}
-use Rattle.rules.specs.Step.{openedBy, opened}
-use Rattle.rules.specs.Engine.{Engine, machine, Call, Reply, admitted, stepped, reply, next, after, replies, reach}
+use Rattle.rules.specs.Begin.{begin}
+use Rattle.rules.specs.Probe.{Answer, Contender, refusedAnswer, Open, transmitters, unheard, heard, probe}
+use Rattle.rules.specs.Step.{refusedBegun, begunAnswer, openedBy, opened}
+use Rattle.rules.specs.Engine.{Engine, machine, Call, Reply, admitted, begun, probed, reply, next, after, replies, reach}
 use Rattle.rules.specs.Demands.{Demand2, slotsOf, adds-admitted, adds-sent, adds-lost, adds-slots, Counted, CountsAreTrue}
 use Rattle.rules.proofs.Keeps.{opened-same}
-use Rattle.rules.proofs.Reach.{Does, refuses, admits, holds, probes-one, does, standing-reached, replies-agree}
+use Rattle.rules.proofs.Reach.{outcome, standing-reached, replies-agree}
 
 -- from b to b′ the counts and the clock rise by what the replies say
 pub record Rise (b b′ : Bus) (rs : List Reply) : Type 0 where
@@ -32,7 +32,7 @@ pub record Rise (b b′ : Bus) (rs : List Reply) : Type 0 where
 -- a probe, whoever transmits
 record Told (o : Open) (out : Answer × Bus) : Type 0 where
   of-admitted : out .1 .admitted ≡ o .bus .admitted
-  of-sent : out .1 .sent ≡ o .bus .sent + adds-sent (stepped (out .0))
+  of-sent : out .1 .sent ≡ o .bus .sent + adds-sent (probed (out .0))
   of-lost : out .1 .lost ≡ o .bus .lost
   of-drops : out .0 .drops ≡ o .drops
   of-clock : out .1 .clock ≡ o .bus .clock + slotsOf (out .0)
@@ -51,7 +51,7 @@ opened-lost : (b : Bus) (c : Option Contention) → openedBy b c .bus .lost ≡ 
 opened-lost b none = refl
 opened-lost b (some c) = omega arith
 
-pub step-rise : (b : Bus) → Rise b (probe (opened b) .1) (stepped (probe (opened b) .0) ∷ [])
+pub step-rise : (b : Bus) → Rise b (probe (opened b) .1) (probed (probe (opened b) .0) ∷ [])
 step-rise b =
     let h = told (opened b) (transmitters (opened b .bus) (opened b .contention)) in
     let admitted = opened-same (λ (m : Bus). m .admitted) b refl in
@@ -60,21 +60,26 @@ step-rise b =
     let clock = opened-same (λ (m : Bus). m .clock) b refl in
     record { in-admitted = omega arith; in-sent = omega arith; in-lost = omega arith; in-clock = omega arith }
 
+-- a begin counts what it drops, and takes no slot
+begin-rise : (b : Bus) → Rise b (begin b) (begun (begunAnswer b) ∷ [])
+begin-rise b = record { in-admitted = omega arith; in-sent = omega arith; in-lost = omega arith; in-clock = omega arith }
+
+-- a reply that adds nothing
+nothing-rises : (b : Bus) (r : Reply) → adds-admitted r ≡ 0 → adds-sent r ≡ 0 → adds-lost r ≡ 0 → adds-slots r ≡ 0 → Rise b b (r ∷ [])
+nothing-rises b r a s l c = record { in-admitted = omega arith; in-sent = omega arith; in-lost = omega arith; in-clock = omega arith }
+
 -- any call, refused or not
 pub call-rise : (b : Bus) (c : Call) → Rise b (next machine b c) (reply machine b c ∷ [])
-call-rise b c = go c (does b c)
-  where
-    go : (k : Call) → Does b k → Rise b (next machine b k) (reply machine b k ∷ [])
-    go k (refuses a n z e) =
-        subst (λ (o : Admitted × Bus). Rise b (o .1) (admitted (o .0) ∷ [])) (sym e)
-        (record { in-admitted = rw (ne-eqb n 0 z) (omega arith); in-sent = omega arith; in-lost = omega arith; in-clock = omega arith })
-    go k (admits a z e) =
-        subst (λ (o : Admitted × Bus). Rise b (o .1) (admitted (o .0) ∷ [])) (sym e)
-        (record { in-admitted = omega arith; in-sent = omega arith; in-lost = omega arith; in-clock = omega arith })
-    go k (holds n z e) =
-        subst (λ (o : Answer × Bus). Rise b (o .1) (stepped (o .0) ∷ [])) (sym e)
-        (record { in-admitted = omega arith; in-sent = omega arith; in-lost = omega arith; in-clock = rw (ne-eqb n 0 z) (omega arith) })
-    go k (probes-one z a e) = subst (λ (o : Answer × Bus). Rise b (o .1) (stepped (o .0) ∷ [])) (sym e) (step-rise b)
+call-rise b =
+    outcome b (λ r b′. Rise b b′ (r ∷ []))
+    (record {
+      refuses = λ n z. nothing-rises b (admitted (record { refusal = n; number = 0 })) (rw (ne-eqb n 0 z)) refl refl refl;
+      admits = λ a z. record { in-admitted = omega arith; in-sent = omega arith; in-lost = omega arith; in-clock = omega arith };
+      refuses-begin = λ n z. nothing-rises b (begun (refusedBegun n)) refl refl refl refl;
+      begins = λ z. begin-rise b;
+      refuses-probe = λ n z. nothing-rises b (probed (refusedAnswer n)) refl refl refl (rw (ne-eqb n 0 z));
+      probes-one = λ z. step-rise b;
+    })
 
 -- many calls
 calls-rise : (b : Bus) (calls : List Call) → Rise b (after machine b calls) (replies machine b calls)

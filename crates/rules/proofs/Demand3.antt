@@ -13,23 +13,24 @@ use lib.Dec.{eqb}
 use lib.ListN.{length, length-map}
 use borrow.Author.Tests.{ne-eqb}
 use Rattle.window.specs.Splitting.{exponentOf}
-use Rattle.rules.specs.Lists.{bit, some-of, Among, at-head, in-tail, All}
+use Rattle.rules.specs.Lists.{bit, some-of, Among, at-head}
 use Rattle.rules.specs.Bus.{Discipline, RTVC, code, Packet, Station, Bus, nothing}
 use Rattle.rules.specs.SetUp.{Request, setUp}
 use Rattle.rules.specs.Standing.{Standing}
-use Rattle.rules.specs.Admission.{Arrival, Admitted, admit, withPacket}
-use Rattle.rules.specs.Begin.{sits-out}
-use Rattle.rules.specs.Probe.{Answer, success, idle}
-use Rattle.rules.specs.Step.{stepRefusal, step}
-use Rattle.rules.specs.Engine.{Engine, machine, Call, admission, one-step, next, reach, answers}
+use Rattle.rules.specs.Admission.{withPacket}
+use Rattle.rules.specs.Begin.{sits-out, begin, opening}
+use Rattle.rules.specs.Probe.{Answer, refusedAnswer, success, idle, probe}
+use Rattle.rules.specs.Step.{opened}
+use Rattle.rules.specs.Engine.{Engine, machine, Call, next, reach, probeIn, answers}
 use Rattle.rules.specs.Demands.{Demand2, mostProbes, slotsOf, contentionsIn, idleContentionsIn, slotsIn, longestIn, sends, upTo, CircuitWaits, Served, Serves, Demand3, ServedSooner, ServesSooner, SoonerThanDemand3}
 use Rattle.rules.proofs.Laws.{clash, or-false, map-into}
-use Rattle.rules.proofs.Reach.{Does, refuses, admits, holds, probes-one, does, standing-reached, after-more, answers-agree}
+use Rattle.rules.proofs.Standing.{begin-accepted}
+use Rattle.rules.proofs.Reach.{outcome, standing-reached, after-more, answers-agree}
 use Rattle.rules.proofs.Least.{Cleared, cleared-reached}
-use Rattle.rules.proofs.Probes.{Crowded, crowded-reached, probesLeft, probes-at-begin, halved-once, probes-left, probes-fall}
+use Rattle.rules.proofs.Probes.{Crowded, crowded-reached, probesLeft, probes-at-begin, left-at-opening, halved-once, probes-left, probes-fall}
 use Rattle.rules.proofs.Enabled.{Enabled, enabled-reached}
 use Rattle.rules.proofs.Round.{winsLeft, idlesLeft, spareLeft, Most, wins-left, wins-most, own-wins, other-wins, idle-ends, spare-paid}
-use Rattle.rules.proofs.Circuit.{Waits, waits-admission, Turn, goes-on, its-own, anothers, nobodys, takes-part, turn}
+use Rattle.rules.proofs.Circuit.{Waits, waits-admission, waits-begin, Turn, goes-on, its-own, anothers, nobodys, takes-part, turn}
 
 -- ---- answers, one after the other
 
@@ -47,7 +48,7 @@ takes-more : {w′ w : ℕ} (X : ℕ) → w′ ≤ w → 1 ≤ X → w′ * X + 
 takes-more {w′} {w} (suc X) h l = omega (arith, mul-le-mul-right X h, mul-suc w X, mul-suc w′ X)
 takes-more zero h l = absurd (omega arith)
 
--- a step takes at most a packet's length on success, and else at most one slot
+-- a probe takes at most a packet's length on success, and else at most one slot
 slots-most : (a : Answer) → slotsOf a ≤ cond (eqb (a .event) success) (a .length) 1
 slots-most a = go (eqb (a .refusal) 0)
   where
@@ -85,6 +86,19 @@ module _ {L mine : ℕ} {says : Answer → Bool} where
             let d = hs P (omega arith) in
             let t = slots-most a in
             omega arith;
+      }
+
+  -- a refused call: it takes no slot and ends no contention
+  within-refused :
+      {w i spare left : ℕ} (n : ℕ) (said : List Answer) → ¬ (n ≡ 0) → says (refusedAnswer n) ≡ false → Within L mine says w i spare left said
+      → Within L mine says w i spare left (refusedAnswer n ∷ said)
+  within-refused n said z e k =
+      record {
+        contentions = rw e (omega (arith, k .contentions));
+        idle-ones = rw e (omega (arith, k .idle-ones));
+        slots = rw (e, ne-eqb n 0 z) (λ P m. omega (arith, k .slots P (omega arith)));
+        open-contentions = rw e (λ f. omega (arith, k .open-contentions f));
+        open-slots = rw (e, ne-eqb n 0 z) (λ P a m f. omega (arith, k .open-slots P a (omega arith) f));
       }
 
   -- a probe after which the contention goes on
@@ -151,6 +165,10 @@ reached-crowded h = subst Crowded (h .2) (crowded-reached (h .0) (h .1))
 reached-enabled : {b : Bus} → Reached b → Enabled b
 reached-enabled h = subst Enabled (h .2) (enabled-reached (h .0) (h .1))
 
+-- a contention that has just begun has as many probes left as one that is about to begin
+left-begun : (b : Bus) → b .contention ≡ none → probesLeft (begin b) ≡ probesLeft b
+left-begun b e = left-at-opening b (opening b) refl ∙ sym (probes-at-begin b e)
+
 -- the probes left between contentions are 2L
 left-at-begin : (b : Bus) (D : ℕ) → b .discipline ≡ RTVC → b .D ≡ D → b .contention ≡ none → probesLeft b ≡ 2 * exponentOf D
 left-at-begin b D d e c = probes-at-begin b c ∙ ap (λ (m : Discipline). mostProbes m (exponentOf (b .D)) (exponentOf (b .A))) d ∙ ap (λ n. 2 * exponentOf n) e
@@ -173,79 +191,64 @@ module _ (circuits : List ℕ) (D : ℕ) (s : Station) (p : Packet) (own : Among
   unsent-says : (a : Answer) → ¬ (a .event ≡ success) → sends s p a ≡ false
   unsent-says a h = rw (ne-eqb (a .event) success h)
 
-  -- after a step that ended a contention all 2L probes are left
+  -- after a probe that ended a contention all 2L probes are left
   next-begins :
-      (b : Bus) (said : List Answer) {last : Option ℕ} → step b .1 .last ≡ last → step b .1 .contention ≡ none → Waits circuits D s p (step b .1)
-      → Keeping (step b .1 .last) (probesLeft (step b .1)) said → Keeping last (2 * exponentOf D) said
+      (b : Bus) (said : List Answer) {last : Option ℕ} → b .last ≡ last → b .contention ≡ none → Waits circuits D s p b
+      → Keeping (b .last) (probesLeft b) said → Keeping last (2 * exponentOf D) said
   next-begins b said e c w k =
-      subst (λ l. Keeping l (2 * exponentOf D) said) e
-      (subst (λ n. Keeping (step b .1 .last) n said) (left-at-begin (step b .1) D (w .by-circuit) (w .space) c) k)
+      subst (λ l. Keeping l (2 * exponentOf D) said) e (subst (λ n. Keeping (b .last) n said) (left-at-begin b D (w .by-circuit) (w .space) c) k)
 
-  -- one step, and the answers after it
-  keeping-step :
-      (b : Bus) (said : List Answer) → Standing b → Crowded b → stepRefusal b ≡ 0 → Waits circuits D s p b → Turn circuits D s p b (step b)
-      → (Waits circuits D s p (step b .1) → Keeping (step b .1 .last) (probesLeft (step b .1)) said) → Keeping (b .last) (probesLeft b) (step b .0 ∷ said)
-  keeping-step b said h crowded z w (goes-on ended event last w′) more =
-      within-on (step b .0) said (unsent-says (step b .0) event) ended event (probes-fall b h z ended)
-      (subst (λ l. Keeping l (probesLeft (step b .1)) said) last (more w′))
-  keeping-step b said h crowded z w (its-own ended event it out two) more =
-      within-said (step b .0) said it ended event (wins-left circuits (s .capability) own (b .last))
+  -- one probe, and the answers after it
+  keeping-probe :
+      (b : Bus) (said : List Answer) → Standing b → Crowded b → Turn circuits D s p b (probe (opened b))
+      → (Waits circuits D s p (probe (opened b) .1) → Keeping (probe (opened b) .1 .last) (probesLeft (probe (opened b) .1)) said)
+      → Keeping (b .last) (probesLeft b) (probe (opened b) .0 ∷ said)
+  keeping-probe b said h crowded (goes-on ended event last w′) more =
+      within-on (probe (opened b) .0) said (unsent-says (probe (opened b) .0) event) ended event (probes-fall b h ended)
+      (subst (λ l. Keeping l (probesLeft (probe (opened b) .1)) said) last (more w′))
+  keeping-probe b said h crowded (its-own ended event it out two) more =
+      within-said (probe (opened b) .0) said it ended event (wins-left circuits (s .capability) own (b .last))
       (own-wins circuits (s .capability) own (b .last) (probesLeft b) out (probes-left b h crowded) two)
-  keeping-step b said h crowded z w (anothers ended event it last i out below two c w′) more =
+  keeping-probe b said h crowded (anothers ended event it last i out below two c w′) more =
       let fewer = other-wins circuits (s .capability) own (b .last) i out below in
-      within-other (step b .0) said it ended event (fewer .0) (fewer .1) (fewer .2 (probesLeft b) (probes-left b h crowded) two)
-      (next-begins b said last c w′ (more w′))
-  keeping-step b said h crowded z w (nobodys ended event c out last c′ w′) more =
+      within-other (probe (opened b) .0) said it ended event (fewer .0) (fewer .1) (fewer .2 (probesLeft b) (probes-left b h crowded) two)
+      (next-begins (probe (opened b) .1) said last c w′ (more w′))
+  keeping-probe b said h crowded (nobodys ended event all out last c′ w′) more =
       let fewer = idle-ends circuits (s .capability) own (b .last) out in
-      let unsent = unsent-says (step b .0) (λ e. let y : _≡_ {A = ℕ} 0 2 = sym event ∙ e in omega arith) in
-      subst (λ n. Keeping (b .last) n (step b .0 ∷ said)) (sym (left-at-begin b D (w .by-circuit) (w .space) c))
-      (within-idle (step b .0) said halved unsent ended event (fewer .0) (fewer .1) (fewer .2) (next-begins b said last c′ w′ (more w′)))
+      let unsent = unsent-says (probe (opened b) .0) (λ e. let y : _≡_ {A = ℕ} 0 2 = sym event ∙ e in omega arith) in
+      subst (λ n. Keeping (b .last) n (probe (opened b) .0 ∷ said)) (sym all)
+      (within-idle (probe (opened b) .0) said halved unsent ended event (fewer .0) (fewer .1) (fewer .2)
+      (next-begins (probe (opened b) .1) said last c′ w′ (more w′)))
 
   -- from any reached state on which s waits, over these calls
   abbrev Kept : List Call → Type 0
-  Kept later =
-      (b : Bus) → Reached b → Waits circuits D s p b → All (λ a. a .refusal ≡ 0) (answers machine b later)
-      → Keeping (b .last) (probesLeft b) (answers machine b later)
+  Kept later = (b : Bus) → Reached b → Waits circuits D s p b → Keeping (b .last) (probesLeft b) (answers machine b later)
 
-  -- what is left to show of the calls after a call that led to b′
-  abbrev Then : Bus → List Call → Bus → Type 0
-  Then b later b′ = All (λ x. x .refusal ≡ 0) (answers machine b′ later) → Keeping (b .last) (probesLeft b) (answers machine b′ later)
-
-  kept-admission : (a : Arrival) (later : List Call) → Kept later → Kept (admission a ∷ later)
-  kept-admission a later kept b r w = go a (does b (admission a)) (reached-next r (admission a))
-    where
-      go : (a : Arrival) → Does b (admission a) → Reached (admit b a .1) → Then b later (admit b a .1)
-      go a (refuses a′ n z e) r′ = subst (λ (o : Admitted × Bus). Then b later (o .1)) (sym e) (kept b r w)
-      go a (admits a′ z e) r′ =
-          subst
-          (λ (o : Admitted × Bus). Then b later (o .1))
-          (sym e)
-          (kept (withPacket b a′) (subst (λ (o : Admitted × Bus). Reached (o .1)) e r′) (waits-admission circuits D s p b a′ w))
-
-  kept-step : (later : List Call) → Kept later → Kept (one-step ∷ later)
-  kept-step later kept b r w none-refused = go one-step (does b one-step) refl
+  kept-call : (c : Call) (later : List Call) → Kept later → Kept (c ∷ later)
+  kept-call c later kept b r w =
+      outcome b (λ rep b′. Reached b′ → Keeping (b .last) (probesLeft b) (probeIn rep (answers machine b′ later)))
+      (record {
+        refuses = λ n z r′. kept b r w;
+        admits = λ a z r′. kept (withPacket b a) r′ (waits-admission circuits D s p b a w);
+        refuses-begin = λ n z r′. kept b r w;
+        begins = λ z r′.
+            subst (λ n. Keeping (b .last) n (answers machine (begin b) later)) (left-begun b (begin-accepted b z .1))
+            (kept (begin b) r′ (waits-begin circuits D s p b h w));
+        refuses-probe = λ n z r′. within-refused n (answers machine b later) z refl (kept b r w);
+        probes-one = λ z r′.
+            keeping-probe b (answers machine (probe (opened b) .1) later) h (reached-crowded r)
+            (turn circuits D s p b h (reached-crowded r) (reached-enabled r) w (subst Cleared (r .2) (cleared-reached (r .0) (r .1))))
+            (kept (probe (opened b) .1) r′);
+      })
+      c
+      (reached-next r c)
     where
       h : Standing b
       h = reached-stands r (w .by-circuit)
 
-      go : (c : Call) → Does b c → c ≡ one-step → Keeping (b .last) (probesLeft b) (step b .0 ∷ answers machine (step b .1) later)
-      go c (refuses a n z e) f = let y : _≡_ {A = ℕ} 0 1 = cc in absurd (omega arith)
-      go c (admits a z e) f = let y : _≡_ {A = ℕ} 0 1 = cc in absurd (omega arith)
-      go c (holds n z e) f = absurd (z (sym (ap (λ (o : Answer × Bus). o .0 .refusal) e) ∙ none-refused (step b .0) (at-head refl)))
-      go c (probes-one z a e) f =
-          keeping-step
-          b
-          (answers machine (step b .1) later)
-          h
-          (reached-crowded r)
-          z
-          w
-          (turn circuits D s p b h (reached-crowded r) (reached-enabled r) w (subst Cleared (r .2) (cleared-reached (r .0) (r .1))) z)
-          (λ w′. kept (step b .1) (reached-next r one-step) w′ (λ x i. none-refused x (in-tail i)))
-
   -- no call yet
   kept-none : Kept []
-  kept-none b r w none-refused =
+  kept-none b r w =
       let h = reached-stands r (w .by-circuit) in
       let one = probes-left b h (reached-crowded r) in
       let two = takes-part circuits D s p b h (reached-crowded r) (reached-enabled r) w in
@@ -253,13 +256,12 @@ module _ (circuits : List ℕ) (D : ℕ) (s : Station) (p : Packet) (own : Among
 
   kept-all : (later : List Call) → Kept later
   kept-all [] = kept-none
-  kept-all (admission a ∷ later) = kept-admission a later (kept-all later)
-  kept-all (one-step ∷ later) = kept-step later (kept-all later)
+  kept-all (c ∷ later) = kept-call c later (kept-all later)
 
 -- ---- the demand
 
 -- a circuit with a packet, as a contention begins
-waits-first : {said : List Answer} (b : Bus) (s : Station) (p : Packet) → CircuitWaits b s p said → Waits (map (λ t. t .capability) (b .stations)) (b .D) s p b
+waits-first : (b : Bus) (s : Station) (p : Packet) → CircuitWaits b s p → Waits (map (λ t. t .capability) (b .stations)) (b .D) s p b
 waits-first b s p h =
     record {
       by-circuit = h .by-circuit;
@@ -313,7 +315,7 @@ bit-most true = omega arith
 bit-most false = omega arith
 
 -- a circuit that waits on a reached bus
-module _ (b : Bus) (r : Reached b) (later : List Call) (s : Station) (p : Packet) (h : CircuitWaits b s p (answers machine b later)) where
+module _ (b : Bus) (r : Reached b) (later : List Call) (s : Station) (p : Packet) (h : CircuitWaits b s p) where
   abbrev circuits : List ℕ
   circuits = map (λ t. t .capability) (b .stations)
 
@@ -329,7 +331,7 @@ module _ (b : Bus) (r : Reached b) (later : List Call) (s : Station) (p : Packet
   kept : Keeping circuits (b .D) s p own some-slots (halved-once b stands-here) (b .last) (2 * exponentOf (b .D)) (answers machine b later)
   kept =
       rw (left-at-begin b (b .D) (h .by-circuit) refl (h .begins)) at
-      (kept-all circuits (b .D) s p own some-slots (halved-once b stands-here) later b r (waits-first b s p h) (h .none-refused))
+      (kept-all circuits (b .D) s p own some-slots (halved-once b stands-here) later b r (waits-first b s p h))
 
   most : Most circuits (s .capability) (b .last) (length (b .stations))
   most = omega (arith, wins-most circuits (s .capability) own (b .last), length-map (b .stations) (λ t. t .capability))

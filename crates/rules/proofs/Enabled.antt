@@ -56,9 +56,10 @@ heard-enabled o (x ∷ y ∷ more) h = h
 
 pub enabled-reached : (r : Request) (calls : List Call) → Enabled (reach machine r calls)
 enabled-reached =
-    reach-holds
-    Enabled
-    (λ x i. absurd (among-none i))
-    (λ r z. no-contender (freshBus r .discipline) none (freshBus r .stations) (none-contends freshStation (take (r .N) (r .row)) (λ s. refl)))
-    (λ b a h p z x i. p x (subst (Among x) (contenders-admitted b a) i))
-    (λ b h p z. heard-enabled (opened b) (transmitters (opened b .bus) (opened b .contention)) (opened-enabled b (b .contention) p))
+    reach-holds Enabled (λ x i. absurd (among-none i))
+    (record {
+      at-set-up = λ r z. no-contender (freshBus r .discipline) none (freshBus r .stations) (none-contends freshStation (take (r .N) (r .row)) (λ s. refl));
+      at-admission = λ b a h p z x i. p x (subst (Among x) (contenders-admitted b a) i);
+      at-begin = λ b h p e. opened-enabled b none p;
+      at-probe = λ b h p z. heard-enabled (opened b) (transmitters (opened b .bus) (opened b .contention)) (opened-enabled b (b .contention) p);
+    })

@@ -24,11 +24,11 @@ use Rattle.rules.specs.Standing.{asked, askedFor, ValueFits, PacketStand
 use Rattle.rules.specs.Admission.{Arrival, named, newPacket, queued, joined, withPacket}
 use Rattle.rules.specs.Begin.{choice, chosen, goes-before, parameterOf, sits-out, offers, inTime, entered, dropsOf, opening, begin}
 use Rattle.rules.specs.Probe.{Contender, contenders, lies-in, transmits, transmitters, Open, goesOn, withdrawn, left, lastWinner, won, tiedAt, split, unheard, heard, probe}
-use Rattle.rules.specs.Step.{openedBy, opened}
+use Rattle.rules.specs.Step.{openedBy, opened, stepRefusal, step}
 use Rattle.rules.specs.Demands.{KeepsStanding}
 use Rattle.rules.proofs.Laws.{and-true, or-false, among-left, among-append, all-cons, all-nil, keep-from, all-map, map-into, map-same, map-map, total-map, total-parts, count-some, kept-failed, total-none, total-count}
 use Rattle.rules.proofs.Numbers.{one-apart, same-apart, held, times, times-once, none-twice-kept, rising-suc, rising-append, rising-none, Fewer, fewer-all, fewer-keep, joined-waiting, joined-none-twice}
-use Rattle.rules.proofs.Standing.{SetUpStands, set-up-stands, accepted-set-up, AdmissionAccepted, accepted-admission, admission-accepted, admit-is, accepted-step, step-accepted, step-is}
+use Rattle.rules.proofs.Standing.{SetUpStands, set-up-stands, accepted-set-up, AdmissionAccepted, accepted-admission, admission-accepted, admit-is, accepted-begin, begin-accepted, begin-is, accepted-probe, probe-accepted, probe-step, accepted-step, step-accepted, step-is}
 use Rattle.rules.proofs.Contenders.{contender-from}
 
 -- ---- what stands as before, where what it speaks of is what it was
@@ -477,13 +477,18 @@ fresh-stands r e =
       window = tt;
     }
 
+-- an accepted step
+pub stepped-stands : (b : Bus) → stepRefusal b ≡ 0 → Standing (step b .1)
+stepped-stands b ok =
+    let accepted = step-accepted b ok in
+    rw (step-is b ok) (probe-stands (opened b) (opened-stands b (accepted .standing)) (opened-contention b) (rw (opened-same (λ (m : Bus). m .clock) b refl) (accepted .in-time)))
+
 pub keepsStanding : KeepsStanding
 keepsStanding =
     record {
       set-up = λ r e. rw (accepted-set-up r e) (fresh-stands r e);
       admission = λ b a e. let ok = accepted-admission b a e in rw (admit-is b a ok) (admitted-stands b a (admission-accepted b a ok));
-      step = λ b e.
-          let ok = accepted-step b e in
-          let accepted = step-accepted b ok in
-          rw (step-is b ok) (probe-stands (opened b) (opened-stands b (accepted .standing)) (opened-contention b) (rw (opened-same (λ (m : Bus). m .clock) b refl) (accepted .in-time)));
+      begin = λ b e. let ok = accepted-begin b e in rw (begin-is b ok) (begin-stands b (begin-accepted b ok .0));
+      probe = λ b e. let ok = probe-accepted b (accepted-probe b e) in rw (probe-step b (ok .0)) (stepped-stands b (ok .1));
+      step = λ b e. stepped-stands b (accepted-step b e);
     }

@@ -20,13 +20,13 @@ use Rattle.rules.specs.Bus.{Discipline, PRI, RTDG, RTVC, Contention, Bus
 use Rattle.rules.specs.SetUp.{Request}
 use Rattle.rules.specs.Standing.{Standing}
 use Rattle.rules.specs.Admission.{Arrival, withPacket}
-use Rattle.rules.specs.Probe.{Contender, Open, able, contenders, lies-in, transmits, transmitters, tiedAt, split, Answer, idle, success, refusedAnswer, sentBy, unheard, heard, probe}
-use Rattle.rules.specs.Step.{openedBy, opened, stepRefusal, step}
+use Rattle.rules.specs.Probe.{Contender, Open, able, contenders, lies-in, transmits, transmitters, tiedAt, split, idle, success, sentBy, unheard, heard, probe}
+use Rattle.rules.specs.Step.{openedBy, opened}
 use Rattle.rules.specs.Engine.{Engine, machine, Call, reach}
-use Rattle.rules.specs.Demands.{Demand2, Ahead, contendersAt, StillAble, transmittersAt, Least, WinnerIsLeast, Heard, NoFalseWin, EventsAreTrue, AddressesApart}
+use Rattle.rules.specs.Demands.{Demand2, Ahead, contendersAt, StillAble, transmittersAt, Least, WinnerIsLeast, Heard, TrueEvents, NoFalseWin, EventsAreTrue, AddressesApart}
 use Rattle.rules.proofs.Laws.{clash, and-true, and-false, among-cases, among-none, keep-from, keep-into}
-use Rattle.rules.proofs.Standing.{set-up-stands, accepted-step, step-is}
-use Rattle.rules.proofs.Reach.{reach-holds, standing-reached, step-agrees}
+use Rattle.rules.proofs.Standing.{set-up-stands}
+use Rattle.rules.proofs.Reach.{answer-cases, reach-holds, standing-reached, answers-agree}
 use Rattle.rules.proofs.Contenders.{contenders-admitted}
 
 -- no contender below the window: in the tie phase none of a smaller parameter, nor of the tied one and a smaller address
@@ -141,8 +141,13 @@ admission-clears b a (some c) k = λ x i. k x (subst (Among x) (contenders-admit
 
 pub cleared-reached : (r : Request) (calls : List Call) → Cleared (reach machine r calls)
 cleared-reached =
-    reach-holds Cleared tt (λ r e. tt) (λ b a h k e. admission-clears b a (b .contention) k)
-    (λ b h k e. probe-clears (opened b) (opened-clears b (b .contention) k))
+    reach-holds Cleared tt
+    (record {
+      at-set-up = λ r e. tt;
+      at-admission = λ b a h k e. admission-clears b a (b .contention) k;
+      at-begin = λ b h k e. opened-clears b none tt;
+      at-probe = λ b h k e. probe-clears (opened b) (opened-clears b (b .contention) k);
+    })
 
 -- ---- the theorems
 
@@ -190,38 +195,27 @@ lone-least b x k sent =
         elim (among-cases (subst (Among y) sent i)) [ inl e ↦ subst (Ahead x) (sym e) (inr (omega arith)) | inr j ↦ absurd (among-none j) ]
     behind y (inr h) = ahead (c .window) (c .tie) x y (lies .0) h
 
--- so the winner of the machine's step is least,
-pub least-wins : (b : Bus) → Cleared b → stepRefusal b ≡ 0 → step b .0 .event ≡ success → Least b (step b .0)
-least-wins b k e won =
-    subst (λ (r : Answer × Bus). Least b (r .0)) (sym (step-is b e))
-    (go (transmittersAt b) refl (sym (ap (λ (r : Answer × Bus). r .0 .event) (step-is b e)) ∙ won))
+-- so the winner of the machine's probe is least,
+pub least-wins : (b : Bus) → Cleared b → probe (opened b) .0 .event ≡ success → Least b (probe (opened b) .0)
+least-wins b k = go (transmittersAt b) refl
   where
     go : (ts : List Contender) → transmittersAt b ≡ ts → heard (opened b) ts .0 .event ≡ success → Least b (heard (opened b) ts .0)
     go [] sent s = let i = silent-idle (opened b) (opened b .contention .window .side) in absurd (omega arith)
     go (x ∷ []) sent s = lone-least b x k sent
     go (x ∷ y ∷ more) sent s = absurd (omega arith)
 
--- a step in which a packet was sent was accepted
-pub sent-accepted : (b : Bus) → step b .0 .event ≡ success → stepRefusal b ≡ 0
-sent-accepted b = go (stepRefusal b) (eqb (stepRefusal b) 0) refl
-  where
-    go : (n : ℕ) (t : Bool) → eqb n 0 ≡ t → cond t (probe (opened b)) (refusedAnswer n, b) .0 .event ≡ success → n ≡ 0
-    go n true e s = eqb-true n 0 e
-    go n false e s = absurd (omega arith)
-
 -- and the winner of any engine that meets demand 2
 pub winnerIsLeast : (E : Engine) → Demand2 E → WinnerIsLeast E
-winnerIsLeast E d r calls s =
-    let same = step-agrees E d r calls in
-    let won : step (reach machine r calls) .0 .event ≡ success = ap (λ (a : Answer). a .event) (sym same) ∙ s in
-    let e = sent-accepted (reach machine r calls) won in
-    subst (Least (reach machine r calls)) (sym same)
-    (least-wins (reach machine r calls) (cleared-reached r calls) e won)
+winnerIsLeast E d r calls c =
+    let b = reach machine r calls in
+    subst (All (λ a. a .event ≡ success → Least b a)) (sym (answers-agree E d r calls (c ∷ [])))
+    (answer-cases b (λ a. a .event ≡ success → Least b a) (λ n z won. absurd (omega arith)) (λ z. least-wins b (cleared-reached r calls)) c)
 
 -- by cases on those who transmit
 pub noFalseWin : NoFalseWin
-noFalseWin b e =
-    subst (λ (r : Answer × Bus). Heard (length (transmittersAt b)) (r .0 .event)) (sym (step-is b (accepted-step b e))) (go (opened b) (transmittersAt b))
+noFalseWin b =
+    answer-cases b (λ a. a .refusal ≡ 0 → Heard (length (transmittersAt b)) (a .event)) (λ n z e. absurd (z e))
+    (λ z e. go (opened b) (transmittersAt b))
   where
     go : (o : Open) (ts : List Contender) → Heard (length ts) (heard o ts .0 .event)
     go o [] = let i = silent-idle o (o .contention .window .side) in omega arith
@@ -229,9 +223,8 @@ noFalseWin b e =
     go o (x ∷ y ∷ more) = omega arith
 
 pub eventsAreTrue : (E : Engine) → Demand2 E → EventsAreTrue E
-eventsAreTrue E d r calls =
-    subst (λ (a : Answer). a .refusal ≡ 0 → Heard (length (transmittersAt (reach machine r calls))) (a .event)) (sym (step-agrees E d r calls))
-    (noFalseWin (reach machine r calls))
+eventsAreTrue E d r calls c =
+    subst (TrueEvents (reach machine r calls)) (sym (answers-agree E d r calls (c ∷ []))) (noFalseWin (reach machine r calls) c)
 
 -- a state that stands has passed set-up's test of addresses, and an all-zero state has no station
 pub addressesApart : AddressesApart

@@ -6,8 +6,10 @@ pub mod Refusals
 pub mod Numbers
 pub mod Offers
 pub mod Keeps
+pub mod Step
 pub mod Reach
 pub mod Recorded
+pub mod Joining
 pub mod Numbering
 pub mod Counts
 pub mod Contenders

@@ -6,14 +6,13 @@ use native.Mathlib.Omega.{arith}
 use borrow.Author.Tests.{ne-eqb}
 use Rattle.rules.specs.Lists.{total, countUp}
 use Rattle.rules.specs.Bus.{Bus}
-use Rattle.rules.specs.SetUp.{Request, setUp}
-use Rattle.rules.specs.Admission.{Admitted}
-use Rattle.rules.specs.Probe.{Answer}
-use Rattle.rules.specs.Step.{step}
-use Rattle.rules.specs.Engine.{Engine, machine, Call, admission, one-step, Reply, admitted, stepped, reply, next, replies}
+use Rattle.rules.specs.SetUp.{setUp}
+use Rattle.rules.specs.Probe.{refusedAnswer, probe}
+use Rattle.rules.specs.Step.{refusedBegun, begunAnswer, opened}
+use Rattle.rules.specs.Engine.{Engine, machine, Call, Reply, admitted, begun, probed, reply, next, replies}
 use Rattle.rules.specs.Demands.{Demand2, adds-admitted, numbersAnswered, NumbersAreAnswers, QueuedAsAnswered}
 use Rattle.rules.proofs.Standing.{accepted-admission, admit-is}
-use Rattle.rules.proofs.Reach.{Does, refuses, admits, holds, probes-one, does, replies-agree}
+use Rattle.rules.proofs.Reach.{outcome, replies-agree}
 use Rattle.rules.proofs.Counts.{step-rise, fresh-zero}
 
 -- the numbers answered from a bus on: one more than it has admitted, and so on
@@ -36,23 +35,17 @@ counted-on n rs h =
 
 -- one call, and the replies after it
 call-counted : (b : Bus) (c : Call) (rs : List Reply) → Counting (next machine b c .admitted) rs → Counting (b .admitted) (reply machine b c ∷ rs)
-call-counted b c rs = go c (does b c)
-  where
-    go : (k : Call) → Does b k → Counting (next machine b k .admitted) rs → Counting (b .admitted) (reply machine b k ∷ rs)
-    go k (refuses a n z e) =
-        subst
-        (λ (o : Admitted × Bus). Counting (o .1 .admitted) rs → Counting (b .admitted) (admitted (o .0) ∷ rs))
-        (sym e)
-        (not-counted (admitted (record { refusal = n; number = 0 })) rs (rw (ne-eqb n 0 z)) (rw (ne-eqb n 0 z)) refl)
-    go k (admits a z e) =
-        subst
-        (λ (o : Admitted × Bus). Counting (o .1 .admitted) rs → Counting (b .admitted) (admitted (o .0) ∷ rs))
-        (sym e)
-        (counted-on (b .admitted) rs)
-    go k (holds n z e) = not-counted (stepped (step b .0)) rs refl refl (ap (λ (o : Answer × Bus). o .1 .admitted) e)
-    go k (probes-one z a e) =
-        let same = step-rise b .in-admitted in
-        not-counted (stepped (step b .0)) rs refl refl (ap (λ (o : Answer × Bus). o .1 .admitted) e ∙ omega arith)
+call-counted b c rs =
+    outcome b (λ r b′. Counting (b′ .admitted) rs → Counting (b .admitted) (r ∷ rs))
+    (record {
+      refuses = λ n z. not-counted (admitted (record { refusal = n; number = 0 })) rs (rw (ne-eqb n 0 z)) (rw (ne-eqb n 0 z)) refl;
+      admits = λ a z. counted-on (b .admitted) rs;
+      refuses-begin = λ n z. not-counted (begun (refusedBegun n)) rs refl refl refl;
+      begins = λ z. not-counted (begun (begunAnswer b)) rs refl refl refl;
+      refuses-probe = λ n z. not-counted (probed (refusedAnswer n)) rs refl refl refl;
+      probes-one = λ z. let same = step-rise b .in-admitted in not-counted (probed (probe (opened b) .0)) rs refl refl (omega arith);
+    })
+    c
 
 pub calls-counted : (b : Bus) (calls : List Call) → Counting (b .admitted) (replies machine b calls)
 calls-counted b [] = refl

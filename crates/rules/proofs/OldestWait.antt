@@ -5,38 +5,33 @@ use mathlib.Core.Logic.{_⊎_, inl, inr}
 use mathlib.Core.Bool.{Bool, true, false, cond}
 use mathlib.Core.List.{List, [], _∷_}
 use native.Mathlib.Omega.{arith}
-use lib.Dec.{eqb}
-use borrow.Author.Tests.{eqb-true}
+use borrow.Author.Tests.{eqb-true, ne-eqb}
 use Rattle.rules.specs.Lists.{total, Among, at-head}
 use Rattle.rules.specs.Bus.{Packet, Station, Bus, nothing}
 use Rattle.rules.specs.SetUp.{Request, setUp}
 use Rattle.rules.specs.Standing.{Standing}
-use Rattle.rules.specs.Probe.{Answer, refusedAnswer, Contender, Open, success, heard, probe}
-use Rattle.rules.specs.Step.{opened, stepRefusal, step}
-use Rattle.rules.specs.Engine.{Engine, machine, Call, admission, one-step, next, replies, reach, answers}
-use Rattle.rules.specs.Demands.{Demand2, slotsOf, slotsIn, adds-admitted, slotsBefore, transmittersAt, sends, upTo, OldestWaits, WaitOfTheOldest}
+use Rattle.rules.specs.Admission.{withPacket}
+use Rattle.rules.specs.Begin.{begin}
+use Rattle.rules.specs.Probe.{Answer, refusedAnswer, Contender, Open, transmitters, success, heard, probe}
+use Rattle.rules.specs.Step.{opened, stepRefusal}
+use Rattle.rules.specs.Engine.{Engine, machine, Call, next, replies, reach, probeIn, answers}
+use Rattle.rules.specs.Demands.{Demand2, slotsOf, slotsIn, adds-admitted, slotsBefore, sends, upTo, OldestWaits, WaitOfTheOldest}
 use Rattle.rules.proofs.Laws.{clash, and-true, among-cases, among-none}
-use Rattle.rules.proofs.Reach.{standing-reached, demand2-machine, answers-agree}
-use Rattle.rules.proofs.Counts.{call-rise, countsAreTrue}
+use Rattle.rules.proofs.Reach.{outcome, standing-reached, demand2-machine, answers-agree}
+use Rattle.rules.proofs.Counts.{step-rise, call-rise, countsAreTrue}
 use Rattle.rules.proofs.Numbering.{numbersAreAnswers}
 use Rattle.rules.proofs.Least.{silent-idle}
 use Rattle.rules.proofs.Waits.{Held, counted-in, above-admitted, held-next, reached-since, success-names}
 use Rattle.rules.proofs.Demand3.{soonerThanDemand3}
 
--- a step in which a packet was sent took the packet's slots
-sent-slots : (b : Bus) → step b .0 .event ≡ success → slotsOf (step b .0) ≡ step b .0 .length
-sent-slots b = go (eqb (stepRefusal b) 0)
+-- a probe in which a packet was sent took the packet's slots
+sent-slots : (o : Open) → probe o .0 .event ≡ success → slotsOf (probe o .0) ≡ probe o .0 .length
+sent-slots o = told (transmitters (o .bus) (o .contention))
   where
-    told : (o : Open) (ts : List Contender) → heard o ts .0 .event ≡ success → slotsOf (heard o ts .0) ≡ heard o ts .0 .length
-    told o [] won = let i = silent-idle o (o .contention .window .side) in absurd (omega arith)
-    told o (x ∷ []) won = refl
-    told o (x ∷ y ∷ more) won = absurd (omega arith)
-
-    go :
-        (t : Bool) → cond t (probe (opened b)) (refusedAnswer (stepRefusal b), b) .0 .event ≡ success
-        → slotsOf (cond t (probe (opened b)) (refusedAnswer (stepRefusal b), b) .0) ≡ cond t (probe (opened b)) (refusedAnswer (stepRefusal b), b) .0 .length
-    go true won = told (opened b) (transmittersAt b) won
-    go false won = absurd (omega arith)
+    told : (ts : List Contender) → heard o ts .0 .event ≡ success → slotsOf (heard o ts .0) ≡ heard o ts .0 .length
+    told [] won = let i = silent-idle o (o .contention .window .side) in absurd (omega arith)
+    told (x ∷ []) won = refl
+    told (x ∷ y ∷ more) won = absurd (omega arith)
 
 module _ (s : Station) (p : Packet) where
   -- the number of p has been given, and who waits with it was admitted when p was
@@ -60,37 +55,59 @@ module _ (s : Station) (p : Packet) where
     waited : a .slot ≡ p .admission .0 + a .wait
     ended : a .slot + a .length ≡ clock + slots
 
-  sent-now : (b : Bus) → Known b → sends s p (step b .0) ≡ true → Ended (b .clock) (slotsOf (step b .0) + 0) (step b .0)
-  sent-now b k says =
+  sent-now :
+      (b : Bus) → Known b → stepRefusal b ≡ 0 → sends s p (probe (opened b) .0) ≡ true
+      → Ended (b .clock) (slotsOf (probe (opened b) .0) + 0) (probe (opened b) .0)
+  sent-now b k ok says =
       let parts = and-true _ _ says in
       let won = eqb-true _ _ (and-true _ _ (parts .0) .0) in
-      let h = success-names b won in
+      let h = success-names b ok won in
       let since = k .alike (h .packet) (h .waits) (sym (h .number) ∙ eqb-true _ _ (parts .1)) in
-      record { waited = omega (arith, h .wait, since); ended = omega (arith, h .slot, sent-slots b won) }
+      record { waited = omega (arith, h .wait, since); ended = omega (arith, h .slot, sent-slots (opened b) won) }
 
-  sent-ended :
-      (b : Bus) (later : List Call) → Known b → (a : Answer) → Among a (upTo (sends s p) (answers machine b later)) → sends s p a ≡ true
-      → Ended (b .clock) (slotsIn (upTo (sends s p) (answers machine b later))) a
-  sent-ended b [] k a i says = absurd (among-none i)
-  sent-ended b (admission x ∷ later) k a i says =
-      let rest = sent-ended (next machine b (admission x)) later (known-next b (admission x) k) a i says in
-      record { waited = rest .waited; ended = omega (arith, rest .ended, call-rise b (admission x) .in-clock) }
-  sent-ended b (one-step ∷ later) k a i says =
-      go (sends s p (step b .0)) refl (among-cases i) (sent-ended (step b .1) later (known-next b one-step k) a)
+  -- an answer, and those after it
+  ended-after :
+      (clock clock′ : ℕ) (x : Answer) (said : List Answer) → clock′ ≡ clock + slotsOf x → (sends s p x ≡ true → Ended clock (slotsOf x + 0) x)
+      → (a : Answer) → sends s p a ≡ true → (Among a (upTo (sends s p) said) → Ended clock′ (slotsIn (upTo (sends s p) said)) a)
+      → Among a (upTo (sends s p) (x ∷ said)) → Ended clock (slotsIn (upTo (sends s p) (x ∷ said))) a
+  ended-after clock clock′ x said on now a says later i = go (sends s p x) refl (among-cases i)
     where
       rest : List Answer
-      rest = upTo (sends s p) (answers machine (step b .1) later)
+      rest = upTo (sends s p) said
 
-      go :
-          (t : Bool) → sends s p (step b .0) ≡ t → (a ≡ step b .0) ⊎ Among a (cond t [] rest)
-          → (Among a rest → sends s p a ≡ true → Ended (step b .1 .clock) (slotsIn rest) a)
-          → Ended (b .clock) (slotsIn (step b .0 ∷ cond t [] rest)) a
-      go true e (inl same) more = subst (Ended (b .clock) (slotsOf (step b .0) + 0)) (sym same) (sent-now b k e)
-      go true e (inr j) more = absurd (among-none j)
-      go false e (inl same) more = clash (ap (sends s p) (sym same) ∙ says) e
-      go false e (inr j) more =
-          let h = more j says in
-          record { waited = h .waited; ended = omega (arith, h .ended, call-rise b one-step .in-clock) }
+      go : (t : Bool) → sends s p x ≡ t → (a ≡ x) ⊎ Among a (cond t [] rest) → Ended clock (slotsIn (x ∷ cond t [] rest)) a
+      go true e (inl same) = subst (Ended clock (slotsOf x + 0)) (sym same) (now e)
+      go true e (inr j) = absurd (among-none j)
+      go false e (inl same) = clash (ap (sends s p) (sym same) ∙ says) e
+      go false e (inr j) = let h = later j in record { waited = h .waited; ended = omega (arith, h .ended) }
+
+  sent-ended :
+      (b : Bus) (later : List Call) → Known b → (a : Answer) → sends s p a ≡ true → Among a (upTo (sends s p) (answers machine b later))
+      → Ended (b .clock) (slotsIn (upTo (sends s p) (answers machine b later))) a
+  sent-ended b [] k a says = λ i. absurd (among-none i)
+  sent-ended b (c ∷ later) k a says =
+      outcome b
+      (λ r b′.
+      Known b′ → Among a (upTo (sends s p) (probeIn r (answers machine b′ later)))
+      → Ended (b .clock) (slotsIn (upTo (sends s p) (probeIn r (answers machine b′ later)))) a)
+      (record {
+        refuses = λ n z k′. sent-ended b later k′ a says;
+        admits = λ x z k′. sent-ended (withPacket b x) later k′ a says;
+        refuses-begin = λ n z k′. sent-ended b later k′ a says;
+        begins = λ z k′. sent-ended (begin b) later k′ a says;
+        refuses-probe = λ n z k′.
+            let none : slotsOf (refusedAnswer n) ≡ 0 = rw (ne-eqb n 0 z) in
+            ended-after (b .clock) (b .clock) (refusedAnswer n) (answers machine b later) (omega arith) (λ e. clash e refl) a says (sent-ended b later k′ a says);
+        probes-one = λ z k′.
+            let on = step-rise b .in-clock in
+            ended-after (b .clock) (probe (opened b) .1 .clock) (probe (opened b) .0) (answers machine (probe (opened b) .1) later) (omega arith)
+            (sent-now b k z)
+            a
+            says
+            (sent-ended (probe (opened b) .1) later k′ a says);
+      })
+      c
+      (known-next b c k)
 
 -- a packet that waits after any calls is known
 known-reached : (s : Station) (p : Packet) (r : Request) (calls : List Call) → Held p (reach machine r calls .stations) → Known s p (reach machine r calls)
@@ -106,7 +123,7 @@ known-reached s p r calls h =
 machine-oldest : WaitOfTheOldest machine
 machine-oldest r calls later s p h a i says =
     let held : Held p (reach machine r calls .stations) = (s, h .listed, rw (h .oldest) (at-head refl)) in
-    let e = sent-ended s p (reach machine r calls) later (known-reached s p r calls held) a i says in
+    let e = sent-ended s p (reach machine r calls) later (known-reached s p r calls held) a says i in
     let slots = soonerThanDemand3 machine demand2-machine r calls later s p h .slots in
     let since : p .admission .0 ≤ reach machine r calls .clock = go held (standing-reached r calls) in
     omega (arith, e .waited, e .ended)

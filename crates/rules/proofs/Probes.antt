@@ -10,25 +10,26 @@ use native.Mathlib.Omega.{arith}
 use lib.Dec.{leb, eqb}
 use lib.ListN.{length}
 use lib.Pow.{pow-pos}
-use borrow.Author.Tests.{leb-true, leb-false, eqb-true, eqb-false, eq-eqb}
+use borrow.Author.Tests.{leb-true, leb-false, eqb-false, eq-eqb, ne-eqb}
 use Rattle.window.specs.declared.Side.{Side}
 use Rattle.window.specs.declared.Side.the-variants.{Left, Right}
 use Rattle.window.specs.declared.Window.{Window}
 use Rattle.window.specs.Splitting.{exponentOf, firstWindow, leftHalf, moveRight, inWindow}
 use Rattle.window.proofs.Facts.{exponent-le, covers, exponent-power, first-holds, halves, halves-apart, single, Level, placed-level, unit-size, half-level}
-use Rattle.rules.specs.Lists.{bit, count, at-head, in-tail, All, Some}
+use Rattle.rules.specs.Lists.{bit, keep, count, at-head, in-tail, All, Some}
 use Rattle.rules.specs.Bus.{Discipline, PRI, RTDG, RTVC, code, Contention, Bus}
 use Rattle.rules.specs.SetUp.{Request}
 use Rattle.rules.specs.Standing.{OfferStands, WindowStands, ContentionStands, Standing}
-use Rattle.rules.specs.Admission.{Arrival, Admitted, admissionRefusal, withPacket}
-use Rattle.rules.specs.Probe.{Contender, contenders, able, lies-in, transmits, transmitters, idle, collision, Answer, refusedAnswer, Open, unsent, sentBy, goesOn, unwon, won, tiedAt, unheard, heard, probe}
-use Rattle.rules.specs.Step.{opened, openedBy, stepRefusal, step}
-use Rattle.rules.specs.Engine.{Engine, machine, Call, admission, one-step, reach, answers}
-use Rattle.rules.specs.Demands.{Demand2, contendersAt, probes, mostProbes, ProbesBounded}
+use Rattle.rules.specs.Admission.{Arrival, withPacket}
+use Rattle.rules.specs.Begin.{begin, opening}
+use Rattle.rules.specs.Probe.{Contender, contenders, able, lies-in, transmits, transmitters, idle, collision, Answer, Open, unsent, sentBy, goesOn, unwon, won, tiedAt, unheard, heard, probe}
+use Rattle.rules.specs.Step.{opened, openedBy}
+use Rattle.rules.specs.Engine.{Engine, machine, Call, reach, probeIn, answers}
+use Rattle.rules.specs.Demands.{Demand2, contendersAt, probes, mostProbes, ProbesBounded, EmptyEnds}
 use Rattle.rules.proofs.Laws.{and-true, true-and, length-keep, count-le, count-same, none-counted, count-parts, count-mono, clash}
-use Rattle.rules.proofs.Standing.{set-up-stands, step-accepted, step-is}
+use Rattle.rules.proofs.Standing.{set-up-stands, begin-accepted, step-accepted}
 use Rattle.rules.proofs.Keeps.{opened-stands, opened-contention}
-use Rattle.rules.proofs.Reach.{reach-holds, answers-agree}
+use Rattle.rules.proofs.Reach.{outcome, answer-cases, reach-holds, answers-agree}
 use Rattle.rules.proofs.Contenders.{contender-from, contenders-admitted, one-address, one-capability}
 
 -- ---- the definitions
@@ -45,18 +46,20 @@ spanned w Right = w
 abbrev pub span : Window → Window
 span w = spanned w (w .side)
 
--- of these contenders two or more are in the span, where nobody is ever late; and RTVC has no ties
+-- of these contenders two or more are in the span, where nobody is ever late; somebody contends; and RTVC has no ties
 pub record Crowds (d : Discipline) (xs : List Contender) (c : Contention) : Type 0 where
   pub several : ¬ (d ≡ RTDG) → 2 ≤ count (lies-in (span (c .window)) (c .tie)) xs
+  pub somebody : 1 ≤ length xs
   pub untied : d ≡ RTVC → c .tie ≡ none
 
-abbrev pub CrowdedBy : Discipline → List Contender → Option Contention → Type 0
-CrowdedBy d xs none = Unit {0}
-CrowdedBy d xs (some c) = Crowds d xs c
+abbrev pub CrowdedBy : Bus → Option Contention → Type 0
+CrowdedBy b none = Unit {0}
+CrowdedBy b (some c) = (c ≡ opening b) ⊎ Crowds (b .discipline) (contenders (b .stations)) c
 
--- what is true of every reached state: in PRI and RTVC two contenders or more are in the window or, of a left half, in its parent
+-- what is true of every reached state: a contention has just begun, with however many contenders; or it has been probed, and in PRI and RTVC two
+-- contenders or more are in the window or, of a left half, in its parent
 abbrev pub Crowded : Bus → Type 0
-Crowded b = CrowdedBy (b .discipline) (contenders (b .stations)) (b .contention)
+Crowded b = CrowdedBy b (b .contention)
 
 -- The probes that can still come once the window is a right one of one number. Addresses, and in RTVC capabilities, are distinct: two
 -- contenders are never in it, and it is not probed, but in RTDG, where those who collided earlier can be late by then. Equal parameters
@@ -184,6 +187,10 @@ ends-idle o =
 only-they-send : (o : Open) → senders o ≤ inside o
 only-they-send o = count-mono (everyone o) (λ x i t. and-true (lies-in (window o) (tie o) x) (able (o .bus .discipline) (o .bus .clock) x) t .0)
 
+-- all of them contend
+heard-among : (o : Open) → senders o ≤ length (everyone o)
+heard-among o = count-le (transmits (o .bus) (o .contention)) (everyone o)
+
 all-send : (o : Open) → ¬ (o .bus .discipline ≡ RTDG) → inside o ≤ senders o
 all-send o f = count-mono (everyone o) (λ x i l. true-and l (never-late (o .bus .discipline) f x))
   where
@@ -273,20 +280,20 @@ module _ (o : Open) (h : Standing (o .bus)) (e : o .bus .contention ≡ some (o 
   -- a probe leaves a bus crowded, if it is, or if this is the first window
   probe-crowded :
       (¬ (o .bus .discipline ≡ RTDG) → window o .side ≡ Left → 2 ≤ count (lies-in (parent (window o)) (tie o)) (everyone o))
-      → (o .bus .discipline ≡ RTVC → tie o ≡ none) → Crowded (probe o .1)
-  probe-crowded above untied = probe-ways o (λ r. Crowded (r .1)) moves (λ n s. tt) (λ x. tt) splits ties
+      → (window o .side ≡ Left → 1 ≤ length (everyone o)) → (o .bus .discipline ≡ RTVC → tie o ≡ none) → Crowded (probe o .1)
+  probe-crowded above somebody untied = probe-ways o (λ r. Crowded (r .1)) moves (λ n s. tt) (λ x. tt) splits ties
     where
       moves : senders o ≡ 0 → window o .side ≡ Left → Crowded (goesOn (o .bus) (moved o))
       moves n s =
           let parts = count-parts (lies-in (parent (window o)) (tie o)) (lies-in (window o) (tie o)) (lies-in (moveRight (window o)) (tie o)) (everyone o) in
           let sum = parts (λ x i. lies-in-parts (window o) (tie o) x) in
-          record { several = λ f. omega (arith, above f s, all-send o f); untied = untied }
+          inr (record { several = λ f. omega (arith, above f s, all-send o f); somebody = somebody s; untied = untied })
 
       splits : 2 ≤ senders o → 2 ≤ window o .size → Crowded (goesOn (o .bus) (halved o))
       splits n l =
           let whole = half-level (window o) window-level l .twice in
           let same = count-same (everyone o) (λ x i. lies-in-same (parent (leftHalf (window o))) (window o) (tie o) x refl whole) in
-          record { several = λ f. omega (arith, only-they-send o); untied = untied }
+          inr (record { several = λ f. omega (arith, only-they-send o); somebody = omega (arith, heard-among o); untied = untied })
 
       -- all who lie in a window of one parameter lie in the first window of the tie phase
       ties : 2 ≤ senders o → window o .size < 2 → Crowded (goesOn (o .bus) (tied o))
@@ -296,7 +303,12 @@ module _ (o : Open) (h : Standing (o .bus)) (e : o .bus .contention ≡ some (o 
           let all : count (lies-in (window o) none) (everyone o) ≤ count (lies-in (firstWindow (o .bus .A)) (some (window o .start))) (everyone o) =
           count-mono (everyone o) (λ x i m. true-and (eq-eqb _ _ (single (window o) (x .parameter) (one-number l) m))
           (first-holds (o .bus .A) (x .address) (omega (arith, set-up-stands (o .bus) h .A-most)) (contender-stands x i .address-in))) in
-          record { several = λ f. rw (t .0) (le-trans (rw (t .0) at lie) all); untied = λ d. absurd (t .1 d) }
+          inr
+          (record {
+            several = λ f. rw (t .0) (le-trans (rw (t .0) at lie) all);
+            somebody = omega (arith, heard-among o);
+            untied = λ d. absurd (t .1 d);
+          })
 
 -- ---- calls
 
@@ -310,25 +322,50 @@ opened-left b none = rw (exponent-power (exponentOf (b .D)) (exponent-le (b .D))
     go RTVC L M = omega arith
 opened-left b (some c) = refl
 
+-- a contention that has just begun has all of them left
+pub left-at-opening :
+    (b : Bus) (c : Contention) → c ≡ opening b
+    → leftBy (b .discipline) (exponentOf (b .D)) (exponentOf (b .A)) (some c) ≡ mostProbes (b .discipline) (exponentOf (b .D)) (exponentOf (b .A))
+left-at-opening b c f = ap (λ (x : Contention). leftBy (b .discipline) (exponentOf (b .D)) (exponentOf (b .A)) (some x)) f ∙ opened-left b none
+
 -- a probe is accepted, and ends the contention or leaves fewer probes than the bus had
 step-fewer : (b : Bus) → Standing b → Fewer (probesLeft b) (probe (opened b))
 step-fewer b h = rw (opened-left b (b .contention)) at (probe-fewer (opened b) (opened-stands b h) (opened-contention b))
 
--- an accepted step, and an admission, leave a crowded bus crowded
+-- a probe, and an admission, leave a crowded bus crowded
 step-crowded : (b : Bus) → Standing b → Crowded b → Crowded (probe (opened b) .1)
 step-crowded b h k = go (b .contention) k (opened-stands b h) (opened-contention b)
   where
+    first : (side : Side) → side ≡ Right → side ≡ Left → ⊥
+    first Left e f = let z : _≡_ {A = ℕ} 0 1 = cc in omega arith
+    first Right e f = let z : _≡_ {A = ℕ} 0 1 = cc in omega arith
+
     go :
-        (c : Option Contention) → CrowdedBy (b .discipline) (contenders (b .stations)) c → Standing (openedBy b c .bus)
+        (c : Option Contention) → CrowdedBy b c → Standing (openedBy b c .bus)
         → openedBy b c .bus .contention ≡ some (openedBy b c .contention) → Crowded (probe (openedBy b c) .1)
-    go none k h e = probe-crowded (openedBy b none) h e (λ f s. let not-left : _≡_ {A = ℕ} 0 1 = cc in absurd (omega arith)) (λ d. refl)
-    go (some c) k h e = probe-crowded (openedBy b (some c)) h e (λ f s. rw s at (k .several f)) (k .untied)
+    go none k h e = probe-crowded (openedBy b none) h e (λ f s. absurd (first _ refl s)) (λ s. absurd (first _ refl s)) (λ d. refl)
+    go (some c) (inl f) h e =
+        let right : c .window .side ≡ Right = ap (λ (x : Contention). x .window .side) f in
+        probe-crowded (openedBy b (some c)) h e (λ _ s. absurd (first _ right s)) (λ s. absurd (first _ right s)) (λ d. ap (λ (x : Contention). x .tie) f)
+    go (some c) (inr k) h e = probe-crowded (openedBy b (some c)) h e (λ f s. rw s at (k .several f)) (λ s. k .somebody) (k .untied)
 
 admission-crowded : (b : Bus) (a : Arrival) → Crowded b → Crowded (withPacket b a)
-admission-crowded b a k = rw (contenders-admitted b a) k
+admission-crowded b a k = go (b .contention) k
+  where
+    go : (c : Option Contention) → CrowdedBy b c → CrowdedBy (withPacket b a) c
+    go none k = tt
+    go (some c) (inl e) = inl e
+    go (some c) (inr k) = inr (rw (contenders-admitted b a) k)
 
 pub crowded-reached : (r : Request) (calls : List Call) → Crowded (reach machine r calls)
-crowded-reached = reach-holds Crowded tt (λ r e. tt) (λ b a h k e. admission-crowded b a k) (λ b h k e. step-crowded b h k)
+crowded-reached =
+    reach-holds Crowded tt
+    (record {
+      at-set-up = λ r e. tt;
+      at-admission = λ b a h k e. admission-crowded b a k;
+      at-begin = λ b h k e. inl refl;
+      at-probe = λ b h k e. step-crowded b h k;
+    })
 
 right-half : (s : Side) → otherHalf s ≡ 0 → s ≡ Right
 right-half Left e = absurd (omega arith)
@@ -360,11 +397,10 @@ probes-left b h k = go (b .contention) refl k
     begins RTDG L M l = omega arith
     begins RTVC L M l = omega arith
 
-    go :
-        (c : Option Contention) → b .contention ≡ c → CrowdedBy (b .discipline) (contenders (b .stations)) c
-        → 1 ≤ leftBy (b .discipline) (exponentOf (b .D)) (exponentOf (b .A)) c
+    go : (c : Option Contention) → b .contention ≡ c → CrowdedBy b c → 1 ≤ leftBy (b .discipline) (exponentOf (b .D)) (exponentOf (b .A)) c
     go none e k = begins (b .discipline) (exponentOf (b .D)) (exponentOf (b .A)) (halved-once b h)
-    go (some c) e k = lt-of-not-le none-left
+    go (some c) e (inl f) = rw (left-at-opening b c f) (begins (b .discipline) (exponentOf (b .D)) (exponentOf (b .A)) (halved-once b h))
+    go (some c) e (inr k) = lt-of-not-le none-left
       where
         none-left : openLeft (openedBy b (some c)) ≤ 0 → ⊥
         none-left z =
@@ -384,24 +420,27 @@ some-fails test (x ∷ xs) l = go (test x) refl l (some-fails test xs)
     go true e l more = let (y, i, f) = more (omega arith) in (y, in-tail i, f)
     go false e l more = (x, at-head refl, e)
 
--- In RTVC a contention about to begin has two probes left or more, and one under way has a contender of another capability than n.
+-- In RTVC a contention about to be probed first has two probes left or more, and one that has been probed has a contender of another capability
+-- than n.
 pub rival : (b : Bus) → Standing b → Crowded b → b .discipline ≡ RTVC → (n : ℕ) → (2 ≤ probesLeft b) ⊎ Some (λ y. ¬ (y .capability ≡ n)) (contendersAt b)
 rival b h k d n = go (b .contention) k
   where
     go :
-        (c : Option Contention) → CrowdedBy (b .discipline) (contenders (b .stations)) c
+        (c : Option Contention) → CrowdedBy b c
         → (2 ≤ leftBy (b .discipline) (exponentOf (b .D)) (exponentOf (b .A)) c)
         ⊎ Some (λ y. ¬ (y .capability ≡ n)) (contenders (openedBy b c .bus .stations))
     go none k = inl (rw d (omega (arith, halved-once b h)))
-    go (some c) k =
+    go (some c) (inl f) = inl (rw (left-at-opening b c f, d) (omega (arith, halved-once b h)))
+    go (some c) (inr k) =
         let two = k .several (λ e. omega (arith, ap code (sym d ∙ e))) in
         let all = count-le (lies-in (span (c .window)) (c .tie)) (contenders (b .stations)) in
         let one = one-capability n (b .stations) (set-up-stands b h .capabilities-apart d) in
         let (y, i, f) = some-fails (λ y. eqb (y .capability) n) (contenders (b .stations)) (omega arith) in
         inr (y, i, eqb-false (y .capability) n f)
 
-pub probes-fall : (b : Bus) → Standing b → stepRefusal b ≡ 0 → step b .0 .ended ≡ 0 → suc (probesLeft (step b .1)) ≤ probesLeft b
-probes-fall b h e = go (step b) (subst (Fewer (probesLeft b)) (sym (step-is b e)) (step-fewer b h) .1)
+-- a contention that goes on has fewer probes left
+pub probes-fall : (b : Bus) → Standing b → probe (opened b) .0 .ended ≡ 0 → suc (probesLeft (probe (opened b) .1)) ≤ probesLeft b
+probes-fall b h = go (probe (opened b)) (step-fewer b h .1)
   where
     go :
         (r : Answer × Bus) → (r .0 .ended ≡ 1) ⊎ ((r .0 .ended ≡ 0) × (suc (probesLeft (r .1)) ≤ probesLeft b)) → r .0 .ended ≡ 0
@@ -414,57 +453,87 @@ nobody : {X : Type 0} (test : X → Bool) (xs : List X) → All (λ x. test x �
 nobody test [] h e = refl
 nobody test (x ∷ xs) h e = clash (h x (at-head refl)) (none-counted test (x ∷ xs) e x (at-head refl))
 
+-- nobody contends where nobody is ever late and the first window is silent
+first-silent :
+    (o : Open) → Standing (o .bus) → o .bus .contention ≡ some (o .contention) → o .contention ≡ opening (o .bus) → ¬ (o .bus .discipline ≡ RTDG)
+    → senders o ≡ 0 → everyone o ≡ []
+first-silent o h e f d n =
+    let all : All (λ x. lies-in (window o) (tie o) x ≡ true) (everyone o) =
+    λ x i. subst (λ (c : Contention). lies-in (c .window) (c .tie) x ≡ true) (sym f)
+    (first-holds (o .bus .D) (x .parameter) (omega (arith, set-up-stands (o .bus) h .D-most)) (contender-stands o h e x i .parameter-in)) in
+    nobody (lies-in (window o) (tie o)) (everyone o) all (omega (arith, all-send o d))
+
 -- a contention whose packets are never late ends without a winner only where nobody contends, and at its first probe
 pub unwon-empty :
-    (b : Bus) → Standing b → Crowded b → stepRefusal b ≡ 0 → ¬ (b .discipline ≡ RTDG) → step b .0 .ended ≡ 1 → step b .0 .event ≡ idle
-    → (b .contention ≡ none) × (contendersAt b ≡ [])
-unwon-empty b h k e d ended unheard =
-    let f = ends-idle (opened b) (ap (λ r. r .0 .ended) (sym (step-is b e)) ∙ ended) (ap (λ r. r .0 .event) (sym (step-is b e)) ∙ unheard) in
-    go (b .contention) k (opened-stands b h) (opened-contention b) (f .0) (f .1)
+    (b : Bus) → Standing b → Crowded b → ¬ (b .discipline ≡ RTDG) → probe (opened b) .0 .ended ≡ 1 → probe (opened b) .0 .event ≡ idle
+    → (probesLeft b ≡ mostProbes (b .discipline) (exponentOf (b .D)) (exponentOf (b .A))) × (contendersAt b ≡ [])
+unwon-empty b h k d ended unheard =
+    let f = ends-idle (opened b) ended unheard in go (b .contention) k (opened-stands b h) (opened-contention b) (f .0) (f .1)
   where
     go :
-        (c : Option Contention) → CrowdedBy (b .discipline) (contenders (b .stations)) c → Standing (openedBy b c .bus)
+        (c : Option Contention) → CrowdedBy b c → Standing (openedBy b c .bus)
         → openedBy b c .bus .contention ≡ some (openedBy b c .contention) → senders (openedBy b c) ≡ 0 → window (openedBy b c) .side ≡ Right
-        → (c ≡ none) × (everyone (openedBy b c) ≡ [])
-    go none k h e n s =
-        let o = openedBy b none in
-        let all : All (λ x. lies-in (firstWindow (b .D)) none x ≡ true) (everyone o) =
-        λ x i. first-holds (b .D) (x .parameter) (omega (arith, set-up-stands (o .bus) h .D-most)) (contender-stands o h e x i .parameter-in) in
-        (refl, nobody (lies-in (firstWindow (b .D)) none) (everyone o) all (omega (arith, all-send o d)))
-    go (some c) k h e n s = absurd (omega (arith, in-right k d s, all-send (openedBy b (some c)) d))
+        → (leftBy (b .discipline) (exponentOf (b .D)) (exponentOf (b .A)) c ≡ mostProbes (b .discipline) (exponentOf (b .D)) (exponentOf (b .A)))
+        × (everyone (openedBy b c) ≡ [])
+    go none k h e n s = (refl, first-silent (openedBy b none) h e refl d n)
+    go (some c) (inl f) h e n s = (left-at-opening b c f, first-silent (openedBy b (some c)) h e f d n)
+    go (some c) (inr k) h e n s = absurd (omega (arith, in-right k d s, all-send (openedBy b (some c)) d))
+
+-- ---- a contention without contenders
+
+empty-idle : (b : Bus) → Crowded b → contendersAt b ≡ [] → (probe (opened b) .0 .event ≡ idle) × (probe (opened b) .0 .ended ≡ 1)
+empty-idle b k none-there = go (b .contention) k none-there
+  where
+    by : (o : Open) (side : Side) → side ≡ Right → (unheard o side .0 .event ≡ idle) × (unheard o side .0 .ended ≡ 1)
+    by o Left e = let z : _≡_ {A = ℕ} 0 1 = cc in absurd (omega arith)
+    by o Right e = (refl, refl)
+
+    silent : (o : Open) → everyone o ≡ [] → window o .side ≡ Right → (probe o .0 .event ≡ idle) × (probe o .0 .ended ≡ 1)
+    silent o e right =
+        subst (λ (xs : List Contender). (heard o xs .0 .event ≡ idle) × (heard o xs .0 .ended ≡ 1))
+        (sym (ap (keep (transmits (o .bus) (o .contention))) e))
+        (by o (window o .side) right)
+
+    go :
+        (c : Option Contention) → CrowdedBy b c → everyone (openedBy b c) ≡ []
+        → (probe (openedBy b c) .0 .event ≡ idle) × (probe (openedBy b c) .0 .ended ≡ 1)
+    go none k e = silent (openedBy b none) e refl
+    go (some c) (inl f) e = silent (openedBy b (some c)) e (ap (λ (x : Contention). x .window .side) f)
+    go (some c) (inr k) e = let some-one = k .somebody in absurd (omega (arith, ap length e))
+
+pub emptyEnds : (E : Engine) → Demand2 E → EmptyEnds E
+emptyEnds E d r calls c none-there =
+    let b = reach machine r calls in
+    let P : Answer → Type 0 = λ a. a .refusal ≡ 0 → (a .event ≡ idle) × (a .ended ≡ 1) in
+    subst (All P) (sym (answers-agree E d r calls (c ∷ [])))
+    (answer-cases b P (λ n z e. absurd (z e)) (λ z e. empty-idle b (crowded-reached r calls) none-there) c)
+
+-- ---- the bound
 
 -- whatever is called, no more probes than are left are answered until the contention ends
 probes-bounded : (later : List Call) (b : Bus) → Crowded b → probes (answers machine b later) ≤ probesLeft b
 probes-bounded [] b k = omega arith
-probes-bounded (admission a ∷ later) b k = go (eqb (admissionRefusal b a) 0) (probes-bounded later)
+probes-bounded (c ∷ later) b k =
+    outcome b (λ r b′. probes (probeIn r (answers machine b′ later)) ≤ probesLeft b)
+    (record {
+      refuses = λ n z. probes-bounded later b k;
+      admits = λ a z. probes-bounded later (withPacket b a) (admission-crowded b a k);
+      refuses-begin = λ n z. probes-bounded later b k;
+      begins = λ z.
+          omega (arith, probes-bounded later (begin b) (inl refl), left-at-opening b (opening b) refl, probes-at-begin b (begin-accepted b z .1));
+      refuses-probe = λ n z. rw (ne-eqb n 0 z) (probes-bounded later b k);
+      probes-one = λ z.
+          let h = step-accepted b z .standing in
+          let f = step-fewer b h in
+          accepted (probe (opened b)) h (f .0) (f .1) (probes-bounded later (probe (opened b) .1) (step-crowded b h k));
+    })
+    c
   where
-    result : Bool → Admitted × Bus
-    result t = cond t (record { refusal = 0; number = suc (b .admitted) }, withPacket b a) (record { refusal = admissionRefusal b a; number = 0 }, b)
-
-    go :
-        (t : Bool) → ((b′ : Bus) → Crowded b′ → probes (answers machine b′ later) ≤ probesLeft b′)
-        → probes (answers machine (result t .1) later) ≤ probesLeft b
-    go true more = more (withPacket b a) (admission-crowded b a k)
-    go false more = more b k
-probes-bounded (one-step ∷ later) b k = go (eqb (stepRefusal b) 0) refl (probes-bounded later)
-  where
-    result : Bool → Answer × Bus
-    result t = cond t (probe (opened b)) (refusedAnswer (stepRefusal b), b)
-
     accepted :
         (r : Answer × Bus) → Standing b → r .0 .refusal ≡ 0 → (r .0 .ended ≡ 1) ⊎ ((r .0 .ended ≡ 0) × (suc (probesLeft (r .1)) ≤ probesLeft b))
         → probes (answers machine (r .1) later) ≤ probesLeft (r .1) → probes (r .0 ∷ answers machine (r .1) later) ≤ probesLeft b
     accepted r h e (inl x) more = rw (e, x) (probes-left b h k)
     accepted r h e (inr x) more = rw (e, x .0) (omega arith)
-
-    go :
-        (t : Bool) → eqb (stepRefusal b) 0 ≡ t → ((b′ : Bus) → Crowded b′ → probes (answers machine b′ later) ≤ probesLeft b′)
-        → probes (result t .0 ∷ answers machine (result t .1) later) ≤ probesLeft b
-    go true e more =
-        let h = step-accepted b (eqb-true _ _ e) .standing in
-        let f = step-fewer b h in
-        accepted (probe (opened b)) h (f .0) (f .1) (more (probe (opened b) .1) (step-crowded b h k))
-    go false e more = rw e (more b k)
 
 pub probesBounded : (E : Engine) → Demand2 E → ProbesBounded E
 probesBounded E d r calls e later =

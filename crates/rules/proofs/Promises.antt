@@ -1,20 +1,22 @@
 -- What is proved of paper 01, in one place. The statements are in specs/Demands.antt and specs/Conditions.antt, the proofs in the
 -- files named here; docs/PROMISES.md says which sentence each answers. Assumes nothing.
-use mathlib.Core.Path.{_≡_, refl}
+use mathlib.Core.Path.{_≡_}
 use mathlib.Core.Option.{none}
 use Rattle.rules.specs.Conditions.{RefusalsExact}
 use Rattle.rules.specs.Engine.{Engine, machine}
-use Rattle.rules.specs.Demands.{Demand2, NoFalseWin, AddressesApart, StandsExactly, KeepsStanding, ReachedStands, HandsBack, OffersTheFirst, ContendersStay, QueuedAsAnswered, Promised}
+use Rattle.rules.specs.Demands.{Demand2, NoFalseWin, AddressesApart, StandsExactly, KeepsStanding, ReachedStands, HandsBack, StepIsBoth, BeginsAtAnyClock, OffersTheFirst, ContendersStay, QueuedAsAnswered, Promised}
 use Rattle.rules.specs.Examples.{firstFailing}
 use Rattle.rules.proofs.Tests.{tells, told}
 use Rattle.rules.proofs.Standing as Standing
 use Rattle.rules.proofs.Refusals as Refusals
 use Rattle.rules.proofs.Keeps as Keeps
+use Rattle.rules.proofs.Step as Step
 use Rattle.rules.proofs.Reach as Reach
 use Rattle.rules.proofs.Counts as Counts
 use Rattle.rules.proofs.Numbering as Numbering
 use Rattle.rules.proofs.Offers as Offers
 use Rattle.rules.proofs.Recorded as Recorded
+use Rattle.rules.proofs.Joining as Joining
 use Rattle.rules.proofs.Least as Least
 use Rattle.rules.proofs.Waits as Waits
 use Rattle.rules.proofs.Probes as Probes
@@ -43,6 +45,13 @@ handsBack = Refusals.handsBack
 pub refusalsExact : RefusalsExact
 refusalsExact = Refusals.refusalsExact
 
+-- an accepted step is a begin, where none is under way, and a probe, and a begin is accepted at any clock
+pub stepIsBoth : StepIsBoth
+stepIsBoth = Step.stepIsBoth
+
+pub beginsAtAnyClock : BeginsAtAnyClock
+beginsAtAnyClock = Step.beginsAtAnyClock
+
 -- of its packets in time a station offers the one that goes before every other
 pub offersTheFirst : OffersTheFirst
 offersTheFirst = Offers.offersTheFirst
@@ -67,15 +76,18 @@ addressesApart = Least.addressesApart
 pub starred : firstFailing ≡ none
 starred = Starred.starred
 
--- ---- of every engine that meets demand 2: the winner is least, events, counts, numbers and waits are true, probes are bounded, demand 3,
--- a slot fewer than it asks for, and what both say of a wait
+-- ---- of every engine that meets demand 2: steps are the machine's too, the winner is least, events, counts, numbers and waits are true, probes are
+-- bounded, a contention without contenders ends at once, nobody joins, demand 3, a slot fewer than it asks for, and what both say of a wait
 
 pub promised : (E : Engine) → Demand2 E → Promised E
 promised E meets =
     record {
+      stepsAgree = Reach.stepsAgree E meets;
       winnerIsLeast = Least.winnerIsLeast E meets;
       eventsAreTrue = Least.eventsAreTrue E meets;
       probesBounded = Probes.probesBounded E meets;
+      emptyEnds = Probes.emptyEnds E meets;
+      nobodyJoins = Joining.nobodyJoins E meets;
       countsAreTrue = Counts.countsAreTrue E meets;
       numbersAreAnswers = Numbering.numbersAreAnswers E meets;
       waitsAreTrue = Waits.waitsAreTrue E meets;

@@ -1,46 +1,88 @@
 -- Reached states: they stand, an invariant holds of them all, and an engine that meets demand 2 answers as the machine does.
 -- Assumes nothing.
 use Prim.Native.Nat.{ℕ, suc}
-use mathlib.Core.Path.{_≡_, refl, sym, ap, _∙_, subst}
+use mathlib.Core.Path.{_≡_, refl, sym, ap, ap₂, _∙_, subst}
 use mathlib.Core.Logic.{_⊎_, inl, inr}
-use mathlib.Core.Bool.{Bool, true, false}
+use mathlib.Core.Bool.{Bool, true, false, cond}
+use mathlib.Core.Option.{none}
 use mathlib.Core.List.{List, [], _∷_, _++_}
+use native.Mathlib.Omega.{arith}
 use lib.Dec.{eqb}
 use lib.ListN.{length, drop, getD}
 use borrow.Author.Tests.{eqb-true, eqb-false}
+use Rattle.rules.specs.Lists.{All}
 use Rattle.rules.specs.Bus.{Bus, nothing}
 use Rattle.rules.specs.SetUp.{Request, setUp, setUpVerdict, freshBus}
 use Rattle.rules.specs.Standing.{Standing}
-use Rattle.rules.specs.Admission.{Arrival, Admitted, admit, admissionRefusal, withPacket}
-use Rattle.rules.specs.Probe.{Answer, refusedAnswer, probe}
-use Rattle.rules.specs.Step.{opened, stepRefusal, step}
-use Rattle.rules.specs.Engine.{Engine, machine, Call, admission, one-step, admitted, next, after, replies, reach, stepsIn, answers}
-use Rattle.rules.specs.Demands.{Demand2, ReachedStands}
-use Rattle.rules.proofs.Standing.{accepted-set-up, accepted-admission, admit-is, accepted-step, step-is}
+use Rattle.rules.specs.Admission.{Arrival, Admitted, admissionRefusal, withPacket}
+use Rattle.rules.specs.Begin.{begin}
+use Rattle.rules.specs.Probe.{Answer, refusedAnswer, dropping, probe}
+use Rattle.rules.specs.Step.{Begun, refusedBegun, begunAnswer, beginRefusal, beginCall, probeRefusal, probeCall, opened, stepRefusal, step}
+use Rattle.rules.specs.Engine.{Engine, machine, probedAfter, begunThen, stepOf, Call, OwnCall, admission, one-begin, one-probe, one-step, Reply, admitted, begun, probed, reply, next, after, replies, reach, probeIn, probesIn, beginsIn, answers}
+use Rattle.rules.specs.Demands.{Demand2, StepsAgree, ReachedStands}
+use Rattle.rules.proofs.Laws.{clash, among-append, all-nil, all-cons}
+use Rattle.rules.proofs.Standing.{accepted-set-up, admit-is, begin-accepted, probe-accepted, probed-opened, step-is}
 use Rattle.rules.proofs.Refusals.{handsBack}
-use Rattle.rules.proofs.Keeps.{keepsStanding}
+use Rattle.rules.proofs.Keeps.{begin-stands, stepped-stands, keepsStanding}
+use Rattle.rules.proofs.Step.{step-made}
 
 -- ---- one call
 
--- What a call on the machine does: it is refused, and the state stays; or an admission, or a step, is accepted.
-pub data Does (b : Bus) : Call → Type 0 where
-  refuses : (a : Arrival) (n : ℕ) → ¬ (n ≡ 0) → admit b a ≡ (record { refusal = n; number = 0 }, b) → Does b (admission a)
-  admits :
-      (a : Arrival) → admissionRefusal b a ≡ 0 → admit b a ≡ (record { refusal = 0; number = suc (b .admitted) }, withPacket b a) → Does b (admission a)
-  holds : (n : ℕ) → ¬ (n ≡ 0) → step b ≡ (refusedAnswer n, b) → Does b one-step
-  probes-one : stepRefusal b ≡ 0 → step b .0 .refusal ≡ 0 → step b ≡ probe (opened b) → Does b one-step
+-- a call that is refused with its number, or taken where that is 0
+call-cases :
+    {X : Type 0} (P : X → Type 0) (n : ℕ) (taken : X) (refused : ℕ → X) → (¬ (n ≡ 0) → P (refused n)) → (n ≡ 0 → P taken)
+    → P (cond (eqb n 0) taken (refused n))
+call-cases P n taken refused h k = go (eqb n 0) refl
+  where
+    go : (t : Bool) → eqb n 0 ≡ t → P (cond t taken (refused n))
+    go true e = k (eqb-true n 0 e)
+    go false e = h (eqb-false n 0 e)
 
-pub does : (b : Bus) (c : Call) → Does b c
-does b (admission a) = go (eqb (admit b a .0 .refusal) 0) refl
-  where
-    go : (t : Bool) → eqb (admit b a .0 .refusal) 0 ≡ t → Does b (admission a)
-    go true e = let z = accepted-admission b a (eqb-true (admit b a .0 .refusal) 0 e) in admits a z (admit-is b a z)
-    go false e = let n = eqb-false (admit b a .0 .refusal) 0 e in refuses a (admit b a .0 .refusal) n (handsBack .admission b a n)
-does b one-step = go (eqb (step b .0 .refusal) 0) refl
-  where
-    go : (t : Bool) → eqb (step b .0 .refusal) 0 ≡ t → Does b one-step
-    go true e = let a = eqb-true (step b .0 .refusal) 0 e in let z = accepted-step b a in probes-one z a (step-is b z)
-    go false e = let n = eqb-false (step b .0 .refusal) 0 e in holds (step b .0 .refusal) n (handsBack .step b n)
+-- What a call on the machine comes to, of its reply and the state: it is refused, and the state stays; or an admission, a begin or a probe,
+-- which may be that of a step, is accepted.
+pub record Outcomes (b : Bus) (P : Reply → Bus → Type 0) : Type 0 where
+  pub refuses : (n : ℕ) → ¬ (n ≡ 0) → P (admitted (record { refusal = n; number = 0 })) b
+  pub admits : (a : Arrival) → admissionRefusal b a ≡ 0 → P (admitted (record { refusal = 0; number = suc (b .admitted) })) (withPacket b a)
+  pub refuses-begin : (n : ℕ) → ¬ (n ≡ 0) → P (begun (refusedBegun n)) b
+  pub begins : beginRefusal b ≡ 0 → P (begun (begunAnswer b)) (begin b)
+  pub refuses-probe : (n : ℕ) → ¬ (n ≡ 0) → P (probed (refusedAnswer n)) b
+  pub probes-one : stepRefusal b ≡ 0 → P (probed (probe (opened b) .0)) (probe (opened b) .1)
+
+pub outcome : (b : Bus) (P : Reply → Bus → Type 0) → Outcomes b P → (c : Call) → P (reply machine b c) (next machine b c)
+outcome b P o (admission a) =
+    call-cases (λ (x : Admitted × Bus). P (admitted (x .0)) (x .1)) (admissionRefusal b a) _ (λ n. (record { refusal = n; number = 0 }, b))
+    (o .refuses (admissionRefusal b a))
+    (o .admits a)
+outcome b P o one-begin =
+    call-cases (λ (x : Begun × Bus). P (begun (x .0)) (x .1)) (beginRefusal b) _ (λ n. (refusedBegun n, b))
+    (o .refuses-begin (beginRefusal b))
+    (o .begins)
+outcome b P o one-probe =
+    call-cases (λ (x : Answer × Bus). P (probed (x .0)) (x .1)) (probeRefusal b) _ (λ n. (refusedAnswer n, b))
+    (o .refuses-probe (probeRefusal b))
+    (λ z.
+    let ok = probe-accepted b z in
+    subst (λ (x : Answer × Bus). P (probed (x .0)) (x .1)) (sym (probed-opened b (ok .0))) (o .probes-one (ok .1)))
+outcome b P o one-step =
+    subst (λ (x : Answer × Bus). P (probed (x .0)) (x .1)) (sym (step-made b))
+    (call-cases (λ (x : Answer × Bus). P (probed (x .0)) (x .1)) (stepRefusal b) _ (λ n. (refusedAnswer n, b))
+    (o .refuses-probe (stepRefusal b))
+    (o .probes-one))
+
+-- the answer to one call, if it is a probe or a step
+pub answer-cases :
+    (b : Bus) (P : Answer → Type 0) → ((n : ℕ) → ¬ (n ≡ 0) → P (refusedAnswer n)) → (stepRefusal b ≡ 0 → P (probe (opened b) .0))
+    → (c : Call) → All P (answers machine b (c ∷ []))
+answer-cases b P refused taken =
+    outcome b (λ r b′. All P (probeIn r []))
+    (record {
+      refuses = λ n z. all-nil P;
+      admits = λ a z. all-nil P;
+      refuses-begin = λ n z. all-nil P;
+      begins = λ z. all-nil P;
+      refuses-probe = λ n z. all-cons (refusedAnswer n) (refused n z) (all-nil P);
+      probes-one = λ z. all-cons (probe (opened b) .0) (taken z) (all-nil P);
+    })
 
 -- ---- reached states
 
@@ -48,19 +90,23 @@ does b one-step = go (eqb (step b .0 .refusal) 0) refl
 pub record Keeps (P : Bus → Type 0) : Type 0 where
   pub at-set-up : (r : Request) → setUp r .0 .refusal ≡ 0 → P (freshBus r)
   pub at-admission : (b : Bus) (a : Arrival) → Standing b → P b → admissionRefusal b a ≡ 0 → P (withPacket b a)
-  pub at-step : (b : Bus) → Standing b → P b → stepRefusal b ≡ 0 → P (probe (opened b) .1)
+  pub at-begin : (b : Bus) → Standing b → P b → b .contention ≡ none → P (begin b)
+  pub at-probe : (b : Bus) → Standing b → P b → stepRefusal b ≡ 0 → P (probe (opened b) .1)
 
 module _ (P : Bus → Type 0) (keeps : Keeps P) where
   -- one call on a standing state
   next-keeps : (b : Bus) (c : Call) → Standing b → P b → Standing (next machine b c) × P (next machine b c)
-  next-keeps b c h p = go c (does b c)
-    where
-      go : (k : Call) → Does b k → Standing (next machine b k) × P (next machine b k)
-      go k (refuses a n z e) = subst (λ (o : Admitted × Bus). Standing (o .1) × P (o .1)) (sym e) (h, p)
-      go k (admits a z e) =
-          (keepsStanding .admission b a (ap (λ (o : Admitted × Bus). o .0 .refusal) e), subst (λ (o : Admitted × Bus). P (o .1)) (sym e) (keeps .at-admission b a h p z))
-      go k (holds n z e) = subst (λ (o : Answer × Bus). Standing (o .1) × P (o .1)) (sym e) (h, p)
-      go k (probes-one z a e) = (keepsStanding .step b a, subst (λ (o : Answer × Bus). P (o .1)) (sym e) (keeps .at-step b h p z))
+  next-keeps b c h p =
+      outcome b (λ r b′. Standing b′ × P b′)
+      (record {
+        refuses = λ n z. (h, p);
+        admits = λ a z. (subst (λ (x : Admitted × Bus). Standing (x .1)) (admit-is b a z) (keepsStanding .admission b a (ap (λ (x : Admitted × Bus). x .0 .refusal) (admit-is b a z))), keeps .at-admission b a h p z);
+        refuses-begin = λ n z. (h, p);
+        begins = λ z. (begin-stands b h, keeps .at-begin b h p (begin-accepted b z .1));
+        refuses-probe = λ n z. (h, p);
+        probes-one = λ z. (subst (λ (x : Answer × Bus). Standing (x .1)) (step-is b z) (stepped-stands b z), keeps .at-probe b h p z);
+      })
+      c
 
   after-keeps : (b : Bus) (calls : List Call) → Standing b → P b → Standing (after machine b calls) × P (after machine b calls)
   after-keeps b [] h p = (h, p)
@@ -68,14 +114,20 @@ module _ (P : Bus → Type 0) (keeps : Keeps P) where
 
 -- whatever is called, a bus that stands goes on standing
 anything : Keeps (λ b. Unit {0})
-anything = record { at-set-up = λ r z. tt; at-admission = λ b a h p z. tt; at-step = λ b h p z. tt }
+anything = record { at-set-up = λ r z. tt; at-admission = λ b a h p z. tt; at-begin = λ b h p e. tt; at-probe = λ b h p z. tt }
 
 pub next-stands : (b : Bus) → Standing b → (c : Call) → Standing (next machine b c)
 next-stands b h c = next-keeps (λ b. Unit {0}) anything b c h tt .0
 
+-- also under a step as paper 01 has it
+pub step-stands : (b : Bus) → Standing b → Standing (step b .1)
+step-stands b h = subst (λ (r : Answer × Bus). Standing (r .1)) (step-made b) (next-stands b h one-step)
+
 -- what a refused set-up hands back stays as it is, whatever is called
 nothing-next : (c : Call) → next machine nothing c ≡ nothing
 nothing-next (admission a) = refl
+nothing-next one-begin = refl
+nothing-next one-probe = refl
 nothing-next one-step = refl
 
 nothing-stays : (calls : List Call) → after machine nothing calls ≡ nothing
@@ -109,21 +161,18 @@ standing-reached r calls = go (accepted-or-nothing r calls)
     go (inr e) = inr e
 
 -- P holds of every reached state, if it holds after set-up and each accepted call keeps it
-pub reach-holds :
-    (P : Bus → Type 0) → P nothing → ((r : Request) → setUp r .0 .refusal ≡ 0 → P (freshBus r))
-    → ((b : Bus) (a : Arrival) → Standing b → P b → admissionRefusal b a ≡ 0 → P (withPacket b a))
-    → ((b : Bus) → Standing b → P b → stepRefusal b ≡ 0 → P (probe (opened b) .1)) → (r : Request) (calls : List Call) → P (reach machine r calls)
-reach-holds P p₀ p₁ p₂ p₃ r calls = go (accepted-or-nothing r calls)
+pub reach-holds : (P : Bus → Type 0) → P nothing → Keeps P → (r : Request) (calls : List Call) → P (reach machine r calls)
+reach-holds P empty keeps r calls = go (accepted-or-nothing r calls)
   where
     go : (setUp r .0 .refusal ≡ 0) ⊎ (reach machine r calls ≡ nothing) → P (reach machine r calls)
-    go (inl z) = accepted-keeps P (record { at-set-up = p₁; at-admission = p₂; at-step = p₃ }) r calls z .1
-    go (inr e) = subst P (sym e) p₀
+    go (inl z) = accepted-keeps P keeps r calls z .1
+    go (inr e) = subst P (sym e) empty
 
 -- ---- engines that meet demand 2
 
 -- the machine is one of them
 pub demand2-machine : Demand2 machine
-demand2-machine = record { setUps = λ r. refl; calls = λ r calls. refl }
+demand2-machine = record { setUps = λ r. refl; calls = λ r calls own. refl }
 
 -- calls after calls
 pub after-more : (E : Engine) (s : E .State) (calls later : List Call) → after E s (calls ++ later) ≡ after E (after E s calls) later
@@ -135,14 +184,125 @@ replies-more : (E : Engine) (s : E .State) (calls later : List Call) → drop (l
 replies-more E s [] later = refl
 replies-more E s (c ∷ calls) later = replies-more E (next E s c) calls later
 
+-- no begin and no probe is a step
+begin-own : OwnCall one-begin
+begin-own e = let z : _≡_ {A = ℕ} 0 1 = cc in omega arith
+
+probe-own : OwnCall one-probe
+probe-own e = let z : _≡_ {A = ℕ} 0 1 = cc in omega arith
+
+admission-own : (a : Arrival) → OwnCall (admission a)
+admission-own a e = let z : _≡_ {A = ℕ} 0 1 = cc in omega arith
+
+-- The engine E and the machine, after the same admissions, begins and probes.
+module _ (E : Engine) (meets : Demand2 E) (r : Request) where
+  record Abreast (s : E .State) (b : Bus) : Type 0 where
+    calls : List Call
+    own : All OwnCall calls
+    engine : reach E r calls ≡ s
+    bus : reach machine r calls ≡ b
+
+  -- after more such calls
+  abreast-more : {s : E .State} {b : Bus} → Abreast s b → (later : List Call) → All OwnCall later → Abreast (after E s later) (after machine b later)
+  abreast-more h later own =
+      record {
+        calls = h .calls ++ later;
+        own = λ c i. elim (among-append (h .calls) i) [ inl j ↦ h .own c j | inr j ↦ own c j ];
+        engine = after-more E (E .setUp r .1) (h .calls) later ∙ ap (λ t. after E t later) (h .engine);
+        bus = after-more machine (setUp r .1) (h .calls) later ∙ ap (λ t. after machine t later) (h .bus);
+      }
+
+  replies-same : {s : E .State} {b : Bus} → Abreast s b → (later : List Call) → All OwnCall later → replies E s later ≡ replies machine b later
+  replies-same {s} {b} h later own =
+      ap (λ t. replies E t later) (sym (h .engine))
+      ∙ sym (replies-more E (E .setUp r .1) (h .calls) later)
+      ∙ ap (drop (length (h .calls))) (meets .calls r (h .calls ++ later) (λ c i. elim (among-append (h .calls) i) [ inl j ↦ h .own c j | inr j ↦ own c j ]))
+      ∙ replies-more machine (setUp r .1) (h .calls) later
+      ∙ ap (λ t. replies machine t later) (h .bus)
+
+  -- one call of its own
+  one-own : (c : Call) → OwnCall c → All OwnCall (c ∷ [])
+  one-own c own = all-cons c own (all-nil OwnCall)
+
+  probe-same : {s : E .State} {b : Bus} → Abreast s b → E .probe s .0 ≡ probeCall b .0
+  probe-same h = ap (λ rs. getD (probesIn rs) 0 (refusedAnswer 0)) (replies-same h (one-probe ∷ []) (one-own one-probe probe-own))
+
+  begin-same : {s : E .State} {b : Bus} → Abreast s b → E .begin s .0 ≡ beginCall b .0
+  begin-same h = ap (λ rs. getD (beginsIn rs) 0 (refusedBegun 0)) (replies-same h (one-begin ∷ []) (one-own one-begin begin-own))
+
+  -- a step is answered as the machine's, and leaves them abreast
+  abbrev Stays : Answer × E .State → Answer × Bus → Type 0
+  Stays x y = (x .0 ≡ y .0) × Abreast (x .1) (y .1)
+
+  step-same : {s : E .State} {b : Bus} → Abreast s b → Stays (stepOf E s) (stepOf machine b)
+  step-same {s} {b} h = first (eqb (E .probe s .0 .refusal) 26) (eqb (probeCall b .0 .refusal) 26) (ap (λ (a : Answer). eqb (a .refusal) 26) (probe-same h))
+    where
+      begun : Abreast (E .begin s .1) (beginCall b .1)
+      begun = abreast-more h (one-begin ∷ []) (one-own one-begin begin-own)
+
+      after-both : Abreast (E .probe (E .begin s .1) .1) (probeCall (beginCall b .1) .1)
+      after-both = abreast-more begun (one-probe ∷ []) (one-own one-probe probe-own)
+
+      drops : E .begin s .0 .drops ≡ beginCall b .0 .drops
+      drops = ap (λ (o : Begun). o .drops) (begin-same h)
+
+      third :
+          (t u : Bool) → t ≡ u
+          → Stays
+          (cond t (dropping (E .begin s .0 .drops) (E .probe (E .begin s .1) .0), E .probe (E .begin s .1) .1) (refusedAnswer (E .probe (E .begin s .1) .0 .refusal), s))
+          (cond u (dropping (beginCall b .0 .drops) (probeCall (beginCall b .1) .0), probeCall (beginCall b .1) .1) (refusedAnswer (probeCall (beginCall b .1) .0 .refusal), b))
+      third true true e = (ap₂ dropping drops (probe-same begun), after-both)
+      third true false e = clash refl e
+      third false true e = clash e refl
+      third false false e = (ap (λ (a : Answer). refusedAnswer (a .refusal)) (probe-same begun), h)
+
+      second :
+          (t u : Bool) → t ≡ u
+          → Stays
+          (cond t (probedAfter s (E .begin s .0 .drops) (E .probe (E .begin s .1))) (refusedAnswer (E .begin s .0 .refusal), s))
+          (cond u (probedAfter b (beginCall b .0 .drops) (probeCall (beginCall b .1))) (refusedAnswer (beginCall b .0 .refusal), b))
+      second true true e =
+          third (eqb (E .probe (E .begin s .1) .0 .refusal) 0) (eqb (probeCall (beginCall b .1) .0 .refusal) 0)
+          (ap (λ (a : Answer). eqb (a .refusal) 0) (probe-same begun))
+      second true false e = clash refl e
+      second false true e = clash e refl
+      second false false e = (ap (λ (o : Begun). refusedAnswer (o .refusal)) (begin-same h), h)
+
+      first : (t u : Bool) → t ≡ u → Stays (cond t (begunThen E s (E .begin s)) (E .probe s)) (cond u (begunThen machine b (beginCall b)) (probeCall b))
+      first true true e =
+          second (eqb (E .begin s .0 .refusal) 0) (eqb (beginCall b .0 .refusal) 0) (ap (λ (o : Begun). eqb (o .refusal) 0) (begin-same h))
+      first true false e = clash refl e
+      first false true e = clash e refl
+      first false false e = (probe-same h, abreast-more h (one-probe ∷ []) (one-own one-probe probe-own))
+
+  -- any call
+  call-same : {s : E .State} {b : Bus} → Abreast s b → (c : Call) → (reply E s c ≡ reply machine b c) × Abreast (next E s c) (next machine b c)
+  call-same h (admission a) =
+      let own = one-own (admission a) (admission-own a) in
+      (ap (λ rs. getD rs 0 (begun (refusedBegun 0))) (replies-same h (admission a ∷ []) own), abreast-more h (admission a ∷ []) own)
+  call-same h one-begin = (ap begun (begin-same h), abreast-more h (one-begin ∷ []) (one-own one-begin begin-own))
+  call-same h one-probe = (ap probed (probe-same h), abreast-more h (one-probe ∷ []) (one-own one-probe probe-own))
+  call-same h one-step = let k = step-same h in (ap probed (k .0), k .1)
+
+  calls-same : {s : E .State} {b : Bus} → Abreast s b → (calls : List Call) → replies E s calls ≡ replies machine b calls
+  calls-same h [] = refl
+  calls-same h (c ∷ calls) = let k = call-same h c in ap₂ _∷_ (k .0) (calls-same (k .1) calls)
+
+  abreast-after : {s : E .State} {b : Bus} → Abreast s b → (calls : List Call) → Abreast (after E s calls) (after machine b calls)
+  abreast-after h [] = h
+  abreast-after h (c ∷ calls) = abreast-after (call-same h c .1) calls
+
+  at-set-up : Abreast (E .setUp r .1) (setUp r .1)
+  at-set-up = record { calls = []; own = all-nil OwnCall; engine = refl; bus = refl }
+
+-- with steps among the calls
+pub stepsAgree : (E : Engine) → Demand2 E → StepsAgree E
+stepsAgree E meets r calls = calls-same E meets r (at-set-up E meets r) calls
+
 pub replies-agree :
     (E : Engine) → Demand2 E → (r : Request) (calls later : List Call) → replies E (reach E r calls) later ≡ replies machine (reach machine r calls) later
-replies-agree E d r calls later =
-    sym (replies-more E (E .setUp r .1) calls later) ∙ ap (drop (length calls)) (d .calls r (calls ++ later)) ∙ replies-more machine (setUp r .1) calls later
+replies-agree E meets r calls later = calls-same E meets r (abreast-after E meets r (at-set-up E meets r) calls) later
 
 pub answers-agree :
     (E : Engine) → Demand2 E → (r : Request) (calls later : List Call) → answers E (reach E r calls) later ≡ answers machine (reach machine r calls) later
-answers-agree E d r calls later = ap stepsIn (replies-agree E d r calls later)
-
-pub step-agrees : (E : Engine) → Demand2 E → (r : Request) (calls : List Call) → E .step (reach E r calls) .0 ≡ step (reach machine r calls) .0
-step-agrees E d r calls = ap (λ said. getD said 0 (refusedAnswer 0)) (answers-agree E d r calls (one-step ∷ []))
+answers-agree E d r calls later = ap probesIn (replies-agree E d r calls later)

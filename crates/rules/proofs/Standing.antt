@@ -2,7 +2,7 @@
 use Prim.Native.Nat.{ℕ, suc, _+_, _≤_, _<_}
 use mathlib.Core.Path.{_≡_, refl, sym, ap, _∙_, subst}
 use mathlib.Core.Logic.{inl, inr}
-use mathlib.Core.Bool.{Bool, true, false, cond}
+use mathlib.Core.Bool.{Bool, true, false, not, cond}
 use mathlib.Core.Option.{Option, none, some}
 use mathlib.Core.List.{List, [], _∷_, _++_, map}
 use native.Mathlib.Nat.{lt-of-not-le}
@@ -10,19 +10,20 @@ use native.Mathlib.Omega.{arith}
 use lib.Dec.{ltb, eqb}
 use lib.ListN.{length, take, length-map}
 use lib.Seq.{take-all}
-use borrow.Author.Tests.{eqb-true, eq-eqb}
+use borrow.Author.Tests.{eqb-true, eq-eqb, le-ltb}
 use Rattle.window.specs.declared.Window.{Window}
 use Rattle.window.specs.Splitting.{placed}
-use Rattle.rules.specs.Lists.{each-of, Among, at-head, All, Some, has, Distinct}
+use Rattle.rules.specs.Lists.{each-of, Among, at-head, All, Some, has, Distinct, firstOf}
 use Rattle.rules.specs.Bus.{late, most-stations, least-space, most-space, places, most-step, longest-packet, clock-end, last-slot, most-admitted, Discipline, PRI, RTDG, RTVC, code, Packet, Offer, Station, Contention, Bus, nothing, waiting, numbers}
 use Rattle.rules.specs.SetUp.{Asked, Request, fine, rowTests, setUpTests, setUpVerdict, freshBus, setUp}
 use Rattle.rules.specs.Standing.{askedFor, value-fits, length-fits, packet-fits, rising, same-packet, parameter-fits, offer-stands, station-stands, last-stands, window-stands, contention-stands, stands, ValueFits, PacketStands, Rising, ParameterFits, OfferStands, StationStands, LastStands, WindowStands, ContentionStands, Standing}
 use Rattle.rules.specs.Admission.{Arrival, Admitted, admissionTests, admissionRefusal, withPacket, admit}
+use Rattle.rules.specs.Begin.{begin}
 use Rattle.rules.specs.Probe.{Answer, probe, refusedAnswer}
-use Rattle.rules.specs.Step.{opened, stepTests, stepRefusal, step}
-use Rattle.rules.specs.Conditions.{StepOutside, rowConditions, setUpConditions, Late, admissionConditions, stepConditions}
+use Rattle.rules.specs.Step.{is-under-way, Begun, refusedBegun, begunAnswer, beginTests, beginRefusal, beginCall, probeTests, probeRefusal, probedIn, probeCall, openedBy, opened, stepTests, stepRefusal, step}
+use Rattle.rules.specs.Conditions.{StepOutside, rowConditions, setUpConditions, Late, admissionConditions, beginConditions, probeConditions, stepConditions}
 use Rattle.rules.proofs.Laws.{clash, among-left, among-right, all-cons, all-nil, map-from, map-into, map-map}
-use Rattle.rules.proofs.Tests.{Whether, holds, fails, stable, decides, in-words, negated, negated-twice, both, one-of, by-case, below, at-most, equal, out-of, inside, for-each, for-some, for-none, is-among, none-twice, Tried, done, _then_, NoneHolds, none-held}
+use Rattle.rules.proofs.Tests.{Whether, holds, fails, stable, told, decides, in-words, negated, negated-twice, both, one-of, by-case, below, at-most, equal, out-of, inside, for-each, for-some, for-none, is-among, none-twice, Tried, done, _then_, NoneHolds, none-held}
 
 -- ---- the test is the conditions
 
@@ -168,6 +169,21 @@ admission-tried b a =
     then for-some (λ s. both (equal (a .address) (s .address)) (at-most _ (length (s .queue)))) (b .stations)
     then at-most _ (b .admitted)
     then done
+
+-- a contention is under way, or none is
+under-way-whether : (c : Option Contention) → Whether (¬ (c ≡ none)) (is-under-way c)
+under-way-whether none = fails (λ n. n refl)
+under-way-whether (some c) = holds (λ e. let z : _≡_ {A = ℕ} 0 1 = cc in omega arith)
+
+none-whether : (c : Option Contention) → Whether (c ≡ none) (not (is-under-way c))
+none-whether none = holds refl
+none-whether (some c) = fails (λ e. let z : _≡_ {A = ℕ} 0 1 = cc in omega arith)
+
+pub begin-tried : (b : Bus) → Tried (beginTests b) (beginConditions b)
+begin-tried b = negated (stands-exactly b) then under-way-whether (b .contention) then done
+
+pub probe-tried : (b : Bus) → Tried (probeTests b) (probeConditions b)
+probe-tried b = negated (stands-exactly b) then none-whether (b .contention) then below last-slot (b .clock) then done
 
 pub step-tried : (b : Bus) → Tried (stepTests b) (stepConditions b)
 step-tried b = negated (stands-exactly b) then below last-slot (b .clock) then done
@@ -318,6 +334,53 @@ admit-is b a e =
     ap
     (λ t. cond t (record { refusal = 0; number = suc (b .admitted) }, withPacket b a) (record { refusal = admissionRefusal b a; number = 0 }, b))
     (eq-eqb (admissionRefusal b a) 0 e)
+
+pub accepted-begin : (b : Bus) → beginCall b .0 .refusal ≡ 0 → beginRefusal b ≡ 0
+accepted-begin b = is-accepted (λ (x : Begun × Bus). x .0 .refusal) (beginRefusal b) _ _ refl
+
+pub begin-accepted : (b : Bus) → beginRefusal b ≡ 0 → Standing b × (b .contention ≡ none)
+begin-accepted b e =
+    let passed = none-held 0 (λ n. n) (begin-tried b) refl e in
+    (stable (stands-exactly b) (passed .0), stable (none-whether (b .contention)) (passed .1 .0))
+
+-- and it is accepted there
+pub begin-accepts : (b : Bus) → Standing b → b .contention ≡ none → beginRefusal b ≡ 0
+begin-accepts b h e = rw (told (stands-exactly b) h, e)
+
+pub begin-is : (b : Bus) → beginRefusal b ≡ 0 → beginCall b ≡ (begunAnswer b, begin b)
+begin-is b e = ap (λ t. cond t (begunAnswer b, begin b) (refusedBegun (beginRefusal b), b)) (eq-eqb (beginRefusal b) 0 e)
+
+pub accepted-probe : (b : Bus) → probeCall b .0 .refusal ≡ 0 → probeRefusal b ≡ 0
+accepted-probe b = is-accepted (λ (x : Answer × Bus). x .0 .refusal) (probeRefusal b) _ _ refl
+
+-- while a contention is under way a probe is a step: the same refuses it, and it probes the same slot
+pub probe-step : (b : Bus) → ¬ (b .contention ≡ none) → probeCall b ≡ step b
+probe-step b = go (b .contention)
+  where
+    go :
+        (c : Option Contention) → ¬ (c ≡ none)
+        → (let n = firstOf 0 ((1, not (stands b)) ∷ (26, not (is-under-way c)) ∷ (17, ltb last-slot (b .clock)) ∷ []) in
+        cond (eqb n 0) (probedIn b c) (refusedAnswer n, b))
+        ≡ cond (eqb (stepRefusal b) 0) (probe (openedBy b c)) (refusedAnswer (stepRefusal b), b)
+    go none n = absurd (n refl)
+    go (some c) n = refl
+
+-- the slot that it probes
+pub probed-opened : (b : Bus) → ¬ (b .contention ≡ none) → probedIn b (b .contention) ≡ probe (opened b)
+probed-opened b = go (b .contention)
+  where
+    go : (c : Option Contention) → ¬ (c ≡ none) → probedIn b c ≡ probe (openedBy b c)
+    go none n = absurd (n refl)
+    go (some c) n = refl
+
+-- an accepted probe is an accepted step in a contention under way
+pub probe-accepted : (b : Bus) → probeRefusal b ≡ 0 → (¬ (b .contention ≡ none)) × (stepRefusal b ≡ 0)
+probe-accepted b e =
+    let passed = none-held 0 (λ n. n) (probe-tried b) refl e in
+    (passed .1 .0, rw (told (stands-exactly b) (stable (stands-exactly b) (passed .0)), lt-ltb-not (passed .1 .1 .0)))
+  where
+    lt-ltb-not : ¬ (last-slot < b .clock) → ltb last-slot (b .clock) ≡ false
+    lt-ltb-not n = le-ltb last-slot (b .clock) (omega arith)
 
 pub record StepAccepted (b : Bus) : Type 0 where
   pub standing : Standing b

@@ -1,7 +1,7 @@
 -- Waits, counted from replies: each packet that waits was admitted at its admission slot, by the admission that answered its number, and a
 -- success waited from there to the slot probed. Assumes nothing.
-use Prim.Native.Nat.{ℕ, zero, suc, _+_, _-_, _≤_, _<_}
-use mathlib.Core.Path.{_≡_, refl, sym, ap, _∙_, subst, subst₂}
+use Prim.Native.Nat.{ℕ, zero, suc, _+_, _≤_, _<_}
+use mathlib.Core.Path.{_≡_, refl, sym, _∙_, subst, subst₂}
 use mathlib.Core.Logic.{_⊎_, inl, inr}
 use mathlib.Core.Bool.{Bool, true, false, not, cond}
 use mathlib.Core.Option.{Option, none, some}
@@ -16,19 +16,19 @@ use Rattle.rules.specs.Lists.{keep, total, countUp, Among, at-head, in-t
 use Rattle.rules.specs.Bus.{Packet, Station, Contention, Bus, nothing}
 use Rattle.rules.specs.SetUp.{Asked, Request, setUpVerdict, freshStation, freshBus, setUp}
 use Rattle.rules.specs.Standing.{Standing}
-use Rattle.rules.specs.Admission.{Arrival, Admitted, named, newPacket, queued, joined, withPacket}
+use Rattle.rules.specs.Admission.{Arrival, named, newPacket, queued, joined, withPacket}
 use Rattle.rules.specs.Begin.{entered}
-use Rattle.rules.specs.Probe.{Contender, Answer, refusedAnswer, Open, success, left, withdrawn, unheard, heard, probe}
-use Rattle.rules.specs.Step.{openedBy, opened, stepRefusal, step}
-use Rattle.rules.specs.Engine.{Engine, machine, Call, Reply, admitted, stepped, reply, next, after, replies, reach}
+use Rattle.rules.specs.Probe.{Contender, Answer, Open, transmitters, success, left, withdrawn, unheard, heard, probe}
+use Rattle.rules.specs.Step.{openedBy, opened, stepRefusal}
+use Rattle.rules.specs.Engine.{Engine, machine, Call, Reply, next, after, replies, reach}
 use Rattle.rules.specs.Demands.{Demand2, adds-admitted, numbersAnswered, slotsBefore, Waited, WaitsAreTrue, transmittersAt}
 use Rattle.rules.proofs.Laws.{among-append, among-none, map-from, keep-from}
 use Rattle.rules.proofs.Keeps.{opened-stands, opened-contention, opened-same, Sender, sender}
-use Rattle.rules.proofs.Standing.{step-accepted, step-is}
-use Rattle.rules.proofs.Reach.{Does, refuses, admits, holds, probes-one, does, demand2-machine, replies-agree, step-agrees}
+use Rattle.rules.proofs.Standing.{step-accepted}
+use Rattle.rules.proofs.Reach.{outcome, answer-cases, demand2-machine, replies-agree, answers-agree}
 use Rattle.rules.proofs.Counts.{step-rise, fresh-zero, countsAreTrue}
 use Rattle.rules.proofs.Numbering.{calls-counted}
-use Rattle.rules.proofs.Least.{silent-idle, sent-accepted}
+use Rattle.rules.proofs.Least.{silent-idle}
 
 -- ---- packets that wait
 
@@ -101,56 +101,40 @@ above-admitted {k} b calls i = counted-in (suc (b .admitted)) (total adds-admitt
 since-later :
     (p : Packet) (b : Bus) (c : Call) (calls : List Call) → Since (next machine b c .clock) (replies machine (next machine b c) calls) p
     → Since (b .clock) (replies machine b (c ∷ calls)) p
-since-later p b c calls = go c (does b c)
-  where
-    go :
-        (k : Call) → Does b k → Since (next machine b k .clock) (replies machine (next machine b k) calls) p
-        → Since (b .clock) (reply machine b k ∷ replies machine (next machine b k) calls) p
-    go k (refuses a n z e) =
-        subst
-        (λ (o : Admitted × Bus). Since (o .1 .clock) (replies machine (o .1) calls) p → Since (b .clock) (admitted (o .0) ∷ replies machine (o .1) calls) p)
-        (sym e)
-        (rw (ne-eqb n 0 z) (λ h. h))
-    go k (admits a z e) =
-        subst
-        (λ (o : Admitted × Bus). Since (o .1 .clock) (replies machine (o .1) calls) p → Since (b .clock) (admitted (o .0) ∷ replies machine (o .1) calls) p)
-        (sym e)
-        (λ h.
-        let later = above-admitted (withPacket b a) calls (h .0) in
-        let other = ne-eqb (suc (b .admitted)) (p .number) (λ (e : suc (b .admitted) ≡ p .number). omega arith) in
-        (in-tail (h .0), rw other (h .1)))
-    go k (holds n z e) =
-        subst
-        (λ (o : Answer × Bus). Since (o .1 .clock) (replies machine (o .1) calls) p → Since (b .clock) (stepped (o .0) ∷ replies machine (o .1) calls) p)
-        (sym e)
-        (rw (ne-eqb n 0 z) (λ h. (h .0, omega (arith, h .1))))
-    go k (probes-one z a e) =
-        subst
-        (λ (o : Answer × Bus). Since (o .1 .clock) (replies machine (o .1) calls) p → Since (b .clock) (stepped (o .0) ∷ replies machine (o .1) calls) p)
-        (sym e)
-        (λ h. let on = step-rise b .in-clock in (h .0, omega (arith, h .1)))
+since-later p b c calls =
+    outcome b (λ r b′. Since (b′ .clock) (replies machine b′ calls) p → Since (b .clock) (r ∷ replies machine b′ calls) p)
+    (record {
+      refuses = λ n z. rw (ne-eqb n 0 z) (λ h. h);
+      admits = λ a z h.
+          let later = above-admitted (withPacket b a) calls (h .0) in
+          let other = ne-eqb (suc (b .admitted)) (p .number) (λ (e : suc (b .admitted) ≡ p .number). omega arith) in
+          (in-tail (h .0), rw other (h .1));
+      refuses-begin = λ n z h. h;
+      begins = λ z h. h;
+      refuses-probe = λ n z. rw (ne-eqb n 0 z) (λ h. (h .0, omega (arith, h .1)));
+      probes-one = λ z h. let on = step-rise b .in-clock in (h .0, omega (arith, h .1));
+    })
+    c
 
 -- a packet that waits after one call waited before it, or was admitted by it
 pub held-next :
     {p : Packet} (b : Bus) (c : Call) (calls : List Call) → Held p (next machine b c .stations)
     → Held p (b .stations) ⊎ Since (b .clock) (replies machine b (c ∷ calls)) p
-held-next {p} b c calls = go c (does b c)
-  where
-    go : (k : Call) → Does b k → Held p (next machine b k .stations) → Held p (b .stations) ⊎ Since (b .clock) (replies machine b (k ∷ calls)) p
-    go k (refuses a n z e) h = inl (subst (λ (o : Admitted × Bus). Held p (o .1 .stations)) e h)
-    go k (admits a z e) h =
-        elim (joined-held b a (subst (λ (o : Admitted × Bus). Held p (o .1 .stations)) e h)) [
-          | inl old ↦ inl old
-          | inr new ↦
-              inr
-              (subst (λ (o : Admitted × Bus). Since (b .clock) (admitted (o .0) ∷ replies machine (o .1) calls) p) (sym e)
-              (rw new (rw (eq-eqb (suc (b .admitted)) (suc (b .admitted)) refl) (at-head refl, omega arith))))
-        ]
-    go k (holds n z e) h = inl (subst (λ (o : Answer × Bus). Held p (o .1 .stations)) e h)
-    go k (probes-one z a e) h =
-        inl
-        (opened-held b (b .contention)
-        (heard-held (opened b) (transmittersAt b) (subst (λ (o : Answer × Bus). Held p (o .1 .stations)) e h)))
+held-next {p} b c calls =
+    outcome b (λ r b′. Held p (b′ .stations) → Held p (b .stations) ⊎ Since (b .clock) (r ∷ replies machine b′ calls) p)
+    (record {
+      refuses = λ n z h. inl h;
+      admits = λ a z h.
+          elim (joined-held b a h) [
+            | inl old ↦ inl old
+            | inr new ↦ inr (rw new (rw (eq-eqb (suc (b .admitted)) (suc (b .admitted)) refl) (at-head refl, omega arith)))
+          ];
+      refuses-begin = λ n z h. inl h;
+      begins = λ z h. inl (opened-held b none h);
+      refuses-probe = λ n z h. inl h;
+      probes-one = λ z h. inl (opened-held b (b .contention) (heard-held (opened b) (transmittersAt b) h));
+    })
+    c
 
 -- a packet that waits after calls waited before them, or was admitted among them
 pub held-since :
@@ -187,14 +171,10 @@ pub record Names (b : Bus) (a : Answer) : Type 0 where
   pub slot : a .slot ≡ b .clock
   pub wait : a .slot ≡ packet .admission .0 + a .wait
 
-pub success-names : (b : Bus) → step b .0 .event ≡ success → Names b (step b .0)
-success-names b won =
-    subst (λ (r : Answer × Bus). Names b (r .0)) (sym (step-is b ok))
-    (go (transmittersAt b) (λ x i. sender (opened b .bus) (opened b .contention) x stands (opened-contention b) i) (sym (ap (λ (r : Answer × Bus). r .0 .event) (step-is b ok)) ∙ won))
+pub success-names : (b : Bus) → stepRefusal b ≡ 0 → probe (opened b) .0 .event ≡ success → Names b (probe (opened b) .0)
+success-names b ok =
+    go (transmittersAt b) (λ x i. sender (opened b .bus) (opened b .contention) x stands (opened-contention b) i)
   where
-    ok : stepRefusal b ≡ 0
-    ok = sent-accepted b won
-
     stands : Standing (opened b .bus)
     stands = opened-stands b (step-accepted b ok .standing)
 
@@ -216,45 +196,45 @@ success-names b won =
     go (x ∷ y ∷ more) k s = absurd (omega arith)
 
 -- and in an answer without success the wait is 0
-otherwise-none : (b : Bus) → ¬ (step b .0 .event ≡ success) → step b .0 .wait ≡ 0
-otherwise-none b = go (eqb (stepRefusal b) 0)
+otherwise-none : (o : Open) → ¬ (probe o .0 .event ≡ success) → probe o .0 .wait ≡ 0
+otherwise-none o = told (transmitters (o .bus) (o .contention))
   where
-    silent : (o : Open) (side : Side) → unheard o side .0 .wait ≡ 0
-    silent o Left = refl
-    silent o Right = refl
+    silent : (side : Side) → unheard o side .0 .wait ≡ 0
+    silent Left = refl
+    silent Right = refl
 
-    told : (o : Open) (ts : List Contender) → ¬ (heard o ts .0 .event ≡ success) → heard o ts .0 .wait ≡ 0
-    told o [] n = silent o (o .contention .window .side)
-    told o (x ∷ []) n = absurd (n refl)
-    told o (x ∷ y ∷ more) n = refl
+    told : (ts : List Contender) → ¬ (heard o ts .0 .event ≡ success) → heard o ts .0 .wait ≡ 0
+    told [] n = silent (o .contention .window .side)
+    told (x ∷ []) n = absurd (n refl)
+    told (x ∷ y ∷ more) n = refl
 
-    go :
-        (t : Bool) → ¬ (cond t (probe (opened b)) (refusedAnswer (stepRefusal b), b) .0 .event ≡ success)
-        → cond t (probe (opened b)) (refusedAnswer (stepRefusal b), b) .0 .wait ≡ 0
-    go true n = told (opened b) (transmittersAt b) n
-    go false n = refl
-
-machine-waits : WaitsAreTrue machine
-machine-waits =
+-- what the replies since set-up tell of a success
+success-waited :
+    (r : Request) (calls : List Call) → stepRefusal (reach machine r calls) ≡ 0 → probe (opened (reach machine r calls)) .0 .event ≡ success
+    → Waited (replies machine (setUp r .1) calls) (probe (opened (reach machine r calls)) .0)
+success-waited r calls ok won =
+    let h = success-names (reach machine r calls) ok won in
+    let since = reached-since r calls (h .waits) in
+    let counted = countsAreTrue machine demand2-machine r calls in
     record {
-      succeeds = λ r calls won.
-          let h = success-names (reach machine r calls) won in
-          let since = reached-since r calls (h .waits) in
-          let counted = countsAreTrue machine demand2-machine r calls in
-          record {
-            answered = subst (λ k. Among k (numbersAnswered (replies machine (setUp r .1) calls))) (sym (h .number)) (since .0);
-            probed = h .slot ∙ counted .clock;
-            waited = rw (h .number) (omega (arith, h .wait, since .1));
-          };
-      otherwise = λ r calls n. otherwise-none (reach machine r calls) n;
+      answered = subst (λ k. Among k (numbersAnswered (replies machine (setUp r .1) calls))) (sym (h .number)) (since .0);
+      probed = h .slot ∙ counted .clock;
+      waited = rw (h .number) (omega (arith, h .wait, since .1));
     }
 
 pub waitsAreTrue : (E : Engine) → Demand2 E → WaitsAreTrue E
 waitsAreTrue E d =
     record {
-      succeeds = λ r calls.
-          subst₂ (λ (rs : List Reply) (a : Answer). a .event ≡ success → Waited rs a) (sym (replies-agree E d r [] calls)) (sym (step-agrees E d r calls))
-          (machine-waits .succeeds r calls);
-      otherwise = λ r calls.
-          subst (λ (a : Answer). ¬ (a .event ≡ success) → a .wait ≡ 0) (sym (step-agrees E d r calls)) (machine-waits .otherwise r calls);
+      succeeds = λ r calls c.
+          subst₂ (λ (rs : List Reply) (said : List Answer). All (λ a. a .event ≡ success → Waited rs a) said) (sym (replies-agree E d r [] calls))
+          (sym (answers-agree E d r calls (c ∷ [])))
+          (answer-cases (reach machine r calls) (λ a. a .event ≡ success → Waited (replies machine (setUp r .1) calls) a)
+          (λ n z won. absurd (omega arith))
+          (success-waited r calls)
+          c);
+      otherwise = λ r calls c.
+          subst (All (λ a. ¬ (a .event ≡ success) → a .wait ≡ 0)) (sym (answers-agree E d r calls (c ∷ [])))
+          (answer-cases (reach machine r calls) (λ a. ¬ (a .event ≡ success) → a .wait ≡ 0) (λ n z e. refl)
+          (λ z. otherwise-none (opened (reach machine r calls)))
+          c);
     }

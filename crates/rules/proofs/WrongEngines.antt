@@ -1,24 +1,25 @@
 -- Demand 2 rules out each wrong engine of specs/WrongEngines.antt, by a script of calls to which its replies are not the machine's; demand 3
--- rules out the one that names the first station, that numbers are answers the one that answers one too low, and that waits are true those
--- that count them wrongly. Assumes nothing.
+-- rules out the one that names the first station, that numbers are answers the one that answers one too low, that waits are true those that
+-- count them wrongly, and that nobody joins the one that offers anew. Assumes nothing.
 use Prim.Native.Nat.{ℕ, suc, _+_}
 use mathlib.Core.Path.{_≡_, refl, sym, ap, _∙_}
 use mathlib.Core.Option.{none}
-use mathlib.Core.List.{List, [], _∷_}
+use mathlib.Core.List.{List, [], _∷_, _++_}
 use native.Mathlib.Omega.{arith}
-use lib.Dec.{eqb, lit≤}
+use lib.Dec.{lit≤}
 use lib.ListN.{take}
-use borrow.Author.Tests.{eqb-true}
 use Rattle.window.specs.Splitting.{exponentOf, isPower}
-use Rattle.rules.specs.Lists.{total, All, at-head, in-tail}
+use Rattle.rules.specs.Lists.{total, at-head, in-tail}
 use Rattle.rules.specs.Bus.{Packet, Station}
 use Rattle.rules.specs.SetUp.{Request, setUp}
+use Rattle.rules.specs.Admission.{Arrival}
 use Rattle.rules.specs.Probe.{Answer}
-use Rattle.rules.specs.Engine.{Engine, machine, Call, Reply, reach, stepsIn, answers}
-use Rattle.rules.specs.Demands.{Demand2, adds-lost, numbersAnswered, NumbersAreAnswers, WaitsAreTrue, Served, Demand3}
-use Rattle.rules.specs.Examples.{arrives, steps, listing, circuits, apart, admittedLater}
-use Rattle.rules.specs.WrongEngines.{refusesAll, refusesCalls, untouched, oneTooLow, alwaysIdle, madeUpDrops, madeUpSent, lowByte, twoForOne, transmittersKept, madeUpProbes, firstStation, waitToTheEnd, waitOfTheContention, waitFromTheArrival, arrivalTimes}
-use Rattle.rules.proofs.Laws.{clash, each-view}
+use Rattle.rules.specs.Engine.{Engine, machine, Call, one-begin, one-probe, one-step, Reply, reach, probesIn, beginsIn, answers}
+use Rattle.rules.specs.Demands.{Demand2, adds-lost, numbersAnswered, NumbersAreAnswers, WaitsAreTrue, NobodyJoins, Served, Demand3}
+use Rattle.rules.specs.Examples.{arrives, steps, listing, rtdg, circuits, apart, admittedLater}
+use Rattle.rules.specs.WrongEngines.{refusesAll, refusesCalls, untouched, oneTooLow, alwaysIdle, madeUpDrops, madeUpSent, lowByte, twoForOne, transmittersKept, madeUpProbes, firstStation, waitToTheEnd, waitOfTheContention, waitFromTheArrival, arrivalTimes, dropsLater, offersAnew, beginTakesASlot}
+use Rattle.rules.proofs.Laws.{clash}
+use Rattle.rules.proofs.Reach.{stepsAgree}
 use Rattle.rules.proofs.Computing.{Brings, Same, number, bus, test, pair, computed, bus-same, test-same, number-same, pair-same, computed-replies}
 
 -- A number read off the replies to a script is the machine's, both computed state by state.
@@ -28,16 +29,16 @@ agrees E bring same demand read r calls =
     ap
     read
     (computed-replies E bring same (E .setUp r .1) calls
-    ∙ demand .calls r calls
+    ∙ stepsAgree E demand r calls
     ∙ sym (computed-replies machine bus bus-same (setUp r .1) calls))
 
 -- read off replies, each summed: the events (0 idle, 1 collision, 2 success), the winners' addresses, the drops, the numbers that admissions
--- answer, the refusals of steps, the waits
+-- answer, the refusals of probes, the waits, the drops that begins answer, the slots probed
 events : List Reply → ℕ
-events rs = total (λ a. a .event) (stepsIn rs)
+events rs = total (λ a. a .event) (probesIn rs)
 
 winners : List Reply → ℕ
-winners rs = total (λ a. a .address) (stepsIn rs)
+winners rs = total (λ a. a .address) (probesIn rs)
 
 drops : List Reply → ℕ
 drops rs = total adds-lost rs
@@ -46,17 +47,23 @@ numbers : List Reply → ℕ
 numbers rs = total (λ n. n) (numbersAnswered rs)
 
 refusals : List Reply → ℕ
-refusals rs = total (λ a. a .refusal) (stepsIn rs)
+refusals rs = total (λ a. a .refusal) (probesIn rs)
 
 waits : List Reply → ℕ
-waits rs = total (λ a. a .wait) (stepsIn rs)
+waits rs = total (λ a. a .wait) (probesIn rs)
+
+begin-drops : List Reply → ℕ
+begin-drops rs = total (λ o. o .drops) (beginsIn rs)
+
+slots : List Reply → ℕ
+slots rs = total (λ a. a .slot) (probesIn rs)
 
 pub refusesAll-wrong : (n : ℕ) → Demand2 (refusesAll n) → ⊥
 refusesAll-wrong n demand = let z : suc n ≡ 0 = ap (λ v. v .refusal) (demand .setUps listing) in omega arith
 
 pub refusesCalls-wrong : (n : ℕ) → Demand2 (refusesCalls n) → ⊥
 unfolding refusals exponentOf isPower
-refusesCalls-wrong n demand = let z : suc n + 0 ≡ 0 = agrees (refusesCalls n) bus bus-same demand refusals listing (steps 1) in omega arith
+refusesCalls-wrong n demand = let z : suc n + 0 ≡ 0 = agrees (refusesCalls n) bus bus-same demand refusals listing (one-begin ∷ one-probe ∷ []) in omega arith
 
 -- the first packet is 1
 pub oneTooLow-wrong : Demand2 oneTooLow → ⊥
@@ -85,7 +92,7 @@ madeUpSent-wrong demand = let z : _≡_ {A = ℕ} 4 2 = agrees madeUpSent bus bu
 -- where there is no packet, none is dropped
 pub madeUpDrops-wrong : Demand2 madeUpDrops → ⊥
 unfolding drops exponentOf isPower
-madeUpDrops-wrong demand = let z : _≡_ {A = ℕ} 1 0 = agrees madeUpDrops bus bus-same demand drops listing (steps 1) in omega arith
+madeUpDrops-wrong demand = let z : _≡_ {A = ℕ} 1 0 = agrees madeUpDrops bus bus-same demand drops listing (one-begin ∷ one-probe ∷ []) in omega arith
 
 -- two packets of unlike priority collide before one is sent
 pub madeUpProbes-wrong : Demand2 madeUpProbes → ⊥
@@ -120,7 +127,7 @@ waitToTheEnd-wrong demand = let z : _≡_ {A = ℕ} 3 0 = agrees waitToTheEnd bu
 
 pub waitToTheEnd-untrue : WaitsAreTrue waitToTheEnd → ⊥
 unfolding exponentOf isPower
-waitToTheEnd-untrue holds = let z : _≡_ {A = ℕ} 0 3 = holds .succeeds listing (arrives 1 0 3 ∷ []) refl .waited in omega arith
+waitToTheEnd-untrue holds = let z : _≡_ {A = ℕ} 0 3 = holds .succeeds listing (arrives 1 0 3 ∷ []) one-step _ (at-head refl) refl .waited in omega arith
 
 -- of two packets of length 1 at one station the second has waited for one slot, though its contention begins as it wins
 pub waitOfTheContention-wrong : Demand2 waitOfTheContention → ⊥
@@ -133,7 +140,7 @@ waitOfTheContention-wrong demand =
 pub waitOfTheContention-untrue : WaitsAreTrue waitOfTheContention → ⊥
 unfolding exponentOf isPower
 waitOfTheContention-untrue holds =
-    let z : _≡_ {A = ℕ} 1 0 = holds .succeeds listing (arrives 1 0 1 ∷ arrives 1 0 1 ∷ steps 1) refl .waited in omega arith
+    let z : _≡_ {A = ℕ} 1 0 = holds .succeeds listing (arrives 1 0 1 ∷ arrives 1 0 1 ∷ steps 1) one-step _ (at-head refl) refl .waited in omega arith
 
 -- of arrivals with times 0 and 1 and lengths 10 and 1 the second is admitted at slot 10, and has waited for no slot
 pub waitFromTheArrival-wrong : Demand2 (waitFromTheArrival arrivalTimes) → ⊥
@@ -143,7 +150,7 @@ waitFromTheArrival-wrong demand =
 
 pub waitFromTheArrival-untrue : WaitsAreTrue (waitFromTheArrival arrivalTimes) → ⊥
 unfolding exponentOf isPower
-waitFromTheArrival-untrue holds = let z : _≡_ {A = ℕ} 10 19 = holds .succeeds listing (take 3 admittedLater) refl .waited in omega arith
+waitFromTheArrival-untrue holds = let z : _≡_ {A = ℕ} 10 19 = holds .succeeds listing (take 3 admittedLater) one-step _ (at-head refl) refl .waited in omega arith
 
 -- 6 wins over 7 in the first contention, and 7 the second, not 5
 pub firstStation-wrong : Demand2 firstStation → ⊥
@@ -171,9 +178,6 @@ firstStation-unfair demand = clash (served .ends (lit≤ tt)) refl
     s : Station
     s = record { address = 7; capability = 3; queue = p ∷ []; offer = none }
 
-    accepted : All (λ a. a .refusal ≡ 0) said
-    accepted a i = eqb-true (a .refusal) 0 (each-view (λ b. eqb (b .refusal) 0) said refl a i)
-
     served : Served 3 2 s p said
     served =
         demand circuits calls (steps 4) s p (record {
@@ -182,5 +186,36 @@ firstStation-unfair demand = clash (served .ends (lit≤ tt)) refl
           rest = [];
           oldest = refl;
           begins = refl;
-          none-refused = accepted;
         })
+
+-- ---- begin and probe
+
+-- what is dropped comes with the begin: latest starts 0 and 1, which have collided, are dropped as the contention at slot 3 begins
+pub dropsLater-wrong : Demand2 dropsLater → ⊥
+unfolding begin-drops exponentOf isPower
+dropsLater-wrong demand =
+    let calls : List Call = arrives 0 0 1 ∷ arrives 1 1 1 ∷ steps 3 ++ (one-begin ∷ []) in
+    let z : _≡_ {A = ℕ} 0 2 = agrees dropsLater (pair bus number) (pair-same bus-same number-same) demand begin-drops (rtdg 2 1) calls in
+    omega arith
+
+-- a packet admitted after the begin does not join: the one that was there is sent, alone
+pub offersAnew-wrong : Demand2 offersAnew → ⊥
+unfolding events exponentOf isPower
+offersAnew-wrong demand =
+    let calls : List Call = arrives 5 2 1 ∷ one-begin ∷ arrives 1 0 1 ∷ one-probe ∷ [] in
+    let z : _≡_ {A = ℕ} 1 2 = agrees offersAnew bus bus-same demand events listing calls in
+    omega arith
+
+-- and by the promise that nobody joins, from its own answers
+pub offersAnew-lets-in : NobodyJoins offersAnew → ⊥
+unfolding exponentOf isPower
+offersAnew-lets-in holds =
+    let a : Arrival = record { address = 1; value = 0; length = 1 } in
+    let z : _≡_ {A = ℕ} 1 2 = ap (total (λ x. x .event)) (holds listing (arrives 5 2 1 ∷ one-begin ∷ []) (a ∷ []) 1) in
+    omega arith
+
+-- a begin takes no slot: the first probe is of the slot in which the contention began
+pub beginTakesASlot-wrong : Demand2 beginTakesASlot → ⊥
+unfolding slots exponentOf isPower
+beginTakesASlot-wrong demand =
+    let z : _≡_ {A = ℕ} 1 0 = agrees beginTakesASlot bus bus-same demand slots listing (arrives 1 0 1 ∷ one-begin ∷ one-probe ∷ []) in omega arith

@@ -3,6 +3,7 @@
 use Prim.Native.Nat.{ℕ, suc, _+_, _≤_, _<_}
 use mathlib.Core.Path.{_≡_}
 use mathlib.Core.Logic.{_⊎_, _≢_}
+use mathlib.Core.Option.{none}
 use mathlib.Core.List.{List, [], _∷_, _++_}
 use lib.ListN.{length, take}
 use Rattle.rules.specs.Lists.{All, Some, Given}
@@ -10,7 +11,7 @@ use Rattle.rules.specs.Bus.{most-stations, least-space, most-space, most
 use Rattle.rules.specs.SetUp.{Asked, Request, Verdict, fine, fault, setUpVerdict}
 use Rattle.rules.specs.Standing.{ValueFits, Standing}
 use Rattle.rules.specs.Admission.{Arrival, admissionRefusal}
-use Rattle.rules.specs.Step.{stepRefusal}
+use Rattle.rules.specs.Step.{beginRefusal, probeRefusal, stepRefusal}
 
 -- outside the range from least to most
 abbrev pub Outside : ℕ → ℕ → ℕ → Type 0
@@ -71,6 +72,14 @@ admissionConditions b a =
     ∷ (16, most-admitted ≤ b .admitted)
     ∷ []
 
+-- '25, begin while one is under way; .. after 1'
+abbrev pub beginConditions : Bus → List (ℕ × Type 0)
+beginConditions b = (1, ¬ Standing b) ∷ (25, ¬ (b .contention ≡ none)) ∷ []
+
+-- '26, probe while none is; .. after 1, and 26 before 17, which belongs to the probe'
+abbrev pub probeConditions : Bus → List (ℕ × Type 0)
+probeConditions b = (1, ¬ Standing b) ∷ (26, b .contention ≡ none) ∷ (17, last-slot < b .clock) ∷ []
+
 -- 'a step tries 1, then 17'
 abbrev pub stepConditions : Bus → List (ℕ × Type 0)
 stepConditions b = (1, ¬ Standing b) ∷ (17, last-slot < b .clock) ∷ []
@@ -79,4 +88,6 @@ stepConditions b = (1, ¬ Standing b) ∷ (17, last-slot < b .clock) ∷ []
 pub record RefusalsExact : Type 0 where
   pub set-up : (r : Request) → Given fine (setUpConditions r) (setUpVerdict r)
   pub admission : (b : Bus) (a : Arrival) → Given 0 (admissionConditions b a) (admissionRefusal b a)
+  pub begin : (b : Bus) → Given 0 (beginConditions b) (beginRefusal b)
+  pub probe : (b : Bus) → Given 0 (probeConditions b) (probeRefusal b)
   pub step : (b : Bus) → Given 0 (stepConditions b) (stepRefusal b)

@@ -6,33 +6,38 @@ use mathlib.Core.Path.{_≡_}
 use mathlib.Core.Logic.{_⊎_, _↔_}
 use mathlib.Core.Bool.{Bool, true, _&&_, cond}
 use mathlib.Core.Option.{Option, none, some}
-use mathlib.Core.List.{List, [], _∷_, map}
+use mathlib.Core.List.{List, [], _∷_, _++_, map}
 use lib.Dec.{eqb}
-use lib.ListN.{length}
+use lib.ListN.{length, replicate}
 use Rattle.window.specs.Splitting.{exponentOf}
 use Rattle.rules.specs.Lists.{bit, keep, count, some-of, total, countUp, Among, All, Distinct}
-use Rattle.rules.specs.Bus.{Discipline, PRI, RTDG, RTVC, Packet, Offer, Station, Contention, Bus, nothing, waiting}
+use Rattle.rules.specs.Bus.{Discipline, PRI, RTDG, RTVC, Packet, Offer, Station, Bus, nothing, waiting}
 use Rattle.rules.specs.SetUp.{Request, setUp}
 use Rattle.rules.specs.Standing.{stands, Standing}
 use Rattle.rules.specs.Admission.{Arrival, Admitted, numbered, queued, admit}
 use Rattle.rules.specs.Begin.{parameterOf, entered}
 use Rattle.rules.specs.Conditions.{Late}
-use Rattle.rules.specs.Probe.{Answer, Contender, able, contenders, transmitters, idle, collision, success, refusedAnswer, waitOf}
-use Rattle.rules.specs.Step.{opened, step}
-use Rattle.rules.specs.Engine.{Engine, machine, Call, Reply, admitted, stepped, replies, reach, admissionsIn, answers}
+use Rattle.rules.specs.Probe.{Answer, Contender, able, contenders, transmitters, idle, collision, success, refusedAnswer, dropping, waitOf}
+use Rattle.rules.specs.Step.{Contends, refusedBegun, beginCall, probeCall, opened, step}
+use Rattle.rules.specs.Engine.{Engine, machine, stepOf, Call, OwnCall, admission, one-probe, Reply, admitted, begun, probed, replies, reach, admissionsIn, answers}
 
 -- ---- demand 2
 
--- 'Each slot's event, winner, drops and clock are those of the window procedure': after any set-up and any calls, the replies are the machine's.
+-- 'Each slot's event, winner, drops and clock are those of the window procedure': after any set-up and any admissions, begins and probes, the
+-- replies are the machine's.
 pub record Demand2 (E : Engine) : Type 0 where
   pub setUps : (r : Request) → E .setUp r .0 ≡ setUp r .0
-  pub calls : (r : Request) (calls : List Call) → replies E (E .setUp r .1) calls ≡ replies machine (setUp r .1) calls
+  pub calls : (r : Request) (calls : List Call) → All OwnCall calls → replies E (E .setUp r .1) calls ≡ replies machine (setUp r .1) calls
+
+-- and so they are with steps among the calls, since steps are made of begins and probes
+abbrev pub StepsAgree : Engine → Type 0
+StepsAgree E = (r : Request) (calls : List Call) → replies E (E .setUp r .1) calls ≡ replies machine (setUp r .1) calls
 
 -- a smaller parameter; 'among equals, the smallest full address'
 abbrev pub Ahead : Contender → Contender → Type 0
 Ahead x y = (x .parameter < y .parameter) ⊎ ((x .parameter ≡ y .parameter) × (x .address ≤ y .address))
 
--- the contenders in the slot that the next step probes
+-- the contenders in the slot that the next probe, or step, probes
 abbrev pub contendersAt : Bus → List Contender
 contendersAt b = contenders (opened b .bus .stations)
 
@@ -54,11 +59,12 @@ pub record Least (b : Bus) (a : Answer) : Type 0 where
   pub length : a .length ≡ winner .packet .length
   pub least : All (λ x. StillAble b x → Ahead winner x) (contendersAt b)
 
--- 'From any state reached from set-up, whoever wins has the smallest parameter ..'. The answer is the engine's, to a step after these calls; the
--- contenders are the machine's, after the same calls: an engine says nothing of contenders. A winner whom the engine made up is no contender.
+-- 'From any state reached from set-up, whoever wins has the smallest parameter ..'. The answer is the engine's, to one call after these calls;
+-- the contenders are the machine's, after the same calls. A winner whom the engine made up is no contender.
 abbrev pub WinnerIsLeast : Engine → Type 0
 WinnerIsLeast E =
-    (r : Request) (calls : List Call) → E .step (reach E r calls) .0 .event ≡ success → Least (reach machine r calls) (E .step (reach E r calls) .0)
+    (r : Request) (calls : List Call) (c : Call)
+    → All (λ a. a .event ≡ success → Least (reach machine r calls) a) (answers E (reach E r calls) (c ∷ []))
 
 -- what an event says of the number n of contenders who transmit
 pub record Heard (n : ℕ) (event : ℕ) : Type 0 where
@@ -66,15 +72,17 @@ pub record Heard (n : ℕ) (event : ℕ) : Type 0 where
   pub several : (event ≡ collision) ↔ (2 ≤ n)
   pub none-sends : (event ≡ idle) ↔ (n ≡ 0)
 
--- An accepted step's event says how many transmit, in any state whatever: no collision is booked as a lone win.
-abbrev pub NoFalseWin : Type 0
-NoFalseWin = (b : Bus) → step b .0 .refusal ≡ 0 → Heard (length (transmittersAt b)) (step b .0 .event)
+-- the events of accepted answers say how many transmit
+abbrev pub TrueEvents : Bus → List Answer → Type 0
+TrueEvents b said = All (λ a. a .refusal ≡ 0 → Heard (length (transmittersAt b)) (a .event)) said
 
--- and, of an engine, its event in reached states
+-- in any state whatever: no collision is booked as a lone win
+abbrev pub NoFalseWin : Type 0
+NoFalseWin = (b : Bus) (c : Call) → TrueEvents b (answers machine b (c ∷ []))
+
+-- and, of an engine, in reached states
 abbrev pub EventsAreTrue : Engine → Type 0
-EventsAreTrue E =
-    (r : Request) (calls : List Call) → E .step (reach E r calls) .0 .refusal ≡ 0
-    → Heard (length (transmittersAt (reach machine r calls))) (E .step (reach E r calls) .0 .event)
+EventsAreTrue E = (r : Request) (calls : List Call) (c : Call) → TrueEvents (reach machine r calls) (answers E (reach E r calls) (c ∷ []))
 
 -- 'stations 0007 and 0107 became one sender': two stations of a set-up never share a full address
 abbrev pub AddressesApart : Type 0
@@ -90,6 +98,8 @@ StandsExactly = (b : Bus) → (stands b ≡ true) ↔ Standing b
 pub record KeepsStanding : Type 0 where
   pub set-up : (r : Request) → setUp r .0 .refusal ≡ 0 → Standing (setUp r .1)
   pub admission : (b : Bus) (a : Arrival) → admit b a .0 .refusal ≡ 0 → Standing (admit b a .1)
+  pub begin : (b : Bus) → beginCall b .0 .refusal ≡ 0 → Standing (beginCall b .1)
+  pub probe : (b : Bus) → probeCall b .0 .refusal ≡ 0 → Standing (probeCall b .1)
   pub step : (b : Bus) → step b .0 .refusal ≡ 0 → Standing (step b .1)
 
 -- so that no call after an accepted set-up is refused with 1
@@ -101,8 +111,30 @@ ReachedStands = (r : Request) (calls : List Call) → setUp r .0 .refusal ≡ 0 
 pub record HandsBack : Type 0 where
   pub set-up : (r : Request) → ¬ (setUp r .0 .refusal ≡ 0) → setUp r .1 ≡ nothing
   pub admission : (b : Bus) (a : Arrival) → ¬ (admit b a .0 .refusal ≡ 0) → admit b a ≡ (record { refusal = admit b a .0 .refusal; number = 0 }, b)
+  pub begin : (b : Bus) → ¬ (beginCall b .0 .refusal ≡ 0) → beginCall b ≡ (refusedBegun (beginCall b .0 .refusal), b)
+  pub probe : (b : Bus) → ¬ (probeCall b .0 .refusal ≡ 0) → probeCall b ≡ (refusedAnswer (probeCall b .0 .refusal), b)
   pub step : (b : Bus) → ¬ (step b .0 .refusal ≡ 0) → step b ≡ (refusedAnswer (step b .0 .refusal), b)
   pub caught : ¬ Standing nothing
+
+-- ---- a step is a begin and a probe (P5)
+
+-- 'Split the step into beginning a contention .. and probing one slot.' An accepted step is a begin, where none is under way, and a probe; its
+-- answer is the probe's with the begin's drops. Where one is under way a step, refused or not, is a probe. In all, the step of paper 01 is the
+-- one that is made of the machine's begin and probe.
+pub record StepIsBoth : Type 0 where
+  pub begins :
+      (b : Bus) → b .contention ≡ none → step b .0 .refusal ≡ 0
+      → (beginCall b .0 .refusal ≡ 0)
+      × (probeCall (beginCall b .1) .0 .refusal ≡ 0)
+      × (step b ≡ (dropping (beginCall b .0 .drops) (probeCall (beginCall b .1) .0), probeCall (beginCall b .1) .1))
+  pub goes-on : (b : Bus) → ¬ (b .contention ≡ none) → step b ≡ probeCall b
+  pub made : (b : Bus) → stepOf machine b ≡ step b
+  -- a probe of its own drops nothing
+  pub no-drops : (b : Bus) → probeCall b .0 .drops ≡ 0
+
+-- '17, which belongs to the probe': a begin is refused at no clock of a state that stands, if no contention is under way; and the clock stays
+abbrev pub BeginsAtAnyClock : Type 0
+BeginsAtAnyClock = (b : Bus) → Standing b → b .contention ≡ none → (beginCall b .0 .refusal ≡ 0) × (beginCall b .1 .clock ≡ b .clock)
 
 -- ---- offers and contenders
 
@@ -141,16 +173,27 @@ OffersBy b s (some o) = Offered b s o
 abbrev pub OffersTheFirst : Type 0
 OffersTheFirst = (b : Bus) (s : Station) → OffersBy b s (entered b s .offer)
 
+-- those of a row by station that contend
+abbrev pub present : List (Option Contends) → List Contends
+present [] = []
+present (none ∷ row) = present row
+present (some x ∷ row) = x ∷ present row
+
+-- what a begin's answer shows of a contender
+abbrev pub shownAs : Contender → Contends
+shownAs x = record { address = x .address; number = x .packet .number; parameter = x .parameter }
+
 -- 'Contenders stay recorded until the contention ends', each with its packet and its parameter, which 'is fixed for the whole contention'; and 'a
 -- packet admitted while a contention is under way does not join it'.
 pub record ContendersStay : Type 0 where
-  -- a step that begins a contention probes among what all stations offer
-  pub begins : (b : Bus) → b .contention ≡ none → contendersAt b ≡ contenders (map (entered b) (b .stations))
+  -- a begin records what all stations offer, and its answer shows those recorded, and no other
+  pub begins : (b : Bus) → beginCall b .0 .refusal ≡ 0 → contenders (beginCall b .1 .stations) ≡ contenders (map (entered b) (b .stations))
+  pub shown : (b : Bus) → beginCall b .0 .refusal ≡ 0 → present (beginCall b .0 .contenders) ≡ map shownAs (contenders (beginCall b .1 .stations))
   pub admission : (b : Bus) (a : Arrival) → contenders (admit b a .1 .stations) ≡ contenders (b .stations)
-  -- a step in a contention under way probes among the contenders recorded
-  pub under-way : (b : Bus) (c : Contention) → b .contention ≡ some c → contendersAt b ≡ contenders (b .stations)
-  pub goes-on : (b : Bus) → step b .0 .refusal ≡ 0 → step b .0 .ended ≡ 0 → contenders (step b .1 .stations) ≡ contendersAt b
-  pub ends : (b : Bus) → step b .0 .refusal ≡ 0 → step b .0 .ended ≡ 1 → contenders (step b .1 .stations) ≡ []
+  -- a probe is among the contenders recorded, and leaves them while the contention goes on
+  pub probed-among : (b : Bus) → probeCall b .0 .refusal ≡ 0 → contendersAt b ≡ contenders (b .stations)
+  pub goes-on : (b : Bus) → probeCall b .0 .refusal ≡ 0 → probeCall b .0 .ended ≡ 0 → contenders (probeCall b .1 .stations) ≡ contenders (b .stations)
+  pub ends : (b : Bus) → probeCall b .0 .refusal ≡ 0 → probeCall b .0 .ended ≡ 1 → contenders (probeCall b .1 .stations) ≡ []
 
 -- ---- probes
 
@@ -165,35 +208,63 @@ mostProbes PRI L M = 2 * L + 2 * M + 1
 mostProbes RTDG L M = 2 * L + 2 * M + 2
 mostProbes RTVC L M = 2 * L
 
--- 'Probes in one contention, in states reached from set-up': from a state in which none is under way, whatever is called
+-- 'Probes in one contention, in states reached from set-up': from a state in which none is under way, so that the contention is read from its
+-- beginning, whatever is called
 abbrev pub ProbesBounded : Engine → Type 0
 ProbesBounded E =
     (r : Request) (calls : List Call) → reach machine r calls .contention ≡ none → (later : List Call)
     → probes (answers E (reach E r calls) later)
     ≤ mostProbes (reach machine r calls .discipline) (exponentOf (reach machine r calls .D)) (exponentOf (reach machine r calls .A))
 
+-- A contention without contenders, which a begin can leave: one accepted probe, or step, is idle and ends it.
+abbrev pub EmptyEnds : Engine → Type 0
+EmptyEnds E =
+    (r : Request) (calls : List Call) (c : Call) → contendersAt (reach machine r calls) ≡ []
+    → All (λ a. a .refusal ≡ 0 → (a .event ≡ idle) × (a .ended ≡ 1)) (answers E (reach E r calls) (c ∷ []))
+
+-- the answers up to the first for which the test holds, and with it; all of them where it holds for none
+abbrev pub upTo : (Answer → Bool) → List Answer → List Answer
+upTo says [] = []
+upTo says (a ∷ said) = a ∷ cond (says a) [] (upTo says said)
+
+-- the answers of the contention under way, up to the one that ends it
+abbrev pub ofContention : List Answer → List Answer
+ofContention said = upTo (λ a. eqb (a .ended) 1) said
+
+-- 'A packet admitted between the two does not join': whatever is admitted in a reached state, after a begin as midway, the answers to the probes
+-- of the contention under way are the same.
+abbrev pub NobodyJoins : Engine → Type 0
+NobodyJoins E =
+    (r : Request) (calls : List Call) (arrivals : List Arrival) (n : ℕ)
+    → ofContention (answers E (reach E r calls) (map admission arrivals ++ replicate n one-probe))
+    ≡ ofContention (answers E (reach E r calls) (replicate n one-probe))
+
 -- ---- counts
 
--- the slots that a step took: a packet's length on success, else 1, and none if it was refused
+-- the slots that a probe took: a packet's length on success, else 1, and none if it was refused
 abbrev pub slotsOf : Answer → ℕ
 slotsOf a = cond (eqb (a .refusal) 0) (cond (eqb (a .event) success) (a .length) 1) 0
 
--- what one reply adds to the packets admitted, sent and lost, and to the clock
+-- what one reply adds to the packets admitted, sent and lost, and to the clock; drops come with begins, and in a step with its begin
 abbrev pub adds-admitted : Reply → ℕ
 adds-admitted (admitted a) = bit (eqb (a .refusal) 0)
-adds-admitted (stepped a) = 0
+adds-admitted (begun o) = 0
+adds-admitted (probed a) = 0
 
 abbrev pub adds-sent : Reply → ℕ
 adds-sent (admitted a) = 0
-adds-sent (stepped a) = bit (eqb (a .event) success)
+adds-sent (begun o) = 0
+adds-sent (probed a) = bit (eqb (a .event) success)
 
 abbrev pub adds-lost : Reply → ℕ
 adds-lost (admitted a) = 0
-adds-lost (stepped a) = a .drops
+adds-lost (begun o) = o .drops
+adds-lost (probed a) = a .drops
 
 abbrev pub adds-slots : Reply → ℕ
 adds-slots (admitted a) = 0
-adds-slots (stepped a) = slotsOf a
+adds-slots (begun o) = 0
+adds-slots (probed a) = slotsOf a
 
 -- 'Counted over all answers since set-up, admitted = sent + lost + waiting', and the machine's own counts are those, its clock too
 pub record Counted (b : Bus) (rs : List Reply) : Type 0 where
@@ -234,14 +305,15 @@ QueuedAsAnswered =
 abbrev pub admitted-as : ℕ → Admitted → Bool
 admitted-as k a = eqb (a .refusal) 0 && eqb (a .number) k
 
--- the slots that all steps took before the admission that answered k, or before the end where none did; a refused call takes none
+-- the slots that all probes took before the admission that answered k, or before the end where none did; a refused call takes none
 abbrev pub slotsBefore : ℕ → List Reply → ℕ
 slotsBefore k [] = 0
 slotsBefore k (admitted a ∷ rs) = cond (admitted-as k a) 0 (slotsBefore k rs)
-slotsBefore k (stepped a ∷ rs) = slotsOf a + slotsBefore k rs
+slotsBefore k (begun o ∷ rs) = slotsBefore k rs
+slotsBefore k (probed a ∷ rs) = slotsOf a + slotsBefore k rs
 
 -- What the replies `rs` since set-up tell of the success `a` that comes next: one of them answered its packet's number; the slot probed is the
--- slots that all steps took; and the wait is the slot probed less the slots that all steps took before that admission.
+-- slots that all probes took; and the wait is the slot probed less the slots that all probes took before that admission.
 pub record Waited (rs : List Reply) (a : Answer) : Type 0 where
   pub answered : Among (a .number) (numbersAnswered rs)
   pub probed : a .slot ≡ total adds-slots rs
@@ -250,9 +322,9 @@ pub record Waited (rs : List Reply) (a : Answer) : Type 0 where
 -- 'the number of slots from there to the probe that won', after any set-up and any calls; 0 in an answer without success
 pub record WaitsAreTrue (E : Engine) : Type 0 where
   pub succeeds :
-      (r : Request) (calls : List Call) → E .step (reach E r calls) .0 .event ≡ success
-      → Waited (replies E (E .setUp r .1) calls) (E .step (reach E r calls) .0)
-  pub otherwise : (r : Request) (calls : List Call) → ¬ (E .step (reach E r calls) .0 .event ≡ success) → E .step (reach E r calls) .0 .wait ≡ 0
+      (r : Request) (calls : List Call) (c : Call)
+      → All (λ a. a .event ≡ success → Waited (replies E (E .setUp r .1) calls) a) (answers E (reach E r calls) (c ∷ []))
+  pub otherwise : (r : Request) (calls : List Call) (c : Call) → All (λ a. ¬ (a .event ≡ success) → a .wait ≡ 0) (answers E (reach E r calls) (c ∷ []))
 
 -- ---- demand 3
 
@@ -278,7 +350,7 @@ contentionsIn said = count (λ a. eqb (a .ended) 1) said
 abbrev pub idleContentionsIn : List Answer → ℕ
 idleContentionsIn said = count (λ a. eqb (a .ended) 1 && eqb (a .event) idle) said
 
--- the slots that steps took
+-- the slots that probes took
 abbrev pub slotsIn : List Answer → ℕ
 slotsIn said = total slotsOf said
 
@@ -291,23 +363,17 @@ longestIn (a ∷ said) = max (a .length) (longestIn said)
 abbrev pub sends : Station → Packet → Answer → Bool
 sends s p a = eqb (a .event) success && eqb (a .address) (s .address) && eqb (a .number) (p .number)
 
--- the answers up to the first that says so, and with it; all of them where none says so
-abbrev pub upTo : (Answer → Bool) → List Answer → List Answer
-upTo says [] = []
-upTo says (a ∷ said) = a ∷ cond (says a) [] (upTo says said)
-
--- A circuit s that waits with its oldest packet p on the bus b, and what is `said` to the steps from there on: demand 3's premises.
-pub record CircuitWaits (b : Bus) (s : Station) (p : Packet) (said : List Answer) : Type 0 where
+-- A circuit s that waits with its oldest packet p on the bus b: demand 3's premises. 'if no step is refused for the clock's end' is none of them: a
+-- refused call takes no slot and ends no contention, so that what is counted below is true with such calls among the others.
+pub record CircuitWaits (b : Bus) (s : Station) (p : Packet) : Type 0 where
   -- 'Under RTVC'
   pub by-circuit : b .discipline ≡ RTVC
   -- 'if a circuit has a packet': p is the oldest, the first of its queue
   pub listed : Among s (b .stations)
   pub rest : List Packet
   pub oldest : s .queue ≡ p ∷ rest
-  -- 'when a contention begins': none is under way, so that the next step begins one
+  -- 'when a contention begins': none is under way, and the next begin, or step, begins one
   pub begins : b .contention ≡ none
-  -- 'if no step is refused for the clock's end'
-  pub none-refused : All (λ a. a .refusal ≡ 0) said
 
 -- 'its oldest packet has ended within N + 1 contentions, at most one of them idle, and within N × (2L − 1 + P) + 1 slots'. The first three
 -- say so of the answers up to its end, or of all there are where it has not ended yet; the last two say that it ends: it has been sent
@@ -321,10 +387,10 @@ pub record Served (N L : ℕ) (s : Station) (p : Packet) (said : List Answer) : 
 
 -- whoever waits on the bus b is served: N is the number of its circuits, L the number of halvings of the first window of D
 abbrev pub Serves : Bus → List Answer → Type 0
-Serves b said = (s : Station) (p : Packet) → CircuitWaits b s p said → Served (length (b .stations)) (exponentOf (b .D)) s p said
+Serves b said = (s : Station) (p : Packet) → CircuitWaits b s p → Served (length (b .stations)) (exponentOf (b .D)) s p said
 
 -- 'Under RTVC with N circuits, from any state reached from set-up ..'. The bus is the machine's after these calls, and the answers are the
--- engine's, after the same calls, to the steps among `later`. 'Other stations may admit as they like': any calls may stand there.
+-- engine's, after the same calls, to the probes and steps among `later`. 'Other stations may admit as they like': any calls may stand there.
 abbrev pub Demand3 : Engine → Type 0
 Demand3 E = (r : Request) (calls later : List Call) → Serves (reach machine r calls) (answers E (reach E r calls) later)
 
@@ -336,7 +402,7 @@ pub record ServedSooner (N L : ℕ) (s : Station) (p : Packet) (said : List Answ
   pub ends-in-time : (P : ℕ) → p .length ≤ P → longestIn said ≤ P → fewerSlots N L P ≤ slotsIn said → some-of (sends s p) said ≡ true
 
 abbrev pub ServesSooner : Bus → List Answer → Type 0
-ServesSooner b said = (s : Station) (p : Packet) → CircuitWaits b s p said → ServedSooner (length (b .stations)) (exponentOf (b .D)) s p said
+ServesSooner b said = (s : Station) (p : Packet) → CircuitWaits b s p → ServedSooner (length (b .stations)) (exponentOf (b .D)) s p said
 
 -- the same for engines
 abbrev pub SoonerThanDemand3 : Engine → Type 0
@@ -346,7 +412,7 @@ SoonerThanDemand3 E = (r : Request) (calls later : List Call) → ServesSooner (
 -- the contention began and N × (2L − 1 + P) slots.
 abbrev pub OldestWaits : Bus → List Answer → Type 0
 OldestWaits b said =
-    (s : Station) (p : Packet) → CircuitWaits b s p said → (a : Answer) → Among a (upTo (sends s p) said) → sends s p a ≡ true
+    (s : Station) (p : Packet) → CircuitWaits b s p → (a : Answer) → Among a (upTo (sends s p) said) → sends s p a ≡ true
     → a .wait + a .length ≤ waitOf p (b .clock) + fewerSlots (length (b .stations)) (exponentOf (b .D)) (longestIn (upTo (sends s p) said))
 
 abbrev pub WaitOfTheOldest : Engine → Type 0
@@ -356,9 +422,12 @@ WaitOfTheOldest E = (r : Request) (calls later : List Call) → OldestWaits (rea
 
 -- Each of these follows from demand 2 (proofs/Promises.antt, `promised`).
 pub record Promised (E : Engine) : Type 0 where
+  pub stepsAgree : StepsAgree E
   pub winnerIsLeast : WinnerIsLeast E
   pub eventsAreTrue : EventsAreTrue E
   pub probesBounded : ProbesBounded E
+  pub emptyEnds : EmptyEnds E
+  pub nobodyJoins : NobodyJoins E
   pub countsAreTrue : CountsAreTrue E
   pub numbersAreAnswers : NumbersAreAnswers E
   pub waitsAreTrue : WaitsAreTrue E

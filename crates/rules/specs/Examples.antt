@@ -1,12 +1,13 @@
 -- The starred examples of paper 01 ('Settled examples') as one table over the definitions, with rows on its traps, on open points that
--- docs/DECISIONS.md settles, on the order of offers, at the edges of the ranges, where the bounds are met, and on waits. Each row quotes its line.
+-- docs/DECISIONS.md settles, on the order of offers, at the edges of the ranges, where the bounds are met, on waits, and on begin and probe. Each row
+-- quotes its line.
 -- proofs/Starred.antt proves that no row fails. Assumes nothing.
 use Prim.Native.Nat.{ℕ, zero, suc, _+_}
 use mathlib.Core.Bool.{Bool, true, false, not, _&&_, cond}
 use mathlib.Core.Option.{Option, none, some}
 use mathlib.Core.List.{List, [], _∷_, _++_, map}
 use lib.Dec.{leb, eqb}
-use lib.ListN.{length, drop}
+use lib.ListN.{length, drop, replicate}
 use Rattle.window.specs.declared.Side.the-variants.{Right}
 use Rattle.window.specs.Splitting.{exponentOf, firstWindow, sameSide}
 use Rattle.rules.specs.Lists.{total, countUp}
@@ -15,9 +16,9 @@ use Rattle.rules.specs.SetUp.{Asked, Request, freshStation, setUp}
 use Rattle.rules.specs.Standing.{stands}
 use Rattle.rules.specs.Admission.{Admitted, admissionRefusal, admit}
 use Rattle.rules.specs.Begin.{parameterOf}
-use Rattle.rules.specs.Probe.{withdrawn, parameter-phase, tie-phase, idle, collision, success, Answer}
-use Rattle.rules.specs.Step.{stepRefusal, step}
-use Rattle.rules.specs.Engine.{machine, Call, admission, one-step, Reply, replies, stepsIn, admissionsIn}
+use Rattle.rules.specs.Probe.{withdrawn, parameter-phase, tie-phase, idle, collision, success, Answer, refusedAnswer, dropping}
+use Rattle.rules.specs.Step.{Contends, Begun, refusedBegun, beginRefusal, beginCall, probeRefusal, stepRefusal, step}
+use Rattle.rules.specs.Engine.{machine, Call, admission, one-begin, one-probe, one-step, Reply, replies, probesIn, admissionsIn, beginsIn}
 use Rattle.rules.specs.Demands.{probes, mostProbes, slotsBefore, contentionsIn, idleContentionsIn, slotsIn, sends, upTo, mostContentions, most-idle, mostSlots, fewerSlots}
 
 -- ---- rows
@@ -38,7 +39,7 @@ failingFrom holding n (row ∷ rows) = elim (holding row) [ true ↦ failingFrom
 
 -- ---- words for scripts
 
--- a station by its address and capability; an arrival by its address, value and length; n steps
+-- a station by its address and capability; an arrival by its address, value and length; n steps, n probes
 abbrev pub station : ℕ → ℕ → Asked
 station address capability = record { address = address; capability = capability }
 
@@ -48,6 +49,17 @@ arrives address value length = admission (record { address = address; value = va
 abbrev pub steps : ℕ → List Call
 steps zero = []
 steps (suc n) = one-step ∷ steps n
+
+abbrev pub probes-of : ℕ → List Call
+probes-of n = replicate n one-probe
+
+-- ---- words for lists: whether they are the same, element by element
+
+abbrev pub same-all : {X : Type 0} → (X → X → Bool) → List X → List X → Bool
+same-all same [] [] = true
+same-all same [] (y ∷ ys) = false
+same-all same (x ∷ xs) [] = false
+same-all same (x ∷ xs) (y ∷ ys) = same x y && same-all same xs ys
 
 -- ---- words for answers, as in a listing: 'slot phase start size event, phase P or T, event I, C, or S with address, packet number, length', and wait
 
@@ -102,24 +114,6 @@ S slot phase start size address number length wait =
       ended = 1;
     }
 
--- the same with this many packets dropped
-abbrev pub dropping : ℕ → Answer → Answer
-dropping n a =
-    record {
-      refusal = a .refusal;
-      drops = n;
-      slot = a .slot;
-      phase = a .phase;
-      start = a .start;
-      size = a .size;
-      event = a .event;
-      address = a .address;
-      number = a .number;
-      length = a .length;
-      wait = a .wait;
-      ended = a .ended;
-    }
-
 abbrev pub same-answer : Answer → Answer → Bool
 same-answer a b =
     eqb (a .refusal) (b .refusal)
@@ -135,16 +129,9 @@ same-answer a b =
     && eqb (a .wait) (b .wait)
     && eqb (a .ended) (b .ended)
 
--- whether the answers are these, all of them and in every field
-abbrev pub same-answers : List Answer → List Answer → Bool
-same-answers [] [] = true
-same-answers [] (a ∷ said) = false
-same-answers (e ∷ expected) [] = false
-same-answers (e ∷ expected) (a ∷ said) = same-answer e a && same-answers expected said
-
--- the same of the steps among replies
+-- whether the answers to the probes among replies are these, all of them and in every field
 abbrev pub are : List Answer → List Reply → Bool
-are expected rs = same-answers expected (stepsIn rs)
+are expected rs = same-all same-answer expected (probesIn rs)
 
 -- ---- words for the answers to admissions: accepted with a number, refused with a number of the table
 
@@ -155,15 +142,36 @@ abbrev pub refused : ℕ → Admitted
 refused refusal = record { refusal = refusal; number = 0 }
 
 -- whether they are these, all of them
-abbrev pub same-admissions : List Admitted → List Admitted → Bool
-same-admissions [] [] = true
-same-admissions [] (a ∷ said) = false
-same-admissions (e ∷ expected) [] = false
-same-admissions (e ∷ expected) (a ∷ said) =
-    eqb (e .refusal) (a .refusal) && eqb (e .number) (a .number) && same-admissions expected said
-
 abbrev pub answer : List Admitted → List Reply → Bool
-answer expected rs = same-admissions expected (admissionsIn rs)
+answer expected rs = same-all (λ e a. eqb (e .refusal) (a .refusal) && eqb (e .number) (a .number)) expected (admissionsIn rs)
+
+-- ---- words for the answers to begins: the drops, the slot, the first window's size, and by station who contends
+
+abbrev pub B : ℕ → ℕ → ℕ → List (Option Contends) → Begun
+B drops slot size contenders = record { refusal = 0; drops = drops; slot = slot; start = 0; size = size; contenders = contenders }
+
+-- a contender by its address, its packet's number and its parameter
+abbrev pub contends : ℕ → ℕ → ℕ → Option Contends
+contends address number parameter = some (record { address = address; number = number; parameter = parameter })
+
+abbrev pub same-contends : Option Contends → Option Contends → Bool
+same-contends none none = true
+same-contends none (some y) = false
+same-contends (some x) none = false
+same-contends (some x) (some y) = eqb (x .address) (y .address) && eqb (x .number) (y .number) && eqb (x .parameter) (y .parameter)
+
+abbrev pub same-begun : Begun → Begun → Bool
+same-begun e o =
+    eqb (e .refusal) (o .refusal)
+    && eqb (e .drops) (o .drops)
+    && eqb (e .slot) (o .slot)
+    && eqb (e .start) (o .start)
+    && eqb (e .size) (o .size)
+    && same-all same-contends (e .contenders) (o .contenders)
+
+-- whether they are these, all of them and in every field
+abbrev pub begin-as : List Begun → List Reply → Bool
+begin-as expected rs = same-all same-begun expected (beginsIn rs)
 
 -- ---- set-ups and calls
 
@@ -356,7 +364,7 @@ pair d = record { discipline = code d; D = 2; A = 2; q = 1; N = 2; row = station
 
 -- the answers from the (n + 1)th step on, up to the end of a packet, by its address and number
 abbrev pub untilSent : ℕ → ℕ → ℕ → List Reply → List Answer
-untilSent n address number rs = upTo (sends (freshStation (station address 0)) (packet number 0 0)) (drop n (stepsIn rs))
+untilSent n address number rs = upTo (sends (freshStation (station address 0)) (packet number 0 0)) (drop n (probesIn rs))
 
 -- ---- waits
 
@@ -368,7 +376,13 @@ admittedLater = arrives 1 0 10 ∷ one-step ∷ arrives 1 0 1 ∷ one-step ∷ [
 abbrev pub offeringSince : ℕ → ℕ → Station
 offeringSince slot offered = offeringOf (packetSince slot 1 0 1) 0 (packetSince offered 1 0 1)
 
--- ---- the table, in five parts
+-- ---- begin and probe
+
+-- PRI, D 4, A 8: a packet at station 0, and no contention under way
+abbrev pub betweenAt : ℕ → Bus
+betweenAt slot = busAt slot none (withdrawn (offering 0 1 0) ∷ [])
+
+-- ---- the table, in six parts
 
 -- the settled examples, traps and open points
 abbrev pub settled : List Row
@@ -437,7 +451,7 @@ settled =
     -- 27: 'Clock 1,073,737,728 steps; 1,073,737,729 gives 17', also while a contention is under way
     ∷ fact (eqb (stepRefusal (lentAt 1_073_737_728)) 0 && eqb (stepRefusal (lentAt 1_073_737_729)) 17)
     -- 28: 'The first contention of the listing takes 8 probes, its second 4'; and the listing itself
-    ∷ script listing run (λ rs. are output rs && eqb (probes (stepsIn rs)) 8 && eqb (probes (drop 8 (stepsIn rs))) 4)
+    ∷ script listing run (λ rs. are output rs && eqb (probes (probesIn rs)) 8 && eqb (probes (drop 8 (probesIn rs))) 4)
     ∷ []
 
 -- which packet a station offers, and which station goes before which
@@ -561,19 +575,19 @@ bounds =
     (arrives 0 3 1 ∷ arrives 1 9 1 ∷ steps 6)
     (λ rs.
     are (C 0 P 0 2 ∷ I 1 P 0 1 ∷ C 2 P 1 1 ∷ C 3 T 0 2 ∷ I 4 T 0 1 ∷ S 5 T 1 1 1 2 1 5 ∷ []) rs
-    && eqb (probes (stepsIn rs)) (mostProbes RTDG 1 1))
+    && eqb (probes (probesIn rs)) (mostProbes RTDG 1 1))
     -- 52: the most in PRI, 2L + 2M + 1: both priority 1
     ∷ script
     (pair PRI)
     (arrives 0 1 1 ∷ arrives 1 1 1 ∷ steps 5)
     (λ rs.
     are (C 0 P 0 2 ∷ I 1 P 0 1 ∷ C 2 P 1 1 ∷ C 3 T 0 2 ∷ S 4 T 0 1 0 1 1 4 ∷ []) rs
-    && eqb (probes (stepsIn rs)) (mostProbes PRI 1 1))
+    && eqb (probes (probesIn rs)) (mostProbes PRI 1 1))
     -- 53: the most in RTVC, 2L
     ∷ script
     (pair RTVC)
     (arrives 0 0 1 ∷ arrives 1 0 1 ∷ steps 2)
-    (λ rs. are (C 0 P 0 2 ∷ S 1 P 0 1 0 1 1 1 ∷ []) rs && eqb (probes (stepsIn rs)) (mostProbes RTVC 1 1))
+    (λ rs. are (C 0 P 0 2 ∷ S 1 P 0 1 0 1 1 1 ∷ []) rs && eqb (probes (probesIn rs)) (mostProbes RTVC 1 1))
     -- 54: 'within N + 1 contentions, at most one of them idle': last winner 0, packets at both; that of circuit 0 takes 3, one of them idle
     ∷ script
     (pair RTVC)
@@ -625,11 +639,66 @@ waits =
     ∷ script
     (pair RTVC)
     (arrives 1 0 1 ∷ one-step ∷ arrives 0 0 1 ∷ arrives 1 0 1 ∷ steps 4)
-    (λ rs. eqb (total (λ a. a .wait + a .length) (drop 4 (stepsIn rs))) (fewerSlots 2 1 1))
+    (λ rs. eqb (total (λ a. a .wait + a .length) (drop 4 (probesIn rs))) (fewerSlots 2 1 1))
+    ∷ []
+
+-- begin and probe as two calls
+abbrev pub beginnings : List Row
+beginnings =
+    -- 62: 'to see who contends and what was dropped before the first slot is spent': row 12 with a begin at slot 100, where 99 is dropped
+    script
+    (rtdg 8 10)
+    (arrives 0 5 99 ∷ arrives 2 99 1 ∷ steps 2 ++ (arrives 0 110 1 ∷ arrives 1 109 1 ∷ one-begin ∷ probes-of 2))
+    (λ rs.
+    begin-as (B 1 100 8 (contends 0 3 1 ∷ contends 1 4 0 ∷ none ∷ []) ∷ []) rs
+    && are (C 0 P 0 8 ∷ S 1 P 0 4 0 1 99 1 ∷ C 100 P 0 8 ∷ C 101 P 0 4 ∷ []) rs)
+    -- 63: 'A packet admitted between the two does not join': priority 0 comes after the begin, and contends in the next contention
+    ∷ script
+    listing
+    (arrives 5 2 1 ∷ one-begin ∷ arrives 1 0 1 ∷ one-probe ∷ one-begin ∷ one-probe ∷ [])
+    (λ rs.
+    begin-as (B 0 0 4 (none ∷ contends 5 1 2 ∷ none ∷ []) ∷ B 0 1 4 (contends 1 2 0 ∷ none ∷ none ∷ []) ∷ []) rs
+    && are (S 0 P 0 4 5 1 1 0 ∷ S 1 P 0 4 1 2 1 1 ∷ []) rs)
+    -- 64: '25, begin while one is under way; 26, probe while none is', each with zeros, and the state as lent: what came since does not contend
+    ∷ script
+    listing
+    (one-probe ∷ arrives 5 2 1 ∷ one-begin ∷ arrives 1 0 1 ∷ one-begin ∷ one-probe ∷ one-probe ∷ [])
+    (λ rs.
+    begin-as (B 0 0 4 (none ∷ contends 5 1 2 ∷ none ∷ []) ∷ refusedBegun 25 ∷ []) rs
+    && are (refusedAnswer 26 ∷ S 0 P 0 4 5 1 1 0 ∷ refusedAnswer 26 ∷ []) rs)
+    -- 65: 'both after 1, and 26 before 17, which belongs to the probe'
+    ∷ fact
+    (eqb (beginRefusal (betweenAt 1_073_741_825)) 1
+    && eqb (beginRefusal (lentAt 1_073_741_825)) 1
+    && eqb (beginRefusal (lentAt 1_073_741_824)) 25
+    && eqb (probeRefusal (betweenAt 1_073_741_825)) 1
+    && eqb (probeRefusal (betweenAt 1_073_737_729)) 26
+    && eqb (probeRefusal (lentAt 1_073_737_729)) 17
+    && eqb (probeRefusal (lentAt 1_073_737_728)) 0)
+    -- 66: a begin is accepted at any clock of a state that stands, and takes no slot; the probe after it is refused with 17, and so is a step
+    ∷ fact
+    (same-begun (B 0 1_073_741_824 4 (contends 0 1 0 ∷ [])) (beginCall (betweenAt 1_073_741_824) .0)
+    && eqb (beginCall (betweenAt 1_073_741_824) .1 .clock) 1_073_741_824
+    && eqb (probeRefusal (beginCall (betweenAt 1_073_737_729) .1)) 17
+    && eqb (stepRefusal (betweenAt 1_073_737_729)) 17)
+    -- 67: a contention without contenders, where circuit 0 has won and sits out: its one probe is idle, ends it and ends the round
+    ∷ script
+    circuits
+    (arrives 5 0 1 ∷ arrives 5 0 1 ∷ one-step ∷ one-begin ∷ one-probe ∷ one-step ∷ [])
+    (λ rs. begin-as (B 0 1 4 (none ∷ none ∷ none ∷ []) ∷ []) rs && are (S 0 P 0 4 5 1 1 0 ∷ I-end 1 P 0 4 ∷ S 2 P 0 4 5 2 1 2 ∷ []) rs)
+    -- 68: a begin drops and its probe does not: row 13 in begins and probes, and a step in a contention that a begin has begun
+    ∷ script
+    (rtdg 2 1)
+    (arrives 0 0 1 ∷ arrives 1 1 1 ∷ one-begin ∷ probes-of 2 ++ (one-step ∷ one-begin ∷ one-step ∷ []))
+    (λ rs.
+    begin-as (B 0 0 2 (contends 0 1 0 ∷ contends 1 2 1 ∷ none ∷ []) ∷ B 2 3 2 (none ∷ none ∷ none ∷ []) ∷ []) rs
+    && are (C 0 P 0 2 ∷ I 1 P 0 1 ∷ I-end 2 P 1 1 ∷ I-end 3 P 0 2 ∷ []) rs)
+    -- 69: 'The window is the first window of D': a begin shows 8 where D is 5
+    ∷ script (pri 5) (arrives 1 4 1 ∷ one-begin ∷ []) (begin-as (B 0 0 8 (none ∷ contends 1 1 4 ∷ none ∷ []) ∷ []))
     ∷ []
 
 abbrev pub table : List Row
-table = settled ++ (orders ++ (edges ++ (bounds ++ waits)))
+table = settled ++ (orders ++ (edges ++ (bounds ++ (waits ++ beginnings))))
 
 -- the number of the first row of the table that fails
 abbrev pub firstFailing : Option ℕ

@@ -91,6 +91,24 @@ refusedAnswer n =
     record
     { refusal = n; drops = 0; slot = 0; phase = 0; start = 0; size = 0; event = 0; address = 0; number = 0; length = 0; wait = 0; ended = 0 }
 
+-- an answer with this many packets dropped
+abbrev pub dropping : ℕ → Answer → Answer
+dropping n a =
+    record {
+      refusal = a .refusal;
+      drops = n;
+      slot = a .slot;
+      phase = a .phase;
+      start = a .start;
+      size = a .size;
+      event = a .event;
+      address = a .address;
+      number = a .number;
+      length = a .length;
+      wait = a .wait;
+      ended = a .ended;
+    }
+
 -- the phase, from the tied parameter
 abbrev pub phaseOf : Option ℕ → ℕ
 phaseOf none = parameter-phase

@@ -1,19 +1,20 @@
 -- Engines that break the rules, each the machine with one thing changed. 'Try these and see them rejected' (paper 01, 'What the
 -- histories may rely on'), and others: proofs/WrongEngines.antt refutes demand 2 of each of them, demand 3 of `firstStation`, of `oneTooLow`
--- that numbers are answers, and of those that count waits wrongly that waits are true. Assumes nothing.
+-- that numbers are answers, of those that count waits wrongly that waits are true, and of `offersAnew` that nobody joins. Assumes nothing.
 use Prim.Native.Nat.{ℕ, zero, suc, _+_, _-_, _%_, max}
 use mathlib.Core.Bool.{Bool, true, false, not, _||_, cond}
 use mathlib.Core.Option.{Option, none, some}
 use mathlib.Core.List.{List, [], _∷_, map}
 use lib.Dec.{eqb}
+use Rattle.window.specs.Splitting.{firstWindow}
 use Rattle.rules.specs.Lists.{keep}
 use Rattle.rules.specs.Bus.{Packet, Station, Contention, Bus, nothing}
 use Rattle.rules.specs.SetUp.{fault, setUp}
 use Rattle.rules.specs.Admission.{admit}
-use Rattle.rules.specs.Probe.{Contender, transmitters, Answer, success, refusedAnswer, Open, sentBy, withdrawn, lastWinner, heard, probe}
-use Rattle.rules.specs.Step.{opened, stepRefusal, step}
+use Rattle.rules.specs.Probe.{Contender, transmitters, Answer, success, refusedAnswer, dropping, Open, sentBy, withdrawn, lastWinner, heard, probe}
+use Rattle.rules.specs.Begin.{begin}
+use Rattle.rules.specs.Step.{Begun, refusedBegun, beginCall, probeRefusal, probeCall, opened}
 use Rattle.rules.specs.Engine.{Engine}
-use Rattle.rules.specs.Examples.{dropping}
 
 -- refuses every call, set-up too, with one and the same number
 abbrev pub refusesAll : ℕ → Engine
@@ -22,7 +23,8 @@ refusesAll n =
       State = Bus;
       setUp = λ r. (fault (suc n) 0, nothing);
       admit = λ b a. (record { refusal = suc n; number = 0 }, b);
-      step = λ b. (refusedAnswer (suc n), b);
+      begin = λ b. (refusedBegun (suc n), b);
+      probe = λ b. (refusedAnswer (suc n), b);
     }
 
 -- sets up as the machine does, and refuses every call after it
@@ -32,12 +34,20 @@ refusesCalls n =
       State = Bus;
       setUp = setUp;
       admit = λ b a. (record { refusal = suc n; number = 0 }, b);
-      step = λ b. (refusedAnswer (suc n), b);
+      begin = λ b. (refusedBegun (suc n), b);
+      probe = λ b. (refusedAnswer (suc n), b);
     }
 
 -- gives the machine's answers, and hands the state back untouched
 abbrev pub untouched : Engine
-untouched = record { State = Bus; setUp = setUp; admit = λ b a. (admit b a .0, b); step = λ b. (step b .0, b) }
+untouched =
+    record {
+      State = Bus;
+      setUp = setUp;
+      admit = λ b a. (admit b a .0, b);
+      begin = λ b. (beginCall b .0, b);
+      probe = λ b. (probeCall b .0, b);
+    }
 
 -- answers each admission with a number one too low, as if the first packet were 0
 abbrev pub oneTooLow : Engine
@@ -46,24 +56,26 @@ oneTooLow =
       State = Bus;
       setUp = setUp;
       admit = λ b a. (record { refusal = admit b a .0 .refusal; number = admit b a .0 .number - 1 }, admit b a .1);
-      step = step;
+      begin = beginCall;
+      probe = probeCall;
     }
 
--- the machine with another way to probe
+-- the machine with another way to probe the contention under way
 abbrev pub probing : (Open → Answer × Bus) → Engine
 probing other =
     record {
       State = Bus;
       setUp = setUp;
       admit = admit;
-      step = λ b. cond (eqb (stepRefusal b) 0) (other (opened b)) (refusedAnswer (stepRefusal b), b);
+      begin = beginCall;
+      probe = λ b. cond (eqb (probeRefusal b) 0) (other (opened b)) (refusedAnswer (probeRefusal b), b);
     }
 
 -- says idle each time, as if none transmitted
 abbrev pub alwaysIdle : Engine
 alwaysIdle = probing λ o. heard o []
 
--- makes up drops: one more at each step
+-- makes up drops: one more at each probe
 abbrev pub madeUpDrops : Engine
 madeUpDrops = probing λ o. (dropping (suc (probe o .0 .drops)) (probe o .0), probe o .1)
 
@@ -115,33 +127,31 @@ firstOfTwo (x ∷ y ∷ z ∷ more) = x ∷ y ∷ z ∷ more
 abbrev pub twoForOne : Engine
 twoForOne = probing λ o. heard o (firstOfTwo (transmitters (o .bus) (o .contention)))
 
--- those who transmitted in the slot before, where a contention is under way; where one begins, those who do
-abbrev pub transmittedBefore : Bus → Bus → Option Contention → List Contender
-transmittedBefore b before none = transmitters (opened b .bus) (opened b .contention)
-transmittedBefore b before (some c) = transmitters (opened before .bus) (opened before .contention)
-
--- hears in a slot those who transmitted in the slot before; beside the bus it keeps the bus as the last step found it
+-- hears in a slot those who transmitted in the slot before, in a contention's first slot those who do; beside the bus it keeps the bus as the last
+-- probe found it, or as the contention began
 abbrev pub transmittersKept : Engine
 transmittersKept =
     record {
       State = Bus × Bus;
       setUp = λ r. (setUp r .0, (setUp r .1, setUp r .1));
       admit = λ s a. (admit (s .0) a .0, (admit (s .0) a .1, s .1));
-      step = λ s.
-          let said = heard (opened (s .0)) (transmittedBefore (s .0) (s .1) (s .0 .contention)) in
-          cond (eqb (stepRefusal (s .0)) 0) (said .0, (said .1, s .0)) (refusedAnswer (stepRefusal (s .0)), s);
+      begin = λ s. let o = beginCall (s .0) in (o .0, (o .1, cond (eqb (o .0 .refusal) 0) (o .1) (s .1)));
+      probe = λ s.
+          let said = heard (opened (s .0)) (transmitters (opened (s .1) .bus) (opened (s .1) .contention)) in
+          cond (eqb (probeRefusal (s .0)) 0) (said .0, (said .1, s .0)) (refusedAnswer (probeRefusal (s .0)), s);
     }
 
--- makes up probes: plays the contention to its end in one call, in n steps more at the most, and answers its last probe alone
+-- makes up probes: plays the contention to its end in one call, in n probes more at the most, and answers its last probe alone
 abbrev pub playedOut : ℕ → Bus → Answer × Bus
-playedOut zero b = step b
-playedOut (suc n) b = elim (eqb (step b .0 .ended) 1 || not (eqb (step b .0 .refusal) 0)) [ true ↦ step b | false ↦ playedOut n (step b .1) ]
+playedOut zero b = probeCall b
+playedOut (suc n) b =
+    elim (eqb (probeCall b .0 .ended) 1 || not (eqb (probeCall b .0 .refusal) 0)) [ true ↦ probeCall b | false ↦ playedOut n (probeCall b .1) ]
 
 -- the engine that makes up probes
 abbrev pub madeUpProbes : Engine
-madeUpProbes = record { State = Bus; setUp = setUp; admit = admit; step = playedOut 66 }
+madeUpProbes = record { State = Bus; setUp = setUp; admit = admit; begin = beginCall; probe = playedOut 66 }
 
--- arbitrates the first contention truly, and thereafter names the first listed station with a success each step, whether or not it has
+-- arbitrates the first contention truly, and thereafter names the first listed station with a success each probe, whether or not it has
 -- a packet; beside the bus it keeps whether the first contention is over
 abbrev pub firstPacket : List Packet → Packet
 firstPacket [] = record { number = 0; value = 0; length = 1; admission = record { 0 = 0 } }
@@ -152,9 +162,9 @@ abbrev pub firstListed : List Station → List Contender
 firstListed [] = []
 firstListed (s ∷ stations) = record { address = s .address; capability = s .capability; parameter = 0; packet = firstPacket (s .queue) } ∷ []
 
--- a step, before and after the first contention is over
+-- a probe, before and after the first contention is over
 abbrev pub arbitrates : Bus → Bool → Answer × (Bus × Bool)
-arbitrates b false = (step b .0, (step b .1, eqb (step b .0 .ended) 1))
+arbitrates b false = (probeCall b .0, (probeCall b .1, eqb (probeCall b .0 .ended) 1))
 arbitrates b true = let said = heard (opened b) (firstListed (b .stations)) in (said .0, (said .1, true))
 
 -- the engine that names the first station
@@ -164,7 +174,8 @@ firstStation =
       State = Bus × Bool;
       setUp = λ r. (setUp r .0, (setUp r .1, false));
       admit = λ s a. (admit (s .0) a .0, (admit (s .0) a .1, s .1));
-      step = λ s. arbitrates (s .0) (s .1);
+      begin = λ s. (beginCall (s .0) .0, (beginCall (s .0) .1, s .1));
+      probe = λ s. arbitrates (s .0) (s .1);
     }
 
 -- ---- waits
@@ -191,11 +202,6 @@ withWait n a =
 abbrev pub waitToTheEnd : Engine
 waitToTheEnd = probing λ o. (withWait (probe o .0 .wait + probe o .0 .length) (probe o .0), probe o .1)
 
--- the slot in which the contention of the next step began, by the one in which the last one did
-abbrev pub beginning : Bus → ℕ → Option Contention → ℕ
-beginning b began none = b .clock
-beginning b began (some c) = began
-
 -- counts the wait from the contention's beginning; beside the bus it keeps the slot in which that began
 abbrev pub waitOfTheContention : Engine
 waitOfTheContention =
@@ -203,9 +209,8 @@ waitOfTheContention =
       State = Bus × ℕ;
       setUp = λ r. (setUp r .0, (setUp r .1, 0));
       admit = λ s a. (admit (s .0) a .0, (admit (s .0) a .1, s .1));
-      step = λ s.
-          let began = beginning (s .0) (s .1) (s .0 .contention) in
-          (withWait (step (s .0) .0 .slot - began) (step (s .0) .0), (step (s .0) .1, began));
+      begin = λ s. let o = beginCall (s .0) in (o .0, (o .1, cond (eqb (o .0 .refusal) 0) (s .0 .clock) (s .1)));
+      probe = λ s. (withWait (probeCall (s .0) .0 .slot - s .1) (probeCall (s .0) .0), (probeCall (s .0) .1, s .1));
     }
 
 -- counts the wait from the arrival's time, where that is earlier than the admission: in a run whose k-th accepted arrival has the time that
@@ -216,3 +221,64 @@ waitFromTheArrival times = probing λ o. (withWait (max (probe o .0 .wait) (prob
 -- the times of arrivals that come a slot after one another: 0 for packet 1, 1 for packet 2 and so on
 abbrev pub arrivalTimes : ℕ → ℕ
 arrivalTimes k = k - 1
+
+-- ---- begin and probe
+
+-- the machine with another begin
+abbrev pub beginning : (Bus → Begun × Bus) → Engine
+beginning other = record { State = Bus; setUp = setUp; admit = admit; begin = other; probe = probeCall }
+
+-- a begin's answer with no drops
+abbrev pub withoutDrops : Begun → Begun
+withoutDrops o = record { refusal = o .refusal; drops = 0; slot = o .slot; start = o .start; size = o .size; contenders = o .contenders }
+
+-- drops nothing as a contention begins, by its answer, and counts what it dropped in the contention's first probe; beside the bus it keeps what is
+-- still to be counted
+abbrev pub dropsLater : Engine
+dropsLater =
+    record {
+      State = Bus × ℕ;
+      setUp = λ r. (setUp r .0, (setUp r .1, 0));
+      admit = λ s a. (admit (s .0) a .0, (admit (s .0) a .1, s .1));
+      begin = λ s. let o = beginCall (s .0) in cond (eqb (o .0 .refusal) 0) (withoutDrops (o .0), (o .1, o .0 .drops)) (o .0, s);
+      probe = λ s. let p = probeCall (s .0) in cond (eqb (p .0 .refusal) 0) (dropping (s .1) (p .0), (p .1, 0)) (p .0, s);
+    }
+
+-- offers anew at the first probe, that of the first window of D, so that a packet admitted after the begin joins
+abbrev pub anewIn : Bus → Contention → Option ℕ → Bus
+anewIn b c none = cond (eqb (c .window .size) (firstWindow (b .D) .size)) (begin b) b
+anewIn b c (some tied) = b
+
+abbrev pub anew : Bus → Option Contention → Bus
+anew b none = b
+anew b (some c) = anewIn b c (c .tie)
+
+abbrev pub offersAnew : Engine
+offersAnew =
+    record {
+      State = Bus;
+      setUp = setUp;
+      admit = admit;
+      begin = beginCall;
+      probe = λ b. cond (eqb (probeRefusal b) 0) (probeCall (anew b (b .contention))) (probeCall b);
+    }
+
+-- a begin takes a slot
+abbrev pub slotLater : Bus → Bus
+slotLater b =
+    record {
+      discipline = b .discipline;
+      D = b .D;
+      A = b .A;
+      q = b .q;
+      stations = b .stations;
+      clock = suc (b .clock);
+      admitted = b .admitted;
+      sent = b .sent;
+      lost = b .lost;
+      last = b .last;
+      contention = b .contention;
+    }
+
+abbrev pub beginTakesASlot : Engine
+beginTakesASlot = beginning λ b. (beginCall b .0, cond (eqb (beginCall b .0 .refusal) 0) (slotLater (beginCall b .1)) b)

@@ -1,4 +1,5 @@
 // Lines of what the calls answer: a label, a colon, and numbers.
+use bus::Answer;
 use bus::Arrivals;
 use rules::Slot;
 use sorts::Address;
@@ -18,6 +19,14 @@ fn number(n: u32) {
 
 fn place(n: usize) {
     word(n as u64);
+}
+
+fn flag(yes: bool) {
+    if yes {
+        word(1);
+    } else {
+        word(0);
+    }
 }
 
 fn label(text: &[u8]) {
@@ -53,10 +62,44 @@ pub fn admitted(text: &[u8], s: State, address: u32, value: u32, length: u32) {
     newline();
 }
 
-// A step: all of its answer.
+// A step, and a probe: all of its answer.
 pub fn stepped(text: &[u8], s: State) {
     let r = bus::step(s);
-    let a = r.answer;
+    answered(text, r.answer);
+}
+
+pub fn probed(text: &[u8], s: State) {
+    let r = bus::probe(s);
+    answered(text, r.answer);
+}
+
+fn offer(address: Address, packet: u32, parameter: u64) {
+    number(address.0);
+    number(packet);
+    word(parameter);
+}
+
+// A begin: its answer, and of the stations at places 0 to 2 the address, the packet's number and the parameter.
+pub fn begun(text: &[u8], s: State) {
+    let r = bus::begin(s);
+    let b = r.answer;
+    label(text);
+    number(b.refusal);
+    word(b.drops);
+    number(b.slot.0);
+    word(b.start);
+    word(b.size);
+    word(b.contenders);
+    let addresses = b.addresses;
+    let numbers = b.numbers;
+    let parameters = b.parameters;
+    offer(addresses[0], numbers[0], parameters[0]);
+    offer(addresses[1], numbers[1], parameters[1]);
+    offer(addresses[2], numbers[2], parameters[2]);
+    newline();
+}
+
+fn answered(text: &[u8], a: Answer) {
     label(text);
     number(a.refusal);
     word(a.drops);
@@ -69,11 +112,7 @@ pub fn stepped(text: &[u8], s: State) {
     number(a.number);
     number(a.length);
     number(a.wait);
-    if a.ended {
-        word(1);
-    } else {
-        word(0);
-    }
+    flag(a.ended);
     newline();
 }
 
@@ -101,6 +140,27 @@ pub fn in_stretch(text: &[u8], s: State) {
     number(a.refusal);
     place(d.made);
     number(d.left);
+    newline();
+}
+
+// A state that comes back: its clock, whether a contention is under way, the window's start and size, the word of contenders, the packets lost,
+// and the refusals of a begin and of a probe that follow.
+pub fn after(text: &[u8], s: State) {
+    let begun = bus::begin(s);
+    let probed = bus::probe(s);
+    let contention = s.segment.contention;
+    let w = contention.window;
+    label(text);
+    number(s.segment.clock.0);
+    flag(contention.begun);
+    word(w.start);
+    word(w.size);
+    word(s.segment.contenders);
+    word(s.segment.lost);
+    let b = begun.answer;
+    number(b.refusal);
+    let p = probed.answer;
+    number(p.refusal);
     newline();
 }
 

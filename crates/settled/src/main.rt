@@ -1,4 +1,4 @@
-// The settled examples that are run, and calls for each refusal 1 to 17. Every standing condition has its broken states in
+// The settled examples that are run, and calls for each refusal 1 to 17, 25 and 26. Every standing condition has its broken states in
 // scripts/lent.table, which the program drive lends to the calls.
 mod edits;
 mod lines;
@@ -101,6 +101,50 @@ fn words() {
     );
 }
 
+// P5: a begin shows who contends and what it drops, and takes no slot; a packet admitted after it does not join; '25, begin while one is under
+// way; 26, probe while none is; both after 1, and 26 before 17, which belongs to the probe'. Each refusal stands with the state that comes back.
+fn beginnings() {
+    let s = segments::two_waiting();
+    lines::begun(b"0, stations 5 and 6 contend", s);
+    lines::after(b"0, the slot is not spent", segments::begin(s));
+    lines::probed(b"26, none is under way", s);
+    lines::after(b"26, as it was lent", segments::probe(s));
+    let alone = segments::begin(segments::admit(segments::pri(), 5, 2, 1));
+    let joined = segments::admit(alone, 1, 0, 1);
+    lines::begun(b"25, one is under way", joined);
+    lines::after(b"25, as it was lent: 5 contends", segments::begin(joined));
+    lines::probed(b"0, nobody joins: 5 is alone", joined);
+    lines::begun(b"0, nobody contends", segments::pri());
+    lines::probed(
+        b"0, and its probe ends it",
+        segments::begin(segments::pri()),
+    );
+    let broken = edits::with_word(alone, 6);
+    lines::begun(b"1 before 25", broken);
+    lines::after(b"1, as it was lent", segments::begin(broken));
+    lines::probed(b"1 before 26", edits::with_word(s, 6));
+}
+
+// The same past the last slot, and what a begin in RTDG drops.
+fn late_beginnings() {
+    let s = segments::two_waiting();
+    let late = edits::with_clock(s, 1_073_737_729);
+    lines::begun(b"0, a begin past the last slot", late);
+    lines::probed(b"26 before 17", late);
+    lines::probed(b"17, after that begin", segments::begin(late));
+    lines::after(
+        b"17, as it was lent",
+        segments::probe(segments::begin(late)),
+    );
+    lines::stepped(b"17 of the step", late);
+    lines::after(b"17, nothing has begun", segments::step(late));
+    let two = segments::admit(segments::admit(segments::rtdg(), 5, 7, 1), 6, 30, 1);
+    let later = edits::with_clock(two, 8);
+    lines::begun(b"0, latest start 7 dropped at clock 8", later);
+    lines::after(b"0, one lost", segments::begin(later));
+    lines::probed(b"0, the probe drops none", segments::begin(later));
+}
+
 fn main() {
     clock_end();
     lengths();
@@ -109,5 +153,7 @@ fn main() {
     full_addresses();
     waits();
     words();
+    beginnings();
+    late_beginnings();
     refusals::each();
 }

@@ -85,6 +85,17 @@ pub fn step(s: State) -> State {
     r.state
 }
 
+// The state after a begin, and after a probe.
+pub fn begin(s: State) -> State {
+    let r = bus::begin(s);
+    r.state
+}
+
+pub fn probe(s: State) -> State {
+    let r = bus::probe(s);
+    r.state
+}
+
 // Packets 1 and 2 at stations 5 and 6, priority 2, lengths 3 and 1.
 pub fn two_waiting() -> State {
     admit(admit(pri(), 5, 2, 3), 6, 2, 1)

@@ -5,7 +5,7 @@ use std::collections::BTreeMap;
 use second::admission::admit;
 use second::standing::stands;
 use second::state::{first_window, State};
-use second::step::{step, Event};
+use second::step::{begin, step, Event};
 use second::totals::totals;
 
 use crate::worlds::{fresh, played};
@@ -74,6 +74,11 @@ fn histories_stand_and_count_right() {
                     Err(_) => assert!(state == lent),
                 }
             } else {
+                if numbers.below(2) > 0 && !state.contention.begun {
+                    lost += begin(&mut state).expect("accepted").drops;
+                    assert!(stands(&state));
+                    continue;
+                }
                 let answer = step(&mut state).expect("accepted");
                 lost += answer.drops;
                 sent += u64::from(answer.ended && state.sent > sent);
@@ -119,11 +124,13 @@ fn scripts_of_any_content_are_played() {
     for _ in 0..200 {
         let mut script = String::from("U 1 8 8 3 3 3 3 1 0 2 0 3 0 A 1 9 2 A 2 9 1 A 3 30 4 ");
         for _ in 0..60 {
-            match numbers.below(7) {
+            match numbers.below(9) {
                 0 => script += "S ",
                 1 => script += "T ",
                 2 => script += "A 1 50 2 ",
                 3 => script += "R 9 3 2 0 1 50 2 12 2 60 1 ",
+                4 => script += "B ",
+                5 => script += "O ",
                 _ => {
                     let field = 1 + numbers.below(30);
                     let index = numbers.below(4);

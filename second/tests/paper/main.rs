@@ -1,5 +1,7 @@
-//! Tests of the paper's worked example, settled examples, refusals, standing conditions, scripts and stretches.
+//! Tests of the paper's worked example, settled examples, refusals, standing conditions, beginnings,
+//! scripts and stretches.
 
+mod beginning;
 mod examples;
 mod histories;
 mod listing;

@@ -4,7 +4,7 @@ use second::admission::admit;
 use second::refusal::Refusal;
 use second::set_up::{set_up, RefusedSetUp};
 use second::state::{Settings, State};
-use second::step::step;
+use second::step::{begin, probe, step};
 use second::totals::totals;
 
 use crate::worlds::{
@@ -24,6 +24,8 @@ fn refused_set_up(settings: Settings, pairs: &[(u32, u32)], number: u32, place: 
 fn refusal_1() {
     let mut state = State::ZERO;
     assert_eq!(admit(&mut state, 0, 0, 1), Err(Refusal::LentState));
+    assert_eq!(begin(&mut state), Err(Refusal::LentState));
+    assert_eq!(probe(&mut state), Err(Refusal::LentState));
     assert_eq!(step(&mut state), Err(Refusal::LentState));
     assert_eq!(totals(&state), Err(Refusal::LentState));
     assert!(state == State::ZERO);

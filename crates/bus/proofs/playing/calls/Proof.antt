@@ -21,7 +21,7 @@ use Rattle.bus.specs.Types.{Packet, Settings, Contention, Segment, Queue
 use Rattle.state.specs.State.{Recorded, recordedIn, nobody, noPacket, meaning, queueAt, lastOf, waitingIn}
 use Rattle.bus.specs.Coded.{Answer, Admission, Stepped, admissionResult, stepResult, codedAdmit, codedStep}
 use Rattle.bus.specs.Stretch.{inRow, mayBeMore, Arrivals, Report, noArrival, asks, due, arrivalReport, stepReport}
-use Rattle.bus.specs.Parts.{openingOf, transmittersOf, transmittersIn, addressesOf, movedBy, begunWith, segmentCounting, segmentWith, stays, Sent, queueForm}
+use Rattle.bus.specs.Parts.{openingOf, transmittersOf, transmittersIn, addressesOf, movedBy, begunWith, segmentCounting, segmentWith, stays, Sent, queueForm, progressOf, Sole, soleOf, heardIn}
 use Rattle.state.proofs.Contenders.{zeroed}
 use Rattle.state.proofs.Places.{queues-arrays}
 use Rattle.state.proofs.Tested.{denied, granted}
@@ -32,7 +32,6 @@ use Rattle.bus.proofs.Admitting.{joinedAt}
 use Rattle.bus.proofs.BeginningLaws.{all-formed, room-left, late-counted, lost-counted}
 use Rattle.bus.proofs.OffersInPlace.{offeringTo, InTimeTo, Best, offering-none, in-time-none, none-leaves, offering-same, in-time-same, offering-more, in-time-offered, best-first, best-better, best-stays, best-offered, looked-some}
 use Rattle.bus.proofs.HeardLaws.{sole-short, sole-counted, lowest-there, counted!, sole-taken, sole-left}
-use Rattle.bus.proofs.ProbedSlot.{progressOf, Sole, soleOf, heardIn}
 use Rattle.bus.proofs.Stretched.{on, at-last, arrivals-array, row-few, row-full}
 use Rattle.bus.proofs.InPlace.{whole, Sound, sound-of, Taken, asked-away, asked-in, step-away, step-on, Opened, was-open, opened-as, begun-open, offered-open, still-on, ends-unheard, winner-in, ends-won, Going, at-outset, with-arrival, with-step}
 use Rattle.bus.proofs.playing.calls.Statement.{statement}
