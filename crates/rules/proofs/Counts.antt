@@ -20,6 +20,7 @@ use Rattle.rules.specs.Step.{refusedBegun, begunAnswer, openedBy, opened
 use Rattle.rules.specs.Engine.{Engine, machine, Call, Reply, admitted, begun, probed, reply, next, after, replies, reach}
 use Rattle.rules.specs.Demands.{Demand2, slotsOf, adds-admitted, adds-sent, adds-lost, adds-slots, Counted, CountsAreTrue}
 use Rattle.rules.proofs.Keeps.{opened-same}
+use Rattle.rules.proofs.Step.{heard-drops}
 use Rattle.rules.proofs.Reach.{outcome, standing-reached, replies-agree}
 
 -- from b to b′ the counts and the clock rise by what the replies say
@@ -34,17 +35,16 @@ record Told (o : Open) (out : Answer × Bus) : Type 0 where
   of-admitted : out .1 .admitted ≡ o .bus .admitted
   of-sent : out .1 .sent ≡ o .bus .sent + adds-sent (probed (out .0))
   of-lost : out .1 .lost ≡ o .bus .lost
-  of-drops : out .0 .drops ≡ o .drops
   of-clock : out .1 .clock ≡ o .bus .clock + slotsOf (out .0)
 
 told : (o : Open) (xs : List Contender) → Told o (heard o xs)
 told o [] = go (o .contention .window .side)
   where
     go : (s : Side) → Told o (unheard o s)
-    go Left = record { of-admitted = refl; of-sent = omega arith; of-lost = refl; of-drops = refl; of-clock = omega arith }
-    go Right = record { of-admitted = refl; of-sent = omega arith; of-lost = refl; of-drops = refl; of-clock = omega arith }
-told o (x ∷ []) = record { of-admitted = refl; of-sent = omega arith; of-lost = refl; of-drops = refl; of-clock = omega arith }
-told o (x ∷ y ∷ more) = record { of-admitted = refl; of-sent = omega arith; of-lost = refl; of-drops = refl; of-clock = omega arith }
+    go Left = record { of-admitted = refl; of-sent = omega arith; of-lost = refl; of-clock = omega arith }
+    go Right = record { of-admitted = refl; of-sent = omega arith; of-lost = refl; of-clock = omega arith }
+told o (x ∷ []) = record { of-admitted = refl; of-sent = omega arith; of-lost = refl; of-clock = omega arith }
+told o (x ∷ y ∷ more) = record { of-admitted = refl; of-sent = omega arith; of-lost = refl; of-clock = omega arith }
 
 -- what beginning a contention adds to the lost is what it drops
 opened-lost : (b : Bus) (c : Option Contention) → openedBy b c .bus .lost ≡ b .lost + openedBy b c .drops
@@ -57,6 +57,7 @@ step-rise b =
     let admitted = opened-same (λ (m : Bus). m .admitted) b refl in
     let sent = opened-same (λ (m : Bus). m .sent) b refl in
     let lost = opened-lost b (b .contention) in
+    let drops = heard-drops (opened b) (transmitters (opened b .bus) (opened b .contention)) in
     let clock = opened-same (λ (m : Bus). m .clock) b refl in
     record { in-admitted = omega arith; in-sent = omega arith; in-lost = omega arith; in-clock = omega arith }
 

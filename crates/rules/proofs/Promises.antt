@@ -4,7 +4,7 @@ use mathlib.Core.Path.{_≡_}
 use mathlib.Core.Option.{none}
 use Rattle.rules.specs.Conditions.{RefusalsExact}
 use Rattle.rules.specs.Engine.{Engine, machine}
-use Rattle.rules.specs.Demands.{Demand2, NoFalseWin, AddressesApart, StandsExactly, KeepsStanding, ReachedStands, HandsBack, StepIsBoth, BeginsAtAnyClock, OffersTheFirst, ContendersStay, QueuedAsAnswered, Promised}
+use Rattle.rules.specs.Demands.{Demand2, NoFalseWin, AddressesApart, StandsExactly, KeepsStanding, ReachedStands, HandsBack, StepIsBoth, BeginTells, BeginsAtAnyClock, OffersTheFirst, ContendersStay, QueuedAsAnswered, Promised}
 use Rattle.rules.specs.Examples.{firstFailing}
 use Rattle.rules.proofs.Tests.{tells, told}
 use Rattle.rules.proofs.Standing as Standing
@@ -45,9 +45,12 @@ handsBack = Refusals.handsBack
 pub refusalsExact : RefusalsExact
 refusalsExact = Refusals.refusalsExact
 
--- an accepted step is a begin, where none is under way, and a probe, and a begin is accepted at any clock
+-- an accepted step is a begin, where none is under way, and a probe; a begin answers what it did, and is accepted at any clock
 pub stepIsBoth : StepIsBoth
 stepIsBoth = Step.stepIsBoth
+
+pub beginTells : BeginTells
+beginTells = Step.beginTells
 
 pub beginsAtAnyClock : BeginsAtAnyClock
 beginsAtAnyClock = Step.beginsAtAnyClock

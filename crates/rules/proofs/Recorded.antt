@@ -12,9 +12,9 @@ use Rattle.rules.specs.Bus.{Offer, Station, Contention, Bus}
 use Rattle.rules.specs.Admission.{Arrival, Admitted, admissionRefusal, withPacket, admit}
 use Rattle.rules.specs.Begin.{begin}
 use Rattle.rules.specs.Probe.{Answer, Contender, contenderOf, contending, contenders, transmitters, Open, withdrawn, left, unheard, heard}
-use Rattle.rules.specs.Step.{Contends, contendsWith, Begun, begunAnswer, beginCall, probeCall, opened, openedBy}
+use Rattle.rules.specs.Step.{Contends, contendsWith, Begun, beginCall, probeCall, opened, openedBy}
 use Rattle.rules.specs.Demands.{contendersAt, present, shownAs, ContendersStay}
-use Rattle.rules.proofs.Standing.{accepted-begin, begin-is, accepted-probe, probe-accepted, probe-step, step-is}
+use Rattle.rules.proofs.Standing.{begun-as, accepted-probe, probe-accepted, probe-step, step-is}
 use Rattle.rules.proofs.Contenders.{contenders-admitted, none-contends}
 
 -- what a probe leaves of the contenders: all of them while the contention goes on, and none once it has ended
@@ -58,9 +58,6 @@ shown (s ∷ stations) = go (s .offer) (shown stations)
     go none e = e
     go (some o) e = ap (λ xs. shownAs (contenderOf s o) ∷ xs) e
 
-begun : (b : Bus) → beginCall b .0 .refusal ≡ 0 → beginCall b ≡ (begunAnswer b, begin b)
-begun b z = begin-is b (accepted-begin b z)
-
 admission-recorded : (b : Bus) (a : Arrival) → contenders (admit b a .1 .stations) ≡ contenders (b .stations)
 admission-recorded b a = go (eqb (admissionRefusal b a) 0)
   where
@@ -74,11 +71,11 @@ admission-recorded b a = go (eqb (admissionRefusal b a) 0)
 pub contendersStay : ContendersStay
 contendersStay =
     record {
-      begins = λ b z. ap (λ (o : Begun × Bus). contenders (o .1 .stations)) (begun b z);
+      begins = λ b z. ap (λ (o : Begun × Bus). contenders (o .1 .stations)) (begun-as b z);
       shown = λ b z.
-          ap (λ (o : Begun × Bus). present (o .0 .contenders)) (begun b z)
+          ap (λ (o : Begun × Bus). present (o .0 .contenders)) (begun-as b z)
           ∙ shown (begin b .stations)
-          ∙ sym (ap (λ (o : Begun × Bus). map shownAs (contenders (o .1 .stations))) (begun b z));
+          ∙ sym (ap (λ (o : Begun × Bus). map shownAs (contenders (o .1 .stations))) (begun-as b z));
       admission = admission-recorded;
       probed-among = probed-among;
       goes-on = λ b z e. probe-recorded b z .goes-on e ∙ probed-among b z;

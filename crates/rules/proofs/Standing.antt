@@ -350,6 +350,10 @@ begin-accepts b h e = rw (told (stands-exactly b) h, e)
 pub begin-is : (b : Bus) → beginRefusal b ≡ 0 → beginCall b ≡ (begunAnswer b, begin b)
 begin-is b e = ap (λ t. cond t (begunAnswer b, begin b) (refusedBegun (beginRefusal b), b)) (eq-eqb (beginRefusal b) 0 e)
 
+-- what an accepted begin gives
+pub begun-as : (b : Bus) → beginCall b .0 .refusal ≡ 0 → beginCall b ≡ (begunAnswer b, begin b)
+begun-as b z = begin-is b (accepted-begin b z)
+
 pub accepted-probe : (b : Bus) → probeCall b .0 .refusal ≡ 0 → probeRefusal b ≡ 0
 accepted-probe b = is-accepted (λ (x : Answer × Bus). x .0 .refusal) (probeRefusal b) _ _ refl
 

@@ -1,5 +1,5 @@
 -- A step is a begin, where no contention is under way, and a probe. Assumes nothing.
-use Prim.Native.Nat.{ℕ}
+use Prim.Native.Nat.{ℕ, _+_}
 use mathlib.Core.Path.{_≡_, refl, sym, ap, _∙_}
 use mathlib.Core.Bool.{Bool, true, false, not, cond}
 use mathlib.Core.Option.{Option, none, some}
@@ -16,9 +16,9 @@ use Rattle.rules.specs.Begin.{begin, dropsOf, opening}
 use Rattle.rules.specs.Probe.{Answer, Contender, Open, transmitters, refusedAnswer, dropping, unheard, heard, probe}
 use Rattle.rules.specs.Step.{Begun, begunAnswer, beginCall, probeRefusal, underWay, probedIn, probeCall, openedBy, opened, step}
 use Rattle.rules.specs.Engine.{Engine, machine, probedAfter, begunThen, probedFirst, stepOf}
-use Rattle.rules.specs.Demands.{StepIsBoth, BeginsAtAnyClock}
+use Rattle.rules.specs.Demands.{StepIsBoth, BeginTells, BeginsAtAnyClock}
 use Rattle.rules.proofs.Tests.{tells, told}
-use Rattle.rules.proofs.Standing.{stands-exactly, begin-accepts, begin-is, probe-step, accepted-step, step-accepted, step-is}
+use Rattle.rules.proofs.Standing.{stands-exactly, begun-as, begin-accepts, begin-is, probe-step, accepted-step, step-accepted, step-is}
 use Rattle.rules.proofs.Refusals.{probe-number}
 use Rattle.rules.proofs.Keeps.{begin-stands}
 
@@ -141,7 +141,7 @@ step-made b = by (stands b) refl (b .contention) refl
     by false s none e = rw s
 
 -- the drops of a probe are those of the open bus
-heard-drops : (o : Open) (xs : List Contender) → heard o xs .0 .drops ≡ o .drops
+pub heard-drops : (o : Open) (xs : List Contender) → heard o xs .0 .drops ≡ o .drops
 heard-drops o [] = silent (o .contention .window .side)
   where
     silent : (side : Side) → unheard o side .0 .drops ≡ o .drops
@@ -188,3 +188,15 @@ stepIsBoth =
 pub beginsAtAnyClock : BeginsAtAnyClock
 beginsAtAnyClock b h between =
     let begun = begun! b h between in (ap (λ (o : Begun × Bus). o .0 .refusal) begun, ap (λ (o : Begun × Bus). o .1 .clock) begun)
+
+pub beginTells : BeginTells
+beginTells =
+    record {
+      drops = λ b z. ap (λ (o : Begun × Bus). o .1 .lost) (begun-as b z) ∙ sym (ap (λ (o : Begun × Bus). b .lost + o .0 .drops) (begun-as b z));
+      slot = λ b z. ap (λ (o : Begun × Bus). o .0 .slot) (begun-as b z);
+      window = λ b z. (
+        ap (λ (o : Begun × Bus). o .0 .start) (begun-as b z),
+        ap (λ (o : Begun × Bus). o .0 .size) (begun-as b z),
+        ap (λ (o : Begun × Bus). o .1 .contention) (begun-as b z),
+      );
+    }

@@ -9,7 +9,7 @@ use mathlib.Core.Option.{Option, none, some}
 use mathlib.Core.List.{List, [], _∷_, _++_, map}
 use lib.Dec.{eqb}
 use lib.ListN.{length, replicate}
-use Rattle.window.specs.Splitting.{exponentOf}
+use Rattle.window.specs.Splitting.{exponentOf, firstWindow}
 use Rattle.rules.specs.Lists.{bit, keep, count, some-of, total, countUp, Among, All, Distinct}
 use Rattle.rules.specs.Bus.{Discipline, PRI, RTDG, RTVC, Packet, Offer, Station, Bus, nothing, waiting}
 use Rattle.rules.specs.SetUp.{Request, setUp}
@@ -131,6 +131,17 @@ pub record StepIsBoth : Type 0 where
   pub made : (b : Bus) → stepOf machine b ≡ step b
   -- a probe of its own drops nothing
   pub no-drops : (b : Bus) → probeCall b .0 .drops ≡ 0
+
+-- What an accepted begin answers is what it did: the packets dropped are those counted lost, the slot is the present one, and the window is 'the first
+-- window of D, start 0, side right', in which the contention is under way.
+pub record BeginTells : Type 0 where
+  pub drops : (b : Bus) → beginCall b .0 .refusal ≡ 0 → beginCall b .1 .lost ≡ b .lost + beginCall b .0 .drops
+  pub slot : (b : Bus) → beginCall b .0 .refusal ≡ 0 → beginCall b .0 .slot ≡ b .clock
+  pub window :
+      (b : Bus) → beginCall b .0 .refusal ≡ 0
+      → (beginCall b .0 .start ≡ firstWindow (b .D) .start)
+      × (beginCall b .0 .size ≡ firstWindow (b .D) .size)
+      × (beginCall b .1 .contention ≡ some (record { window = firstWindow (b .D); tie = none }))
 
 -- '17, which belongs to the probe': a begin is refused at no clock of a state that stands, if no contention is under way; and the clock stays
 abbrev pub BeginsAtAnyClock : Type 0

@@ -16,8 +16,8 @@ use Rattle.rules.specs.SetUp.{Asked, Request, freshStation, setUp}
 use Rattle.rules.specs.Standing.{stands}
 use Rattle.rules.specs.Admission.{Admitted, admissionRefusal, admit}
 use Rattle.rules.specs.Begin.{parameterOf}
-use Rattle.rules.specs.Probe.{withdrawn, parameter-phase, tie-phase, idle, collision, success, Answer, refusedAnswer, dropping}
-use Rattle.rules.specs.Step.{Contends, Begun, refusedBegun, beginRefusal, beginCall, probeRefusal, stepRefusal, step}
+use Rattle.rules.specs.Probe.{withdrawn, parameter-phase, tie-phase, idle, collision, success, Answer, dropping}
+use Rattle.rules.specs.Step.{Contends, Begun, beginRefusal, beginCall, probeRefusal, stepRefusal, step}
 use Rattle.rules.specs.Engine.{machine, Call, admission, one-begin, one-probe, one-step, Reply, replies, probesIn, admissionsIn, beginsIn}
 use Rattle.rules.specs.Demands.{probes, mostProbes, slotsBefore, contentionsIn, idleContentionsIn, slotsIn, sends, upTo, mostContentions, most-idle, mostSlots, fewerSlots}
 
@@ -149,6 +149,27 @@ answer expected rs = same-all (λ e a. eqb (e .refusal) (a .refusal) && eqb (e .
 
 abbrev pub B : ℕ → ℕ → ℕ → List (Option Contends) → Begun
 B drops slot size contenders = record { refusal = 0; drops = drops; slot = slot; start = 0; size = size; contenders = contenders }
+
+-- a refused begin, and a refused probe: 'the number, zero in the answer's other fields'
+abbrev pub no-begin : ℕ → Begun
+no-begin refusal = record { refusal = refusal; drops = 0; slot = 0; start = 0; size = 0; contenders = [] }
+
+abbrev pub no-probe : ℕ → Answer
+no-probe refusal =
+    record {
+      refusal = refusal;
+      drops = 0;
+      slot = 0;
+      phase = 0;
+      start = 0;
+      size = 0;
+      event = 0;
+      address = 0;
+      number = 0;
+      length = 0;
+      wait = 0;
+      ended = 0;
+    }
 
 -- a contender by its address, its packet's number and its parameter
 abbrev pub contends : ℕ → ℕ → ℕ → Option Contends
@@ -664,8 +685,8 @@ beginnings =
     listing
     (one-probe ∷ arrives 5 2 1 ∷ one-begin ∷ arrives 1 0 1 ∷ one-begin ∷ one-probe ∷ one-probe ∷ [])
     (λ rs.
-    begin-as (B 0 0 4 (none ∷ contends 5 1 2 ∷ none ∷ []) ∷ refusedBegun 25 ∷ []) rs
-    && are (refusedAnswer 26 ∷ S 0 P 0 4 5 1 1 0 ∷ refusedAnswer 26 ∷ []) rs)
+    begin-as (B 0 0 4 (none ∷ contends 5 1 2 ∷ none ∷ []) ∷ no-begin 25 ∷ []) rs
+    && are (no-probe 26 ∷ S 0 P 0 4 5 1 1 0 ∷ no-probe 26 ∷ []) rs)
     -- 65: 'both after 1, and 26 before 17, which belongs to the probe'
     ∷ fact
     (eqb (beginRefusal (betweenAt 1_073_741_825)) 1
