@@ -1,36 +1,33 @@
--- Demand 3: a waiting circuit's oldest packet ends within N + 1 contentions, at most one of them idle, and within
--- N × (2L − 1 + P) + 1 slots, and, sooner, within N × (2L − 1 + P), for every engine that meets demand 2, and for the machine itself.
+-- Demand 3: a waiting circuit's oldest packet ends within N + 1 contentions, at most one of them idle, and within N × (2L − 1 + P) + 1 slots, and,
+-- sooner, within N × (2L − 1 + P); and its j-th packet within j times as many: for every engine that meets demand 2, and for the machine itself.
 -- Assumes nothing.
 use Prim.Native.Nat.{ℕ, zero, suc, _+_, _-_, _*_, _≤_}
 use mathlib.Core.Path.{_≡_, refl, sym, ap, _∙_, subst}
-use mathlib.Core.Logic.{_⊎_, inl, inr}
-use mathlib.Core.Bool.{Bool, true, false, _&&_, cond}
+use mathlib.Core.Bool.{Bool, true, false, _&&_, cond, and-false}
 use mathlib.Core.Option.{Option, none}
-use mathlib.Core.List.{List, [], _∷_, _++_, map}
+use mathlib.Core.List.{List, [], _∷_, map}
 use native.Mathlib.Omega.{arith}
-use native.Mathlib.Nat.{mul-le-mul-right, suc-mul, mul-suc}
+use native.Mathlib.Nat.{mul-le-mul-left, mul-le-mul-right, suc-mul, mul-suc, mul-assoc}
 use lib.Dec.{eqb}
 use lib.ListN.{length, length-map}
 use borrow.Author.Tests.{ne-eqb}
 use Rattle.window.specs.Splitting.{exponentOf}
 use Rattle.rules.specs.Lists.{bit, some-of, Among, at-head}
-use Rattle.rules.specs.Bus.{Discipline, RTVC, code, Packet, Station, Bus, nothing}
-use Rattle.rules.specs.SetUp.{Request, setUp}
-use Rattle.rules.specs.Standing.{Standing}
-use Rattle.rules.specs.Admission.{withPacket}
-use Rattle.rules.specs.Begin.{sits-out, begin, opening}
+use Rattle.rules.specs.Bus.{RTVC, Packet, Station, Bus}
+use Rattle.rules.specs.SetUp.{Asked, Request}
+use Rattle.rules.specs.Standing.{asked, Standing}
+use Rattle.rules.specs.Begin.{sits-out}
 use Rattle.rules.specs.Probe.{Answer, refusedAnswer, success, idle, probe}
 use Rattle.rules.specs.Step.{opened}
-use Rattle.rules.specs.Engine.{Engine, machine, Call, next, reach, probeIn, answers}
-use Rattle.rules.specs.Demands.{Demand2, mostProbes, slotsOf, contentionsIn, idleContentionsIn, slotsIn, longestIn, sends, upTo, CircuitWaits, Served, Serves, Demand3, ServedSooner, ServesSooner, SoonerThanDemand3}
-use Rattle.rules.proofs.Laws.{clash, or-false, map-into}
-use Rattle.rules.proofs.Standing.{begin-accepted}
-use Rattle.rules.proofs.Reach.{outcome, standing-reached, after-more, answers-agree}
-use Rattle.rules.proofs.Least.{Cleared, cleared-reached}
-use Rattle.rules.proofs.Probes.{Crowded, crowded-reached, probesLeft, probes-at-begin, left-at-opening, halved-once, probes-left, probes-fall}
-use Rattle.rules.proofs.Enabled.{Enabled, enabled-reached}
-use Rattle.rules.proofs.Round.{winsLeft, idlesLeft, spareLeft, Most, wins-left, wins-most, own-wins, other-wins, idle-ends, spare-paid}
-use Rattle.rules.proofs.Circuit.{Waits, waits-admission, waits-begin, Turn, goes-on, its-own, anothers, nobodys, takes-part, turn}
+use Rattle.rules.specs.Engine.{Engine, machine, Call, reach, answers}
+use Rattle.rules.specs.Demands.{Demand2, slotsOf, mostContentions, most-idle, mostSlots, fewerSlots, contentionsIn, idleContentionsIn, slotsIn, longestIn, sends, upTo, CircuitWaits, EndsWithin, slotsOn, Serves, Demand3, SoonerThanDemand3, place, ServesInTurn, InTurn}
+use Rattle.rules.proofs.Laws.{clash, or-false, among-right, map-into}
+use Rattle.rules.proofs.Reach.{answers-agree}
+use Rattle.rules.proofs.Probes.{Crowded, probesLeft, halved-once, probes-left, probes-fall}
+use Rattle.rules.proofs.Enabled.{Enabled}
+use Rattle.rules.proofs.Round.{winsLeft, idlesLeft, spareLeft, wins-left, wins-most, own-wins, own-again, other-wins, idle-ends, spare-paid}
+use Rattle.rules.proofs.Circuit.{circuitsOf, Waits, Turn, goes-on, its-own, earlier, anothers, nobodys, takes-part}
+use Rattle.rules.proofs.Turns.{Reached, reached-stands, left-at-begin, waits-first, Holds, over-calls}
 
 -- ---- answers, one after the other
 
@@ -142,217 +139,176 @@ module _ {L mine : ℕ} {says : Answer → Bool} where
 
 -- ---- the machine's run
 
--- a state reached from set-up by any calls
-abbrev Reached : Bus → Type 0
-Reached b = (r : Request) × (calls : List Call) × (reach machine r calls ≡ b)
-
-reached-next : {b : Bus} → Reached b → (c : Call) → Reached (next machine b c)
-reached-next {b} h c =
-    (h .0, h .1 ++ (c ∷ []), after-more machine (setUp (h .0) .1) (h .1) (c ∷ []) ∙ ap (λ (d : Bus). next machine d c) (h .2))
-
--- a reached state that goes by circuits stands, since what a refused set-up hands back does not go by circuits
-reached-stands : {b : Bus} → Reached b → b .discipline ≡ RTVC → Standing b
-reached-stands {b} h d = go (standing-reached (h .0) (h .1))
-  where
-    go : Standing (reach machine (h .0) (h .1)) ⊎ (reach machine (h .0) (h .1) ≡ nothing) → Standing b
-    go (inl k) = subst Standing (h .2) k
-    go (inr e) = let y : _≡_ {A = ℕ} 2 0 = ap code (sym d) ∙ ap (λ (m : Bus). code (m .discipline)) (sym (h .2) ∙ e) in absurd (omega arith)
-
--- every reached state is crowded, and no contender in it sits out
-reached-crowded : {b : Bus} → Reached b → Crowded b
-reached-crowded h = subst Crowded (h .2) (crowded-reached (h .0) (h .1))
-
-reached-enabled : {b : Bus} → Reached b → Enabled b
-reached-enabled h = subst Enabled (h .2) (enabled-reached (h .0) (h .1))
-
--- a contention that has just begun has as many probes left as one that is about to begin
-left-begun : (b : Bus) → b .contention ≡ none → probesLeft (begin b) ≡ probesLeft b
-left-begun b e = left-at-opening b (opening b) refl ∙ sym (probes-at-begin b e)
-
--- the probes left between contentions are 2L
-left-at-begin : (b : Bus) (D : ℕ) → b .discipline ≡ RTVC → b .D ≡ D → b .contention ≡ none → probesLeft b ≡ 2 * exponentOf D
-left-at-begin b D d e c = probes-at-begin b c ∙ ap (λ (m : Discipline). mostProbes m (exponentOf (b .D)) (exponentOf (b .A))) d ∙ ap (λ n. 2 * exponentOf n) e
-
-module _ (circuits : List ℕ) (D : ℕ) (s : Station) (p : Packet) (own : Among (s .capability) circuits) (some-slots : 1 ≤ p .length) (halved : 1 ≤ exponentOf D) where
-  -- what is left of the round and of the contention, at the last winner `last` and with `left` probes left
-  abbrev Keeping : Option ℕ → ℕ → List Answer → Type 0
-  Keeping last left said =
+module _ (row : List Asked) (D : ℕ) (s : Station) (p : Packet) (own : Among (s .capability) (circuitsOf row)) (some-slots : 1 ≤ p .length) (halved : 1 ≤ exponentOf D) where
+  -- what is left of the round and of the contention, at the last winner `last` and with `left` probes left; and a whole round, with one idle contention,
+  -- for each packet ahead
+  abbrev Keeping : List Packet → Option ℕ → ℕ → List Answer → Type 0
+  Keeping ahead last left said =
       Within
       (exponentOf D)
       (p .length)
       (sends s p)
-      (winsLeft circuits (s .capability) last)
-      (idlesLeft (s .capability) last)
-      (spareLeft circuits (s .capability) last)
+      (winsLeft (circuitsOf row) (s .capability) last + length ahead * length (circuitsOf row))
+      (idlesLeft (s .capability) last + length ahead)
+      (spareLeft (circuitsOf row) (s .capability) last + length ahead)
       left
       said
 
-  -- an answer without success does not send p
+  -- an answer without success does not send p, nor one of another address
   unsent-says : (a : Answer) → ¬ (a .event ≡ success) → sends s p a ≡ false
   unsent-says a h = rw (ne-eqb (a .event) success h)
 
+  others-says : (a : Answer) → ¬ (a .address ≡ s .address) → sends s p a ≡ false
+  others-says a h = rw (ne-eqb (a .address) (s .address) h, and-false (eqb (a .event) success))
+
   -- after a probe that ended a contention all 2L probes are left
   next-begins :
-      (b : Bus) (said : List Answer) {last : Option ℕ} → b .last ≡ last → b .contention ≡ none → Waits circuits D s p b
-      → Keeping (b .last) (probesLeft b) said → Keeping last (2 * exponentOf D) said
-  next-begins b said e c w k =
-      subst (λ l. Keeping l (2 * exponentOf D) said) e (subst (λ n. Keeping (b .last) n said) (left-at-begin b D (w .by-circuit) (w .space) c) k)
+      {ahead : List Packet} (b : Bus) (said : List Answer) {last : Option ℕ} → b .last ≡ last → b .contention ≡ none → Waits row D s p ahead b
+      → Keeping ahead (b .last) (probesLeft b) said → Keeping ahead last (2 * exponentOf D) said
+  next-begins {ahead} b said e c w k =
+      subst (λ l. Keeping ahead l (2 * exponentOf D) said) e
+      (subst (λ n. Keeping ahead (b .last) n said) (left-at-begin b D (w .by-circuit) (w .space) c) k)
 
   -- one probe, and the answers after it
   keeping-probe :
-      (b : Bus) (said : List Answer) → Standing b → Crowded b → Turn circuits D s p b (probe (opened b))
-      → (Waits circuits D s p (probe (opened b) .1) → Keeping (probe (opened b) .1 .last) (probesLeft (probe (opened b) .1)) said)
-      → Keeping (b .last) (probesLeft b) (probe (opened b) .0 ∷ said)
-  keeping-probe b said h crowded (goes-on ended event last w′) more =
+      {ahead : List Packet} (b : Bus) (said : List Answer) → Standing b → Crowded b → Turn row D s p b (probe (opened b)) ahead
+      → ((before : List Packet) → Waits row D s p before (probe (opened b) .1)
+      → Keeping before (probe (opened b) .1 .last) (probesLeft (probe (opened b) .1)) said)
+      → Keeping ahead (b .last) (probesLeft b) (probe (opened b) .0 ∷ said)
+  keeping-probe {ahead} b said h crowded (goes-on ended event last w′) more =
       within-on (probe (opened b) .0) said (unsent-says (probe (opened b) .0) event) ended event (probes-fall b h ended)
-      (subst (λ l. Keeping l (probesLeft (probe (opened b) .1)) said) last (more w′))
+      (subst (λ l. Keeping ahead l (probesLeft (probe (opened b) .1)) said) last (more ahead w′))
   keeping-probe b said h crowded (its-own ended event it out two) more =
-      within-said (probe (opened b) .0) said it ended event (wins-left circuits (s .capability) own (b .last))
-      (own-wins circuits (s .capability) own (b .last) (probesLeft b) out (probes-left b h crowded) two)
-  keeping-probe b said h crowded (anothers ended event it last i out below two c w′) more =
-      let fewer = other-wins circuits (s .capability) own (b .last) i out below in
-      within-other (probe (opened b) .0) said it ended event (fewer .0) (fewer .1) (fewer .2 (probesLeft b) (probes-left b h crowded) two)
-      (next-begins (probe (opened b) .1) said last c w′ (more w′))
-  keeping-probe b said h crowded (nobodys ended event all out last c′ w′) more =
-      let fewer = idle-ends circuits (s .capability) own (b .last) out in
+      let k = own-wins (circuitsOf row) (s .capability) (b .last) (probesLeft b) out (probes-left b h crowded) two in
+      within-said (probe (opened b) .0) said it ended event (omega (arith, wins-left (circuitsOf row) (s .capability) own (b .last))) (omega arith)
+  keeping-probe b said h crowded (earlier {q} {ahead} ended event own-win it out two last c w′) more =
+      let again = own-again (circuitsOf row) (s .capability) in
+      let k = own-wins (circuitsOf row) (s .capability) (b .last) (probesLeft b) out (probes-left b h crowded) two in
+      let l = wins-left (circuitsOf row) (s .capability) own (b .last) in
+      let m = suc-mul (length ahead) (length (circuitsOf row)) in
+      within-other (probe (opened b) .0) said it ended event (omega arith) (omega arith) (omega arith)
+      (next-begins (probe (opened b) .1) said last c w′ (more _ w′))
+  keeping-probe b said h crowded (anothers ended event at other last i out below two c w′) more =
+      let fewer = other-wins (circuitsOf row) (s .capability) (b .last) (map-into (λ t. t .capability) row i) out below in
+      let k = fewer .2 (probesLeft b) (probes-left b h crowded) two in
+      within-other (probe (opened b) .0) said (others-says (probe (opened b) .0) (λ e. other (sym at ∙ e))) ended event
+      (omega (arith, fewer .0)) (omega (arith, fewer .1)) (omega arith)
+      (next-begins (probe (opened b) .1) said last c w′ (more _ w′))
+  keeping-probe {ahead} b said h crowded (nobodys ended event all out last c′ w′) more =
+      let fewer = idle-ends (circuitsOf row) (s .capability) (b .last) out in
       let unsent = unsent-says (probe (opened b) .0) (λ e. let y : _≡_ {A = ℕ} 0 2 = sym event ∙ e in omega arith) in
-      subst (λ n. Keeping (b .last) n (probe (opened b) .0 ∷ said)) (sym all)
-      (within-idle (probe (opened b) .0) said halved unsent ended event (fewer .0) (fewer .1) (fewer .2)
-      (next-begins (probe (opened b) .1) said last c′ w′ (more w′)))
-
-  -- from any reached state on which s waits, over these calls
-  abbrev Kept : List Call → Type 0
-  Kept later = (b : Bus) → Reached b → Waits circuits D s p b → Keeping (b .last) (probesLeft b) (answers machine b later)
-
-  kept-call : (c : Call) (later : List Call) → Kept later → Kept (c ∷ later)
-  kept-call c later kept b r w =
-      outcome b (λ rep b′. Reached b′ → Keeping (b .last) (probesLeft b) (probeIn rep (answers machine b′ later)))
-      (record {
-        refuses = λ n z r′. kept b r w;
-        admits = λ a z r′. kept (withPacket b a) r′ (waits-admission circuits D s p b a w);
-        refuses-begin = λ n z r′. kept b r w;
-        begins = λ z r′.
-            subst (λ n. Keeping (b .last) n (answers machine (begin b) later)) (left-begun b (begin-accepted b z .1))
-            (kept (begin b) r′ (waits-begin circuits D s p b h w));
-        refuses-probe = λ n z r′. within-refused n (answers machine b later) z refl (kept b r w);
-        probes-one = λ z r′.
-            keeping-probe b (answers machine (probe (opened b) .1) later) h (reached-crowded r)
-            (turn circuits D s p b h (reached-crowded r) (reached-enabled r) w (subst Cleared (r .2) (cleared-reached (r .0) (r .1))))
-            (kept (probe (opened b) .1) r′);
-      })
-      c
-      (reached-next r c)
-    where
-      h : Standing b
-      h = reached-stands r (w .by-circuit)
+      subst (λ n. Keeping ahead (b .last) n (probe (opened b) .0 ∷ said)) (sym all)
+      (within-idle (probe (opened b) .0) said halved unsent ended event (omega (arith, fewer .0)) (omega (arith, fewer .1)) (omega (arith, fewer .2))
+      (next-begins (probe (opened b) .1) said last c′ w′ (more _ w′)))
 
   -- no call yet
-  kept-none : Kept []
-  kept-none b r w =
-      let h = reached-stands r (w .by-circuit) in
-      let one = probes-left b h (reached-crowded r) in
-      let two = takes-part circuits D s p b h (reached-crowded r) (reached-enabled r) w in
-      within-none halved (wins-left circuits (s .capability) own (b .last)) (spare-paid circuits (s .capability) own (b .last) (probesLeft b) one two) some-slots
+  keeping-none : {ahead : List Packet} (b : Bus) → Standing b → Crowded b → Enabled b → Waits row D s p ahead b → Keeping ahead (b .last) (probesLeft b) []
+  keeping-none b h crowded enabled w =
+      let one = probes-left b h crowded in
+      let two = takes-part row D s p b h crowded enabled w in
+      let l = wins-left (circuitsOf row) (s .capability) own (b .last) in
+      let k = spare-paid (circuitsOf row) (s .capability) own (b .last) (probesLeft b) one two in
+      within-none halved (omega arith) (omega arith) some-slots
 
-  kept-all : (later : List Call) → Kept later
-  kept-all [] = kept-none
-  kept-all (c ∷ later) = kept-call c later (kept-all later)
+  keeping : Holds row D s p Keeping
+  keeping = record { at-end = keeping-none; at-refusal = λ n said z k. within-refused n said z refl k; at-probe = keeping-probe }
 
 -- ---- the demand
-
--- a circuit with a packet, as a contention begins
-waits-first : (b : Bus) (s : Station) (p : Packet) → CircuitWaits b s p → Waits (map (λ t. t .capability) (b .stations)) (b .D) s p b
-waits-first b s p h =
-    record {
-      by-circuit = h .by-circuit;
-      space = refl;
-      capabilities = refl;
-      station = s;
-      listed = h .listed;
-      address = refl;
-      capability = refl;
-      rest = h .rest;
-      oldest = h .oldest;
-      contends = λ c e out. let c′ = h .begins in let y : _≡_ {A = ℕ} 0 1 = cc in absurd (omega arith);
-    }
 
 -- a test that does not fail
 never-fails : (t : Bool) → (t ≡ false → ⊥) → t ≡ true
 never-fails true h = refl
 never-fails false h = absurd (h refl)
 
--- what is kept within, of N circuits
-module _
-    {N L w i spare : ℕ}
-    {s : Station}
-    {p : Packet}
-    {said : List Answer}
-    (most : (w ≤ N) × (w + i ≤ N + spare))
-    (k : Within L (p .length) (sends s p) w i spare (2 * L) said)
+-- what is kept within, of N circuits and j packets
+ends-sooner :
+    (N j : ℕ) {L w i spare : ℕ} {s : Station} {p : Packet} {said : List Answer} → w ≤ j * N → i ≤ j → w + i ≤ j * N + spare → 1 ≤ L
+    → Within L (p .length) (sends s p) w i spare (2 * L) said
+    → EndsWithin (j * mostContentions N) (j * most-idle) (λ P. j * fewerSlots N L P) s p said
+ends-sooner N j {L} {w} {i} {spare} {s} {p} {said} wins idles most halved k =
+    record {
+      contentions = omega (arith, k .contentions, mul-suc j N);
+      idle-ones = omega (arith, k .idle-ones);
+      slots = let P = longestIn (upTo (sends s p) said) in omega (arith, k .slots P (omega arith), paid P);
+      ends = λ h. never-fails (some-of (sends s p) said) (λ e. omega (arith, k .open-contentions e, mul-suc j N));
+      ends-in-time = λ P n m h. never-fails (some-of (sends s p) said) (λ e. omega (arith, k .open-slots P n m e, paid P));
+    }
   where
-    -- is served without the slot of the idle contention,
-    sooner : 1 ≤ L → ServedSooner N L s p said
-    sooner halved =
-        record {
-          slots = let P = longestIn (upTo (sends s p) said) in omega (arith, k .slots P (omega arith), takes-more (2 * L - 1 + P) (most .0) (omega arith));
-          ends-in-time = λ P n m h.
-              never-fails (some-of (sends s p) said) (λ e. omega (arith, k .open-slots P n m e, takes-more (2 * L - 1 + P) (most .0) (omega arith)));
-        }
+    -- what the wins and the idle contentions left pay for, less the slots spared
+    paid : (P : ℕ) → w * (2 * L - 1 + P) + i ≤ j * fewerSlots N L P + spare
+    paid P =
+        let less : fewerSlots N L P ≡ N * (2 * L - 1 + P) = omega arith in
+        let bound : j * fewerSlots N L P ≡ j * N * (2 * L - 1 + P) = ap (λ n. j * n) less ∙ sym (mul-assoc j N (2 * L - 1 + P)) in
+        omega (arith, takes-more (2 * L - 1 + P) wins (omega arith))
 
-    -- and so as demand 3 asks
-    served : i ≤ 1 → ServedSooner N L s p said → Served N L s p said
-    served one sooner =
-        record {
-          contentions = omega (arith, k .contentions);
-          one-idle = omega (arith, k .idle-ones);
-          slots = omega (arith, sooner .slots);
-          ends = λ h. never-fails (some-of (sends s p) said) (λ e. omega (arith, k .open-contentions e));
-          ends-in-time = λ P n m h. sooner .ends-in-time P n m (omega arith);
-        }
+-- a looser bound
+ends-later :
+    {n n′ idles idles′ : ℕ} {most most′ : ℕ → ℕ} {s : Station} {p : Packet} {said : List Answer} → n ≤ n′ → idles ≤ idles′ → ((P : ℕ) → most P ≤ most′ P)
+    → EndsWithin n idles most s p said → EndsWithin n′ idles′ most′ s p said
+ends-later {s = s} {p = p} {said = said} hn hi hm k =
+    record {
+      contentions = omega (arith, k .contentions);
+      idle-ones = omega (arith, k .idle-ones);
+      slots = omega (arith, k .slots, hm (longestIn (upTo (sends s p) said)));
+      ends = λ h. k .ends (omega arith);
+      ends-in-time = λ P n m h. k .ends-in-time P n m (omega (arith, hm P));
+    }
 
 bit-most : (t : Bool) → bit t ≤ 1
 bit-most true = omega arith
 bit-most false = omega arith
 
 -- a circuit that waits on a reached bus
-module _ (b : Bus) (r : Reached b) (later : List Call) (s : Station) (p : Packet) (h : CircuitWaits b s p) where
-  abbrev circuits : List ℕ
-  circuits = map (λ t. t .capability) (b .stations)
+module _ (b : Bus) (r : Reached b) (later : List Call) (s : Station) (ahead : List Packet) (p : Packet) (h : CircuitWaits b s ahead p) where
+  abbrev row : List Asked
+  row = map asked (b .stations)
 
   stands-here : Standing b
   stands-here = reached-stands r (h .by-circuit)
 
-  own : Among (s .capability) circuits
-  own = map-into (λ t. t .capability) (b .stations) (h .listed)
+  own : Among (s .capability) (circuitsOf row)
+  own = map-into (λ t. t .capability) row (map-into asked (b .stations) (h .listed))
 
   some-slots : 1 ≤ p .length
-  some-slots = stands-here .each-station s (h .listed) .packets p (subst (Among p) (sym (h .oldest)) (at-head refl)) .least
+  some-slots =
+      stands-here .each-station s (h .listed) .packets p (subst (Among p) (sym (h .queue)) (among-right ahead (at-head refl))) .least
 
-  kept : Keeping circuits (b .D) s p own some-slots (halved-once b stands-here) (b .last) (2 * exponentOf (b .D)) (answers machine b later)
+  kept : Keeping row (b .D) s p own some-slots (halved-once b stands-here) ahead (b .last) (2 * exponentOf (b .D)) (answers machine b later)
   kept =
       rw (left-at-begin b (b .D) (h .by-circuit) refl (h .begins)) at
-      (kept-all circuits (b .D) s p own some-slots (halved-once b stands-here) later b r (waits-first b s p h))
+      (over-calls row (b .D) s p (Keeping row (b .D) s p own some-slots (halved-once b stands-here)) (keeping row (b .D) s p own some-slots (halved-once b stands-here)) later ahead b r (waits-first b s ahead p h))
 
-  most : Most circuits (s .capability) (b .last) (length (b .stations))
-  most = omega (arith, wins-most circuits (s .capability) own (b .last), length-map (b .stations) (λ t. t .capability))
+  all-circuits : length (circuitsOf row) ≡ length (b .stations)
+  all-circuits = length-map row (λ t. t .capability) ∙ length-map (b .stations) asked
 
-  sooner-at : ServedSooner (length (b .stations)) (exponentOf (b .D)) s p (answers machine b later)
-  sooner-at = sooner most kept (halved-once b stands-here)
+  sooner-at :
+      EndsWithin (place ahead * mostContentions (length (b .stations))) (place ahead * most-idle) (λ P. place ahead * slotsOn fewerSlots b P) s p (answers machine b later)
+  sooner-at =
+      let most = wins-most (circuitsOf row) (s .capability) (b .last) in
+      let one = bit-most (sits-out RTVC (b .last) (s .capability)) in
+      let m = suc-mul (length ahead) (length (circuitsOf row)) in
+      rw (← all-circuits) (ends-sooner (length (circuitsOf row)) (place ahead) (omega arith) (omega arith) (omega arith) (halved-once b stands-here) kept)
 
-  served-at : Served (length (b .stations)) (exponentOf (b .D)) s p (answers machine b later)
-  served-at = served most kept (bit-most (sits-out RTVC (b .last) (s .capability))) sooner-at
+-- the machine itself: a slot fewer for each packet than j times demand 3's bound,
+soonerInTurn-machine : InTurn fewerSlots machine
+soonerInTurn-machine r calls later = sooner-at (reach machine r calls) (r, calls, refl) later
 
--- the machine itself
-pub demand3-machine : Demand3 machine
-demand3-machine r calls later = served-at (reach machine r calls) (r, calls, refl) later
+-- for every engine that meets demand 2
+pub soonerInTurn : (E : Engine) → Demand2 E → InTurn fewerSlots E
+soonerInTurn E meets r calls later =
+    subst (ServesInTurn fewerSlots (reach machine r calls)) (sym (answers-agree E meets r calls later)) (soonerInTurn-machine r calls later)
 
-pub soonerThanDemand3-machine : SoonerThanDemand3 machine
-soonerThanDemand3-machine r calls later = sooner-at (reach machine r calls) (r, calls, refl) later
+-- so j times demand 3's bound itself,
+pub inTurn : (E : Engine) → Demand2 E → InTurn mostSlots E
+inTurn E meets r calls later s ahead p h =
+    ends-later (omega arith) (omega arith) (λ P. mul-le-mul-left (place ahead) (omega arith)) (soonerInTurn E meets r calls later s ahead p h)
 
--- every engine that meets demand 2
+-- and, with no packet ahead, demand 3
+in-turn-first : (bound : ℕ → ℕ → ℕ → ℕ) (E : Engine) → InTurn bound E → (r : Request) (calls later : List Call) → Serves bound (reach machine r calls) (answers E (reach E r calls) later)
+in-turn-first bound E holds r calls later s p h = ends-later (omega arith) (omega arith) (λ P. omega arith) (holds r calls later s [] p h)
+
 pub demand3 : (E : Engine) → Demand2 E → Demand3 E
-demand3 E meets r calls later = subst (Serves (reach machine r calls)) (sym (answers-agree E meets r calls later)) (demand3-machine r calls later)
+demand3 E meets = in-turn-first mostSlots E (inTurn E meets)
 
 pub soonerThanDemand3 : (E : Engine) → Demand2 E → SoonerThanDemand3 E
-soonerThanDemand3 E meets r calls later =
-    subst (ServesSooner (reach machine r calls)) (sym (answers-agree E meets r calls later)) (soonerThanDemand3-machine r calls later)
+soonerThanDemand3 E meets = in-turn-first fewerSlots E (soonerInTurn E meets)

@@ -294,10 +294,10 @@ unheard-stands o h t w Right e =
     (omega arith) (rw (total-map held withdrawn (o .bus .stations))) (λ s i. tt) tt tt
 
 -- one transmits: whether a station is its own, and what a queue has left if it is
-abbrev own : Contender → Station → Bool
+abbrev pub own : Contender → Station → Bool
 own x s = eqb (x .address) (s .address)
 
-abbrev remaining : Contender → Station → Bool → List Packet
+abbrev pub remaining : Contender → Station → Bool → List Packet
 remaining x s mine = cond mine (keep (λ p. not (eqb (x .packet .number) (p .number))) (s .queue)) (s .queue)
 
 module _ (b : Bus) (c : Contention) (x : Contender) (h : Standing b) (k : Sender b c x) where
@@ -305,7 +305,7 @@ module _ (b : Bus) (c : Contention) (x : Contender) (h : Standing b) (k : Sender
   apart = set-up-stands b h .addresses-apart
 
   -- its own station loses one packet, any other none
-  one-less : (s : Station) → Among s (b .stations) → (mine : Bool) → own x s ≡ mine → held s ≡ length (remaining x s mine) + bit mine
+  pub one-less : (s : Station) → Among s (b .stations) → (mine : Bool) → own x s ≡ mine → held s ≡ length (remaining x s mine) + bit mine
   one-less s i true e =
       let same : s ≡ k .station = same-apart (λ s. s .address) (b .stations) apart i (k .listed) (sym (eqb-true _ _ e) ∙ k .address) in
       let there : Among (x .packet) (s .queue) = rw same (k .queued) in

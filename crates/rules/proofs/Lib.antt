@@ -19,6 +19,9 @@ pub mod Probes
 pub mod Enabled
 pub mod Round
 pub mod Circuit
+pub mod Turns
+pub mod Tallied
+pub mod Passing
 pub mod Demand3
 pub mod OldestWait
 pub mod Computing

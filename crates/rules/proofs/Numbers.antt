@@ -137,7 +137,7 @@ fewer-keep test queue =
 
 module _ (b : Bus) (a : Arrival) where
   -- one more where it has come, in packets and in packets of its number
-  joined-held : (s : Station) → held (joined b a s) ≡ held s + bit (named a s)
+  pub joined-held : (s : Station) → held (joined b a s) ≡ held s + bit (named a s)
   joined-held s = go (named a s)
     where
       go : (t : Bool) → held (cond t (queued (newPacket b a) s) s) ≡ held s + bit t

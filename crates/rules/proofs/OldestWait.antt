@@ -1,4 +1,5 @@
--- How old a circuit's oldest packet can be when it wins: from demand 3, and from the waits that replies tell. Assumes nothing.
+-- How old a circuit's packet can be when it wins, the oldest of its queue or a later one: from demand 3, and from the waits that replies tell.
+-- Assumes nothing.
 use Prim.Native.Nat.{ℕ, _+_, _≤_}
 use mathlib.Core.Path.{_≡_, refl, sym, ap, _∙_, subst}
 use mathlib.Core.Logic.{_⊎_, inl, inr}
@@ -15,14 +16,14 @@ use Rattle.rules.specs.Begin.{begin}
 use Rattle.rules.specs.Probe.{Answer, refusedAnswer, Contender, Open, transmitters, success, heard, probe}
 use Rattle.rules.specs.Step.{opened, stepRefusal}
 use Rattle.rules.specs.Engine.{Engine, machine, Call, next, replies, reach, probeIn, answers}
-use Rattle.rules.specs.Demands.{Demand2, slotsOf, slotsIn, adds-admitted, slotsBefore, sends, upTo, OldestWaits, WaitOfTheOldest}
-use Rattle.rules.proofs.Laws.{clash, and-true, among-cases, among-none}
+use Rattle.rules.specs.Demands.{Demand2, slotsOf, slotsIn, adds-admitted, slotsBefore, sends, upTo, WaitOfTheOldest, WaitsInTurn, WaitInTurn}
+use Rattle.rules.proofs.Laws.{clash, and-true, among-cases, among-none, among-right}
 use Rattle.rules.proofs.Reach.{outcome, standing-reached, demand2-machine, answers-agree}
 use Rattle.rules.proofs.Counts.{step-rise, call-rise, countsAreTrue}
 use Rattle.rules.proofs.Numbering.{numbersAreAnswers}
 use Rattle.rules.proofs.Least.{silent-idle}
 use Rattle.rules.proofs.Waits.{Held, counted-in, above-admitted, held-next, reached-since, success-names}
-use Rattle.rules.proofs.Demand3.{soonerThanDemand3}
+use Rattle.rules.proofs.Demand3.{soonerInTurn}
 
 -- a probe in which a packet was sent took the packet's slots
 sent-slots : (o : Open) → probe o .0 .event ≡ success → slotsOf (probe o .0) ≡ probe o .0 .length
@@ -120,11 +121,12 @@ known-reached s p r calls h =
           reached-since r calls i .1 ∙ ap (λ k. 0 + slotsBefore k (replies machine (setUp r .1) calls)) e ∙ sym (since .1);
     }
 
-machine-oldest : WaitOfTheOldest machine
-machine-oldest r calls later s p h a i says =
-    let held : Held p (reach machine r calls .stations) = (s, h .listed, rw (h .oldest) (at-head refl)) in
+-- the wait of a circuit's j-th packet
+machine-in-turn : WaitInTurn machine
+machine-in-turn r calls later s ahead p h a i says =
+    let held : Held p (reach machine r calls .stations) = (s, h .listed, rw (h .queue) (among-right ahead (at-head refl))) in
     let e = sent-ended s p (reach machine r calls) later (known-reached s p r calls held) a says i in
-    let slots = soonerThanDemand3 machine demand2-machine r calls later s p h .slots in
+    let slots = soonerInTurn machine demand2-machine r calls later s ahead p h .slots in
     let since : p .admission .0 ≤ reach machine r calls .clock = go held (standing-reached r calls) in
     omega (arith, e .waited, e .ended)
   where
@@ -132,5 +134,9 @@ machine-oldest r calls later s p h a i says =
     go k (inl stands) = stands .each-station (k .0) (k .1) .packets p (k .2) .admission
     go k (inr e) = absurd (among-none (subst (λ (b : Bus). Among (k .0) (b .stations)) e (k .1)))
 
+pub waitInTurn : (E : Engine) → Demand2 E → WaitInTurn E
+waitInTurn E d r calls later = subst (WaitsInTurn (reach machine r calls)) (sym (answers-agree E d r calls later)) (machine-in-turn r calls later)
+
+-- and of its oldest, which has none ahead
 pub waitOfTheOldest : (E : Engine) → Demand2 E → WaitOfTheOldest E
-waitOfTheOldest E d r calls later = subst (OldestWaits (reach machine r calls)) (sym (answers-agree E d r calls later)) (machine-oldest r calls later)
+waitOfTheOldest E d r calls later s p h a i says = omega (arith, waitInTurn E d r calls later s [] p h a i says)

@@ -22,6 +22,7 @@ use Rattle.rules.proofs.Waits as Waits
 use Rattle.rules.proofs.Probes as Probes
 use Rattle.rules.proofs.Demand3 as Demand3
 use Rattle.rules.proofs.OldestWait as OldestWait
+use Rattle.rules.proofs.Passing as Passing
 use Rattle.rules.proofs.Starred as Starred
 
 -- ---- of the rules themselves, for any lent state
@@ -80,7 +81,8 @@ pub starred : firstFailing ≡ none
 starred = Starred.starred
 
 -- ---- of every engine that meets demand 2: steps are the machine's too, the winner is least, events, counts, numbers and waits are true, probes are
--- bounded, a contention without contenders ends at once, nobody joins, demand 3, a slot fewer than it asks for, and what both say of a wait
+-- bounded, a contention without contenders ends at once, nobody joins, demand 3, a slot fewer than it asks for, the same of the j-th packet, what they say of a wait, and
+-- nobody passes a waiting circuit twice
 
 pub promised : (E : Engine) → Demand2 E → Promised E
 promised E meets =
@@ -96,7 +98,11 @@ promised E meets =
       waitsAreTrue = Waits.waitsAreTrue E meets;
       demand3 = Demand3.demand3 E meets;
       soonerThanDemand3 = Demand3.soonerThanDemand3 E meets;
+      inTurn = Demand3.inTurn E meets;
+      soonerInTurn = Demand3.soonerInTurn E meets;
       waitOfTheOldest = OldestWait.waitOfTheOldest E meets;
+      waitInTurn = OldestWait.waitInTurn E meets;
+      nobodyPassesTwice = Passing.nobodyPassesTwice E meets;
     }
 
 -- ---- and so of the machine, which meets it

@@ -29,7 +29,7 @@ use Rattle.rules.proofs.Step.{step-made}
 -- ---- one call
 
 -- a call that is refused with its number, or taken where that is 0
-call-cases :
+pub call-cases :
     {X : Type 0} (P : X → Type 0) (n : ℕ) (taken : X) (refused : ℕ → X) → (¬ (n ≡ 0) → P (refused n)) → (n ≡ 0 → P taken)
     → P (cond (eqb n 0) taken (refused n))
 call-cases P n taken refused h k = go (eqb n 0) refl
@@ -142,7 +142,7 @@ accepted-keeps P keeps r calls z =
     after-keeps P keeps (setUp r .1) calls (keepsStanding .set-up r z) (subst P (sym (accepted-set-up r z)) (keeps .at-set-up r z))
 
 -- a set-up was accepted, or what is reached from it is what it handed back
-accepted-or-nothing : (r : Request) (calls : List Call) → (setUp r .0 .refusal ≡ 0) ⊎ (reach machine r calls ≡ nothing)
+pub accepted-or-nothing : (r : Request) (calls : List Call) → (setUp r .0 .refusal ≡ 0) ⊎ (reach machine r calls ≡ nothing)
 accepted-or-nothing r calls = go (eqb (setUpVerdict r .refusal) 0) refl
   where
     go : (t : Bool) → eqb (setUpVerdict r .refusal) 0 ≡ t → (setUp r .0 .refusal ≡ 0) ⊎ (reach machine r calls ≡ nothing)

@@ -6,12 +6,12 @@ use mathlib.Core.Path.{_≡_, refl, ap}
 use mathlib.Core.Logic.{_⊎_, inl, inr}
 use mathlib.Core.Bool.{Bool, true, false, _&&_, cond}
 use mathlib.Core.Option.{Option, none, some}
-use mathlib.Core.List.{List}
+use mathlib.Core.List.{List, [], _∷_}
 use native.Mathlib.Omega.{arith}
 use lib.Dec.{leb, ltb}
 use lib.ListN.{length}
 use borrow.Author.Tests.{leb-true, leb-false, ltb-true, le-leb, lt-leb, lt-ltb, le-ltb}
-use Rattle.rules.specs.Lists.{bit, count, Among, Some}
+use Rattle.rules.specs.Lists.{bit, count, Among, at-head, Some}
 use Rattle.rules.specs.Bus.{RTVC}
 use Rattle.rules.specs.Begin.{sits-out}
 use Rattle.rules.proofs.Laws.{clash, and-true, true-and, count-le, count-some, count-less, count-apart}
@@ -52,22 +52,7 @@ Fewer circuits mine last x =
     × ((left : ℕ) → 1 ≤ left → 2 ≤ left + above circuits x
     → suc (idlesLeft mine (some x) + spareLeft circuits mine last) ≤ idlesLeft mine last + left + spareLeft circuits mine (some x))
 
-module _ (circuits : List ℕ) (mine : ℕ) (among : Among mine circuits) where
-  -- mine is one of those up to mine
-  own-up : 1 ≤ up-to circuits mine
-  own-up = count-some (λ k. leb k mine) circuits among (le-leb mine mine (omega arith))
-
-  -- mine is still to win
-  pub wins-left : (last : Option ℕ) → 1 ≤ winsLeft circuits mine last
-  wins-left none = own-up
-  wins-left (some v) = go (leb mine v) refl
-    where
-      go : (t : Bool) → leb mine v ≡ t → 1 ≤ winsLeft circuits mine (some v)
-      go true e = rw e (omega (arith, own-up))
-      go false e =
-          rw e
-          (count-some (λ k. ltb v k && leb k mine) circuits among (true-and (lt-ltb v mine (leb-false mine v e)) (le-leb mine mine (omega arith))))
-
+module _ (circuits : List ℕ) (mine : ℕ) where
   -- a circuit up to mine is not above one that is not below mine
   above-up-to : (v : ℕ) → mine ≤ v → above circuits v + up-to circuits mine ≤ length circuits
   above-up-to v h =
@@ -143,20 +128,65 @@ module _ (circuits : List ℕ) (mine : ℕ) (among : Among mine circuits) where
   idle-ends none out = clash out refl
   idle-ends (some v) out = rw out (omega arith)
 
+  -- where mine has just won, all circuits may win before it wins again, one contention may end idle, and the slot is spared
+  pub own-again : (winsLeft circuits mine (some mine) ≤ length circuits) × (idlesLeft mine (some mine) ≡ 1) × (spareLeft circuits mine (some mine) ≡ 1)
+  own-again = let e : leb mine mine ≡ true = le-leb mine mine (omega arith) in (wins-most (some mine) .0, rw e, rw e (omega arith))
+
+-- the wins left to several circuits are those left to each
+wins-parts :
+    (x : ℕ) (circuits : List ℕ) (mine : ℕ) (last : Option ℕ)
+    → winsLeft (x ∷ circuits) mine last ≡ winsLeft (x ∷ []) mine last + winsLeft circuits mine last
+wins-parts x circuits mine none = omega arith
+wins-parts x circuits mine (some v) = go (leb mine v) refl
+  where
+    go : (t : Bool) → leb mine v ≡ t → winsLeft (x ∷ circuits) mine (some v) ≡ winsLeft (x ∷ []) mine (some v) + winsLeft circuits mine (some v)
+    go true e = rw e (omega arith)
+    go false e = rw e (omega arith)
+
+module _ (circuits : List ℕ) (mine : ℕ) where
+  -- A contention that some circuit wins, as in `other-wins`, leaves none of these more wins, whether or not it is one of them.
+  pub wins-stay :
+      (last : Option ℕ) {x : ℕ} → sits-out RTVC last x ≡ false → (sits-out RTVC last mine ≡ false → x < mine)
+      → winsLeft circuits mine (some x) ≤ winsLeft circuits mine last
+  wins-stay last {x} out below =
+      omega (
+        arith,
+        other-wins (x ∷ circuits) mine last (at-head refl) out below .0,
+        wins-most (x ∷ []) mine last .0,
+        wins-parts x circuits mine last,
+        wins-parts x circuits mine (some x),
+      )
+
+module _ (circuits : List ℕ) (mine : ℕ) (among : Among mine circuits) where
+  -- mine is one of those up to mine
+  own-up : 1 ≤ up-to circuits mine
+  own-up = count-some (λ k. leb k mine) circuits among (le-leb mine mine (omega arith))
+
+  -- mine is still to win
+  pub wins-left : (last : Option ℕ) → 1 ≤ winsLeft circuits mine last
+  wins-left none = own-up
+  wins-left (some v) = go (leb mine v) refl
+    where
+      go : (t : Bool) → leb mine v ≡ t → 1 ≤ winsLeft circuits mine (some v)
+      go true e = rw e (omega (arith, own-up))
+      go false e =
+          rw e
+          (count-some (λ k. ltb v k && leb k mine) circuits among (true-and (lt-ltb v mine (leb-false mine v e)) (le-leb mine mine (omega arith))))
+
   -- At any time: what is left pays for the slot spared, if two probes are left or a circuit other than mine takes part.
   pub spare-paid :
       (last : Option ℕ) (left : ℕ) → 1 ≤ left → (2 ≤ left) ⊎ Some (λ y. (sits-out RTVC last y ≡ false) × (¬ (y ≡ mine))) circuits
       → 2 + spareLeft circuits mine last ≤ winsLeft circuits mine last + idlesLeft mine last + left
-  spare-paid last left one (inl two) = omega (arith, spare-most last, wins-left last)
+  spare-paid last left one (inl two) = omega (arith, spare-most circuits mine last, wins-left last)
   spare-paid last left one (inr (y, i, (part, other))) = go (sits-out RTVC last mine) refl (leb y mine) refl
     where
       go :
           (t : Bool) → sits-out RTVC last mine ≡ t → (t′ : Bool) → leb y mine ≡ t′
           → 2 + spareLeft circuits mine last ≤ winsLeft circuits mine last + idlesLeft mine last + left
-      go true e t′ e′ = omega (arith, spare-most last, wins-left last, ap bit e)
+      go true e t′ e′ = omega (arith, spare-most circuits mine last, wins-left last, ap bit e)
       go false e true e′ =
           let l = leb-true y mine e′ in
-          omega (arith, spare-most last, wins-left (some y), other-wins last i part (λ out. omega arith) .0)
+          omega (arith, spare-most circuits mine last, wins-left (some y), other-wins circuits mine last i part (λ out. omega arith) .0)
       go false e false e′ =
           let l = count-some (λ k. ltb mine k) circuits i (lt-ltb mine y (leb-false y mine e′)) in
-          omega (arith, wins-left last, own-wins last 1 e (omega arith) (omega arith), ap bit e)
+          omega (arith, wins-left last, own-wins circuits mine last 1 e (omega arith) (omega arith), ap bit e)

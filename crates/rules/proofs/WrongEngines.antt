@@ -15,7 +15,7 @@ use Rattle.rules.specs.SetUp.{Request, setUp}
 use Rattle.rules.specs.Admission.{Arrival}
 use Rattle.rules.specs.Probe.{Answer}
 use Rattle.rules.specs.Engine.{Engine, machine, Call, one-begin, one-probe, one-step, Reply, reach, probesIn, beginsIn, answers}
-use Rattle.rules.specs.Demands.{Demand2, adds-lost, numbersAnswered, NumbersAreAnswers, WaitsAreTrue, NobodyJoins, Served, Demand3}
+use Rattle.rules.specs.Demands.{Demand2, adds-lost, numbersAnswered, NumbersAreAnswers, WaitsAreTrue, NobodyJoins, mostContentions, most-idle, mostSlots, EndsWithin, Demand3}
 use Rattle.rules.specs.Examples.{arrives, steps, listing, rtdg, circuits, apart, admittedLater}
 use Rattle.rules.specs.WrongEngines.{refusesAll, refusesCalls, untouched, oneTooLow, alwaysIdle, madeUpDrops, madeUpSent, lowByte, twoForOne, transmittersKept, madeUpProbes, firstStation, waitToTheEnd, waitOfTheContention, waitFromTheArrival, arrivalTimes, dropsLater, offersAnew, beginTakesASlot}
 use Rattle.rules.proofs.Laws.{clash}
@@ -178,13 +178,13 @@ firstStation-unfair demand = clash (served .ends (lit≤ tt)) refl
     s : Station
     s = record { address = 7; capability = 3; queue = p ∷ []; offer = none }
 
-    served : Served 3 2 s p said
+    served : EndsWithin (mostContentions 3) most-idle (mostSlots 3 2) s p said
     served =
         demand circuits calls (steps 4) s p (record {
           by-circuit = refl;
           listed = in-tail (in-tail (at-head refl));
           rest = [];
-          oldest = refl;
+          queue = refl;
           begins = refl;
         })
 

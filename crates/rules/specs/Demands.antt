@@ -4,14 +4,14 @@
 use Prim.Native.Nat.{ℕ, suc, _+_, _-_, _*_, _≤_, _<_, max}
 use mathlib.Core.Path.{_≡_}
 use mathlib.Core.Logic.{_⊎_, _↔_}
-use mathlib.Core.Bool.{Bool, true, _&&_, cond}
+use mathlib.Core.Bool.{Bool, true, false, not, _&&_, _||_, cond}
 use mathlib.Core.Option.{Option, none, some}
 use mathlib.Core.List.{List, [], _∷_, _++_, map}
-use lib.Dec.{eqb}
+use lib.Dec.{leb, eqb}
 use lib.ListN.{length, replicate}
 use Rattle.window.specs.Splitting.{exponentOf, firstWindow}
 use Rattle.rules.specs.Lists.{bit, keep, count, some-of, total, countUp, Among, All, Distinct}
-use Rattle.rules.specs.Bus.{Discipline, PRI, RTDG, RTVC, Packet, Offer, Station, Bus, nothing, waiting}
+use Rattle.rules.specs.Bus.{Discipline, PRI, RTDG, RTVC, code, Packet, Offer, Station, Bus, nothing, waiting}
 use Rattle.rules.specs.SetUp.{Request, setUp}
 use Rattle.rules.specs.Standing.{stands, Standing}
 use Rattle.rules.specs.Admission.{Arrival, Admitted, numbered, queued, admit}
@@ -19,7 +19,7 @@ use Rattle.rules.specs.Begin.{parameterOf, entered}
 use Rattle.rules.specs.Conditions.{Late}
 use Rattle.rules.specs.Probe.{Answer, Contender, able, contenders, transmitters, idle, collision, success, refusedAnswer, dropping, waitOf}
 use Rattle.rules.specs.Step.{Contends, refusedBegun, beginCall, probeCall, opened, step}
-use Rattle.rules.specs.Engine.{Engine, machine, stepOf, Call, OwnCall, admission, one-probe, Reply, admitted, begun, probed, replies, reach, admissionsIn, answers}
+use Rattle.rules.specs.Engine.{Engine, machine, stepOf, Call, OwnCall, admission, one-begin, one-probe, one-step, Reply, admitted, begun, probed, reply, replies, reach, admissionsIn, answers}
 
 -- ---- demand 2
 
@@ -370,64 +370,183 @@ abbrev pub longestIn : List Answer → ℕ
 longestIn [] = 0
 longestIn (a ∷ said) = max (a .length) (longestIn said)
 
--- whether an answer says that this station's packet was sent
-abbrev pub sends : Station → Packet → Answer → Bool
-sends s p a = eqb (a .event) success && eqb (a .address) (s .address) && eqb (a .number) (p .number)
+-- whether an answer is a success of this address, and whether it says that this station's packet was sent
+abbrev pub wins : ℕ → Answer → Bool
+wins address a = eqb (a .event) success && eqb (a .address) address
 
--- A circuit s that waits with its oldest packet p on the bus b: demand 3's premises. 'if no step is refused for the clock's end' is none of them: a
--- refused call takes no slot and ends no contention, so that what is counted below is true with such calls among the others.
-pub record CircuitWaits (b : Bus) (s : Station) (p : Packet) : Type 0 where
+abbrev pub sends : Station → Packet → Answer → Bool
+sends s p a = wins (s .address) a && eqb (a .number) (p .number)
+
+-- A circuit s that waits on the bus b with the packets `ahead`, and p after them: demand 3's premises, where p is the oldest if none is ahead. 'if no
+-- step is refused for the clock's end' is none of them: a refused call takes no slot and ends no contention, so that what is counted below is true
+-- with such calls among the others.
+pub record CircuitWaits (b : Bus) (s : Station) (ahead : List Packet) (p : Packet) : Type 0 where
   -- 'Under RTVC'
   pub by-circuit : b .discipline ≡ RTVC
-  -- 'if a circuit has a packet': p is the oldest, the first of its queue
+  -- 'if a circuit has a packet'
   pub listed : Among s (b .stations)
   pub rest : List Packet
-  pub oldest : s .queue ≡ p ∷ rest
+  pub queue : s .queue ≡ ahead ++ (p ∷ rest)
   -- 'when a contention begins': none is under way, and the next begin, or step, begins one
   pub begins : b .contention ≡ none
 
--- 'its oldest packet has ended within N + 1 contentions, at most one of them idle, and within N × (2L − 1 + P) + 1 slots'. The first three
--- say so of the answers up to its end, or of all there are where it has not ended yet; the last two say that it ends: it has been sent
--- once so many contentions, or slots, have gone by. P is 'the longest packet sent meanwhile', its own among them.
-pub record Served (N L : ℕ) (s : Station) (p : Packet) (said : List Answer) : Type 0 where
-  pub contentions : contentionsIn (upTo (sends s p) said) ≤ mostContentions N
-  pub one-idle : idleContentionsIn (upTo (sends s p) said) ≤ most-idle
-  pub slots : slotsIn (upTo (sends s p) said) ≤ mostSlots N L (longestIn (upTo (sends s p) said))
-  pub ends : mostContentions N ≤ contentionsIn said → some-of (sends s p) said ≡ true
-  pub ends-in-time : (P : ℕ) → p .length ≤ P → longestIn said ≤ P → mostSlots N L P ≤ slotsIn said → some-of (sends s p) said ≡ true
+-- The packet p of s has ended within n contentions, `idles` of them idle at the most, and within `slots P` slots. The first three say so of the answers
+-- up to its end, or of all there are where it has not ended yet; the last two say that it ends: it has been sent once so many contentions, or
+-- slots, have gone by. P is 'the longest packet sent meanwhile', its own among them.
+pub record EndsWithin (n idles : ℕ) (most : ℕ → ℕ) (s : Station) (p : Packet) (said : List Answer) : Type 0 where
+  pub contentions : contentionsIn (upTo (sends s p) said) ≤ n
+  pub idle-ones : idleContentionsIn (upTo (sends s p) said) ≤ idles
+  pub slots : slotsIn (upTo (sends s p) said) ≤ most (longestIn (upTo (sends s p) said))
+  pub ends : n ≤ contentionsIn said → some-of (sends s p) said ≡ true
+  pub ends-in-time : (P : ℕ) → p .length ≤ P → longestIn said ≤ P → most P ≤ slotsIn said → some-of (sends s p) said ≡ true
 
--- whoever waits on the bus b is served: N is the number of its circuits, L the number of halvings of the first window of D
-abbrev pub Serves : Bus → List Answer → Type 0
-Serves b said = (s : Station) (p : Packet) → CircuitWaits b s p → Served (length (b .stations)) (exponentOf (b .D)) s p said
+-- a bound for N, L and P on the bus b: N is the number of its circuits, L the number of halvings of the first window of D
+abbrev pub slotsOn : (ℕ → ℕ → ℕ → ℕ) → Bus → ℕ → ℕ
+slotsOn bound b P = bound (length (b .stations)) (exponentOf (b .D)) P
+
+-- 'its oldest packet has ended within N + 1 contentions, at most one of them idle, and within ..'
+abbrev pub Serves : (ℕ → ℕ → ℕ → ℕ) → Bus → List Answer → Type 0
+Serves bound b said =
+    (s : Station) (p : Packet) → CircuitWaits b s [] p
+    → EndsWithin (mostContentions (length (b .stations))) most-idle (slotsOn bound b) s p said
 
 -- 'Under RTVC with N circuits, from any state reached from set-up ..'. The bus is the machine's after these calls, and the answers are the
 -- engine's, after the same calls, to the probes and steps among `later`. 'Other stations may admit as they like': any calls may stand there.
 abbrev pub Demand3 : Engine → Type 0
-Demand3 E = (r : Request) (calls later : List Call) → Serves (reach machine r calls) (answers E (reach E r calls) later)
+Demand3 E = (r : Request) (calls later : List Call) → Serves mostSlots (reach machine r calls) (answers E (reach E r calls) later)
 
 -- ---- beyond demand 3
 
 -- The slot of the idle contention need not be added: the packet has ended within N × (2L − 1 + P) slots.
-pub record ServedSooner (N L : ℕ) (s : Station) (p : Packet) (said : List Answer) : Type 0 where
-  pub slots : slotsIn (upTo (sends s p) said) ≤ fewerSlots N L (longestIn (upTo (sends s p) said))
-  pub ends-in-time : (P : ℕ) → p .length ≤ P → longestIn said ≤ P → fewerSlots N L P ≤ slotsIn said → some-of (sends s p) said ≡ true
-
-abbrev pub ServesSooner : Bus → List Answer → Type 0
-ServesSooner b said = (s : Station) (p : Packet) → CircuitWaits b s p → ServedSooner (length (b .stations)) (exponentOf (b .D)) s p said
-
--- the same for engines
 abbrev pub SoonerThanDemand3 : Engine → Type 0
-SoonerThanDemand3 E = (r : Request) (calls later : List Call) → ServesSooner (reach machine r calls) (answers E (reach E r calls) later)
+SoonerThanDemand3 E = (r : Request) (calls later : List Call) → Serves fewerSlots (reach machine r calls) (answers E (reach E r calls) later)
 
--- How old a circuit's oldest packet can be when it wins (P1): the wait, and the slots of the packet itself, are at most what it had waited when
--- the contention began and N × (2L − 1 + P) slots.
+-- 'the bound of demand 3 for the j-th packet in a queue as j times the bound for the oldest' (P13): the place of a packet, itself counted
+abbrev pub place : List Packet → ℕ
+place ahead = suc (length ahead)
+
+abbrev pub ServesInTurn : (ℕ → ℕ → ℕ → ℕ) → Bus → List Answer → Type 0
+ServesInTurn bound b said =
+    (s : Station) (ahead : List Packet) (p : Packet) → CircuitWaits b s ahead p
+    → EndsWithin
+    (place ahead * mostContentions (length (b .stations)))
+    (place ahead * most-idle)
+    (λ P. place ahead * slotsOn bound b P)
+    s
+    p
+    said
+
+-- with the slots of demand 3, and with a slot fewer for each packet
+abbrev pub InTurn : (ℕ → ℕ → ℕ → ℕ) → Engine → Type 0
+InTurn bound E = (r : Request) (calls later : List Call) → ServesInTurn bound (reach machine r calls) (answers E (reach E r calls) later)
+
+-- How old a packet can be when it wins (P1): its wait, and its own slots, are at most what it had waited when the contention began, and `most P`.
+abbrev pub WinsWithin : (ℕ → ℕ) → Bus → Station → Packet → List Answer → Type 0
+WinsWithin most b s p said =
+    (a : Answer) → Among a (upTo (sends s p) said) → sends s p a ≡ true
+    → a .wait + a .length ≤ waitOf p (b .clock) + most (longestIn (upTo (sends s p) said))
+
+-- of a circuit's oldest packet: N × (2L − 1 + P) slots
 abbrev pub OldestWaits : Bus → List Answer → Type 0
-OldestWaits b said =
-    (s : Station) (p : Packet) → CircuitWaits b s p → (a : Answer) → Among a (upTo (sends s p) said) → sends s p a ≡ true
-    → a .wait + a .length ≤ waitOf p (b .clock) + fewerSlots (length (b .stations)) (exponentOf (b .D)) (longestIn (upTo (sends s p) said))
+OldestWaits b said = (s : Station) (p : Packet) → CircuitWaits b s [] p → WinsWithin (slotsOn fewerSlots b) b s p said
 
 abbrev pub WaitOfTheOldest : Engine → Type 0
 WaitOfTheOldest E = (r : Request) (calls later : List Call) → OldestWaits (reach machine r calls) (answers E (reach E r calls) later)
+
+-- of its j-th, from the contention that begins after its admission: j times as many
+abbrev pub WaitsInTurn : Bus → List Answer → Type 0
+WaitsInTurn b said =
+    (s : Station) (ahead : List Packet) (p : Packet) → CircuitWaits b s ahead p
+    → WinsWithin (λ P. place ahead * slotsOn fewerSlots b P) b s p said
+
+abbrev pub WaitInTurn : Engine → Type 0
+WaitInTurn E = (r : Request) (calls later : List Call) → WaitsInTurn (reach machine r calls) (answers E (reach E r calls) later)
+
+-- ---- nobody passes a waiting circuit twice (P13)
+
+-- 'each other circuit succeeds at most once between them, and at most one contention between them is idle'
+abbrev pub most-passes : ℕ
+most-passes = 1
+
+abbrev pub most-idle-between : ℕ
+most-idle-between = 1
+
+-- the successes of an address among answers
+abbrev pub successesOf : ℕ → List Answer → ℕ
+successesOf address said = count (wins address) said
+
+-- the answers after a circuit's success, up to its next success or all there are
+pub record PassedOnce (address : ℕ) (between : List Answer) : Type 0 where
+  pub each-other : (other : ℕ) → ¬ (other ≡ address) → successesOf other between ≤ most-passes
+  pub idle-ones : idleContentionsIn between ≤ most-idle-between
+
+-- calls beside the replies to them
+abbrev pub beside : List Call → List Reply → List (Call × Reply)
+beside [] rs = []
+beside (c ∷ calls) [] = []
+beside (c ∷ calls) (r ∷ rs) = (c, r) ∷ beside calls rs
+
+-- whether a call asks to admit a packet at this address, and whether a reply is a success of it
+abbrev pub asks-at : ℕ → Call → Bool
+asks-at address (admission a) = eqb (a .address) address
+asks-at address one-begin = false
+asks-at address one-probe = false
+asks-at address one-step = false
+
+abbrev pub succeeds : ℕ → Reply → Bool
+succeeds address (admitted a) = false
+succeeds address (begun o) = false
+succeeds address (probed a) = wins address a
+
+-- What calls and replies since set-up tell of a circuit: how many packets wait at its address, and whether a contention is under way.
+pub record Tally : Type 0 where
+  pub waiting : ℕ
+  pub under-way : Bool
+
+abbrev pub blank : Tally
+blank = record { waiting = 0; under-way = false }
+
+-- after one call more: an accepted admission at the address adds a packet, its success takes one away (in RTVC nothing is dropped); an accepted begin
+-- begins a contention, and so does an accepted step, which is over if its answer ends it
+abbrev pub tallied : ℕ → Tally → Call → Reply → Tally
+tallied address t c (admitted a) = record { waiting = t .waiting + bit (eqb (a .refusal) 0 && asks-at address c); under-way = t .under-way }
+tallied address t c (begun o) = record { waiting = t .waiting; under-way = cond (eqb (o .refusal) 0) true (t .under-way) }
+tallied address t c (probed a) =
+    record { waiting = t .waiting - bit (wins address a); under-way = cond (eqb (a .refusal) 0) (eqb (a .ended) 0) (t .under-way) }
+
+abbrev pub tally : ℕ → Tally → List (Call × Reply) → Tally
+tally address t [] = t
+tally address t (x ∷ xs) = tally address (tallied address t (x .0) (x .1)) xs
+
+-- whether a contention began with a reply, by whether one was under way before it
+abbrev pub begins-one : Bool → Reply → Bool
+begins-one under-way (admitted a) = false
+begins-one under-way (begun o) = eqb (o .refusal) 0
+begins-one under-way (probed a) = not under-way && eqb (a .refusal) 0
+
+-- whether a packet waits, if a contention began
+abbrev pub waits-at : Tally → Reply → Bool
+waits-at t r = not (begins-one (t .under-way) r) || leb 1 (t .waiting)
+
+-- 'if a circuit has a packet waiting at the beginning of every contention between two successive successes of its own': up to its next success, the
+-- contention that it wins included, or over all there are
+abbrev pub waits-throughout : ℕ → Tally → List (Call × Reply) → Bool
+waits-throughout address t [] = true
+waits-throughout address t (x ∷ xs) =
+    waits-at t (x .1) && (succeeds address (x .1) || waits-throughout address (tallied address t (x .0) (x .1)) xs)
+
+-- 'For pure RTVC, over any calls from set-up': c, after these calls, is answered with a success of the address. The calls `later` are any: admissions,
+-- refused calls and begins without a probe may stand anywhere among them. All is counted from E's own replies.
+abbrev pub NobodyPassesTwice : Engine → Type 0
+NobodyPassesTwice E =
+    (r : Request) (calls : List Call) (c : Call) (later : List Call) (address : ℕ) → r .discipline ≡ code RTVC
+    → succeeds address (reply E (reach E r calls) c) ≡ true
+    → waits-throughout
+    address
+    (tally address blank (beside (calls ++ (c ∷ [])) (replies E (E .setUp r .1) (calls ++ (c ∷ [])))))
+    (beside later (replies E (reach E r (calls ++ (c ∷ []))) later))
+    ≡ true
+    → PassedOnce address (upTo (wins address) (answers E (reach E r (calls ++ (c ∷ []))) later))
 
 -- ---- what demand 2 gives an engine
 
@@ -444,4 +563,8 @@ pub record Promised (E : Engine) : Type 0 where
   pub waitsAreTrue : WaitsAreTrue E
   pub demand3 : Demand3 E
   pub soonerThanDemand3 : SoonerThanDemand3 E
+  pub inTurn : InTurn mostSlots E
+  pub soonerInTurn : InTurn fewerSlots E
   pub waitOfTheOldest : WaitOfTheOldest E
+  pub waitInTurn : WaitInTurn E
+  pub nobodyPassesTwice : NobodyPassesTwice E
