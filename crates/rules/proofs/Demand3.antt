@@ -15,19 +15,18 @@ use Rattle.window.specs.Splitting.{exponentOf}
 use Rattle.rules.specs.Lists.{bit, some-of, Among, at-head}
 use Rattle.rules.specs.Bus.{RTVC, Packet, Station, Bus}
 use Rattle.rules.specs.SetUp.{Asked, Request}
-use Rattle.rules.specs.Standing.{asked, Standing}
+use Rattle.rules.specs.Standing.{asked}
 use Rattle.rules.specs.Begin.{sits-out}
 use Rattle.rules.specs.Probe.{Answer, refusedAnswer, success, idle, probe}
 use Rattle.rules.specs.Step.{opened}
 use Rattle.rules.specs.Engine.{Engine, machine, Call, reach, answers}
 use Rattle.rules.specs.Demands.{Demand2, slotsOf, mostContentions, most-idle, mostSlots, fewerSlots, contentionsIn, idleContentionsIn, slotsIn, longestIn, sends, upTo, CircuitWaits, EndsWithin, slotsOn, Serves, Demand3, SoonerThanDemand3, place, ServesInTurn, InTurn}
-use Rattle.rules.proofs.Laws.{clash, or-false, among-right, map-into}
+use Rattle.rules.proofs.Laws.{clash, or-false, bit-most, among-right, map-into}
 use Rattle.rules.proofs.Reach.{answers-agree}
-use Rattle.rules.proofs.Probes.{Crowded, probesLeft, halved-once, probes-left, probes-fall}
-use Rattle.rules.proofs.Enabled.{Enabled}
+use Rattle.rules.proofs.Probes.{probesLeft, halved-once, probes-left, probes-fall}
 use Rattle.rules.proofs.Round.{winsLeft, idlesLeft, spareLeft, wins-left, wins-most, own-wins, own-again, other-wins, idle-ends, spare-paid}
 use Rattle.rules.proofs.Circuit.{circuitsOf, Waits, Turn, goes-on, its-own, earlier, anothers, nobodys, takes-part}
-use Rattle.rules.proofs.Turns.{Reached, reached-stands, left-at-begin, waits-first, Holds, over-calls}
+use Rattle.rules.proofs.Turns.{Sound, sound-reached, left-at-begin, waits-first, Holds, any-calls}
 
 -- ---- answers, one after the other
 
@@ -171,30 +170,30 @@ module _ (row : List Asked) (D : ℕ) (s : Station) (p : Packet) (own : Among (s
 
   -- one probe, and the answers after it
   keeping-probe :
-      {ahead : List Packet} (b : Bus) (said : List Answer) → Standing b → Crowded b → Turn row D s p b (probe (opened b)) ahead
+      {ahead : List Packet} (b : Bus) (said : List Answer) → Sound b → Turn row D s p b (probe (opened b)) ahead
       → ((before : List Packet) → Waits row D s p before (probe (opened b) .1)
       → Keeping before (probe (opened b) .1 .last) (probesLeft (probe (opened b) .1)) said)
       → Keeping ahead (b .last) (probesLeft b) (probe (opened b) .0 ∷ said)
-  keeping-probe {ahead} b said h crowded (goes-on ended event last w′) more =
-      within-on (probe (opened b) .0) said (unsent-says (probe (opened b) .0) event) ended event (probes-fall b h ended)
+  keeping-probe {ahead} b said h (goes-on ended event last w′) more =
+      within-on (probe (opened b) .0) said (unsent-says (probe (opened b) .0) event) ended event (probes-fall b (h .standing) ended)
       (subst (λ l. Keeping ahead l (probesLeft (probe (opened b) .1)) said) last (more ahead w′))
-  keeping-probe b said h crowded (its-own ended event it out two) more =
-      let k = own-wins (circuitsOf row) (s .capability) (b .last) (probesLeft b) out (probes-left b h crowded) two in
+  keeping-probe b said h (its-own ended event it out two) more =
+      let k = own-wins (circuitsOf row) (s .capability) (b .last) (probesLeft b) out (probes-left b (h .standing) (h .crowded)) two in
       within-said (probe (opened b) .0) said it ended event (omega (arith, wins-left (circuitsOf row) (s .capability) own (b .last))) (omega arith)
-  keeping-probe b said h crowded (earlier {q} {ahead} ended event own-win it out two last c w′) more =
+  keeping-probe b said h (earlier {q} {ahead} ended event own-win it out two last c w′) more =
       let again = own-again (circuitsOf row) (s .capability) in
-      let k = own-wins (circuitsOf row) (s .capability) (b .last) (probesLeft b) out (probes-left b h crowded) two in
+      let k = own-wins (circuitsOf row) (s .capability) (b .last) (probesLeft b) out (probes-left b (h .standing) (h .crowded)) two in
       let l = wins-left (circuitsOf row) (s .capability) own (b .last) in
       let m = suc-mul (length ahead) (length (circuitsOf row)) in
       within-other (probe (opened b) .0) said it ended event (omega arith) (omega arith) (omega arith)
       (next-begins (probe (opened b) .1) said last c w′ (more _ w′))
-  keeping-probe b said h crowded (anothers ended event at other last i out below two c w′) more =
+  keeping-probe b said h (anothers ended event at other last i out below two c w′) more =
       let fewer = other-wins (circuitsOf row) (s .capability) (b .last) (map-into (λ t. t .capability) row i) out below in
-      let k = fewer .2 (probesLeft b) (probes-left b h crowded) two in
+      let k = fewer .2 (probesLeft b) (probes-left b (h .standing) (h .crowded)) two in
       within-other (probe (opened b) .0) said (others-says (probe (opened b) .0) (λ e. other (sym at ∙ e))) ended event
       (omega (arith, fewer .0)) (omega (arith, fewer .1)) (omega arith)
       (next-begins (probe (opened b) .1) said last c w′ (more _ w′))
-  keeping-probe {ahead} b said h crowded (nobodys ended event all out last c′ w′) more =
+  keeping-probe {ahead} b said h (nobodys ended event all out last c′ w′) more =
       let fewer = idle-ends (circuitsOf row) (s .capability) (b .last) out in
       let unsent = unsent-says (probe (opened b) .0) (λ e. let y : _≡_ {A = ℕ} 0 2 = sym event ∙ e in omega arith) in
       subst (λ n. Keeping ahead (b .last) n (probe (opened b) .0 ∷ said)) (sym all)
@@ -202,10 +201,10 @@ module _ (row : List Asked) (D : ℕ) (s : Station) (p : Packet) (own : Among (s
       (next-begins (probe (opened b) .1) said last c′ w′ (more _ w′)))
 
   -- no call yet
-  keeping-none : {ahead : List Packet} (b : Bus) → Standing b → Crowded b → Enabled b → Waits row D s p ahead b → Keeping ahead (b .last) (probesLeft b) []
-  keeping-none b h crowded enabled w =
-      let one = probes-left b h crowded in
-      let two = takes-part row D s p b h crowded enabled w in
+  keeping-none : {ahead : List Packet} (b : Bus) → Sound b → Waits row D s p ahead b → Keeping ahead (b .last) (probesLeft b) []
+  keeping-none b h w =
+      let one = probes-left b (h .standing) (h .crowded) in
+      let two = takes-part row D s p b (h .standing) (h .crowded) (h .enabled) w in
       let l = wins-left (circuitsOf row) (s .capability) own (b .last) in
       let k = spare-paid (circuitsOf row) (s .capability) own (b .last) (probesLeft b) one two in
       within-none halved (omega arith) (omega arith) some-slots
@@ -254,29 +253,22 @@ ends-later {s = s} {p = p} {said = said} hn hi hm k =
       ends-in-time = λ P n m h. k .ends-in-time P n m (omega (arith, hm P));
     }
 
-bit-most : (t : Bool) → bit t ≤ 1
-bit-most true = omega arith
-bit-most false = omega arith
-
--- a circuit that waits on a reached bus
-module _ (b : Bus) (r : Reached b) (later : List Call) (s : Station) (ahead : List Packet) (p : Packet) (h : CircuitWaits b s ahead p) where
+-- a circuit that waits on a sound bus
+module _ (b : Bus) (sound : Sound b) (later : List Call) (s : Station) (ahead : List Packet) (p : Packet) (h : CircuitWaits b s ahead p) where
   abbrev row : List Asked
   row = map asked (b .stations)
-
-  stands-here : Standing b
-  stands-here = reached-stands r (h .by-circuit)
 
   own : Among (s .capability) (circuitsOf row)
   own = map-into (λ t. t .capability) row (map-into asked (b .stations) (h .listed))
 
   some-slots : 1 ≤ p .length
   some-slots =
-      stands-here .each-station s (h .listed) .packets p (subst (Among p) (sym (h .queue)) (among-right ahead (at-head refl))) .least
+      sound .standing .each-station s (h .listed) .packets p (subst (Among p) (sym (h .queue)) (among-right ahead (at-head refl))) .least
 
-  kept : Keeping row (b .D) s p own some-slots (halved-once b stands-here) ahead (b .last) (2 * exponentOf (b .D)) (answers machine b later)
+  kept : Keeping row (b .D) s p own some-slots (halved-once b (sound .standing)) ahead (b .last) (2 * exponentOf (b .D)) (answers machine b later)
   kept =
       rw (left-at-begin b (b .D) (h .by-circuit) refl (h .begins)) at
-      (over-calls row (b .D) s p (Keeping row (b .D) s p own some-slots (halved-once b stands-here)) (keeping row (b .D) s p own some-slots (halved-once b stands-here)) later ahead b r (waits-first b s ahead p h))
+      (any-calls row (b .D) s p (Keeping row (b .D) s p own some-slots (halved-once b (sound .standing))) (keeping row (b .D) s p own some-slots (halved-once b (sound .standing))) later ahead b sound (waits-first b s ahead p h))
 
   all-circuits : length (circuitsOf row) ≡ length (b .stations)
   all-circuits = length-map row (λ t. t .capability) ∙ length-map (b .stations) asked
@@ -287,11 +279,11 @@ module _ (b : Bus) (r : Reached b) (later : List Call) (s : Station) (ahead : Li
       let most = wins-most (circuitsOf row) (s .capability) (b .last) in
       let one = bit-most (sits-out RTVC (b .last) (s .capability)) in
       let m = suc-mul (length ahead) (length (circuitsOf row)) in
-      rw (← all-circuits) (ends-sooner (length (circuitsOf row)) (place ahead) (omega arith) (omega arith) (omega arith) (halved-once b stands-here) kept)
+      rw (← all-circuits) (ends-sooner (length (circuitsOf row)) (place ahead) (omega arith) (omega arith) (omega arith) (halved-once b (sound .standing)) kept)
 
 -- the machine itself: a slot fewer for each packet than j times demand 3's bound,
 soonerInTurn-machine : InTurn fewerSlots machine
-soonerInTurn-machine r calls later = sooner-at (reach machine r calls) (r, calls, refl) later
+soonerInTurn-machine r calls later s ahead p h = sooner-at (reach machine r calls) (sound-reached r calls (h .by-circuit)) later s ahead p h
 
 -- for every engine that meets demand 2
 pub soonerInTurn : (E : Engine) → Demand2 E → InTurn fewerSlots E

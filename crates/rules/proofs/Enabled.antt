@@ -17,7 +17,7 @@ use Rattle.rules.specs.Step.{openedBy, opened}
 use Rattle.rules.specs.Engine.{machine, Call, reach}
 use Rattle.rules.proofs.Laws.{among-none, map-from}
 use Rattle.rules.proofs.Contenders.{contender-from, contenders-admitted, none-contends}
-use Rattle.rules.proofs.Reach.{reach-holds}
+use Rattle.rules.proofs.Reach.{Keeps, reach-holds}
 
 -- 'otherwise the station sits out'
 abbrev pub Enabled : Bus → Type 0
@@ -54,12 +54,14 @@ heard-enabled o [] h = go (o .contention .window .side)
 heard-enabled o (x ∷ []) h = no-contender (o .bus .discipline) (lastWinner (o .bus .discipline) x) (map (left x) (o .bus .stations)) (none-contends (left x) (o .bus .stations) (λ s. refl))
 heard-enabled o (x ∷ y ∷ more) h = h
 
-pub enabled-reached : (r : Request) (calls : List Call) → Enabled (reach machine r calls)
-enabled-reached =
-    reach-holds Enabled (λ x i. absurd (among-none i))
-    (record {
+pub enabled-keeps : Keeps Enabled
+enabled-keeps =
+    record {
       at-set-up = λ r z. no-contender (freshBus r .discipline) none (freshBus r .stations) (none-contends freshStation (take (r .N) (r .row)) (λ s. refl));
       at-admission = λ b a h p z x i. p x (subst (Among x) (contenders-admitted b a) i);
       at-begin = λ b h p e. opened-enabled b none p;
       at-probe = λ b h p z. heard-enabled (opened b) (transmitters (opened b .bus) (opened b .contention)) (opened-enabled b (b .contention) p);
-    })
+    }
+
+pub enabled-reached : (r : Request) (calls : List Call) → Enabled (reach machine r calls)
+enabled-reached = reach-holds Enabled (λ x i. absurd (among-none i)) enabled-keeps

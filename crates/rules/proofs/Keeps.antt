@@ -247,14 +247,35 @@ sender b c x h e i =
       lies = and-true _ _ (sends .1) .0;
     }
 
+-- the stations stay as they are
+abbrev pub beside-stations : Bus → ℕ → Option ℕ → Option Contention → Bus
+beside-stations b clock last c =
+    record {
+      discipline = b .discipline;
+      D = b .D;
+      A = b .A;
+      q = b .q;
+      stations = b .stations;
+      clock = clock;
+      admitted = b .admitted;
+      sent = b .sent;
+      lost = b .lost;
+      last = last;
+      contention = c;
+    }
+
+pub beside-stands :
+    (b : Bus) (clock : ℕ) (last : Option ℕ) (c : Option Contention) → Standing b → b .clock ≤ clock → clock ≤ clock-end
+    → LastStands (b .discipline) (b .stations) last → (c ≡ none → b .contention ≡ none) → ContentionStands b c → Standing (beside-stations b clock last c)
+beside-stands b clock last c h on t won still w =
+    rw (← (map-id (b .stations)))
+    (moved-stands b (λ s. s) clock (b .sent) (b .lost) last c h (λ s. refl) (λ s. fewer-all (s .queue)) on t (rw (map-id (b .stations)))
+    (λ s i. offer-kept b _ refl refl s s refl (λ p j. j) (b .contention) c still (s .offer) (h .each-station s i .offered))
+    (last-kept (λ s. s) (λ s. refl) (b .stations) (b .discipline) last won) w)
+
 -- a contention goes on with another window
 goes-on-stands : (b : Bus) (c : Contention) → Standing b → b .clock ≤ last-slot → ContentionStands b (some c) → Standing (goesOn b c)
-goes-on-stands b c h t w =
-    rw (← (map-id (b .stations)))
-    (moved-stands b (λ s. s) (suc (b .clock)) (b .sent) (b .lost) (b .last) (some c) h (λ s. refl) (λ s. fewer-all (s .queue)) (omega arith)
-    (omega arith) (rw (map-id (b .stations)))
-    (λ s i. offer-kept b _ refl refl s s refl (λ p j. j) (b .contention) (some c) (λ e. cc) (s .offer) (h .each-station s i .offered))
-    (last-kept (λ s. s) (λ s. refl) (b .stations) (b .discipline) (b .last) (h .last-winner)) w)
+goes-on-stands b c h t w = beside-stands b (suc (b .clock)) (b .last) (some c) h (omega arith) (omega arith) (h .last-winner) (λ e. cc) w
 
 -- the window after a collision; a tie phase begins at size 1, so that the tied value is a transmitter's parameter
 split-stands : (b : Bus) (c : Contention) (x : Contender) → ContentionStands b (some c) → Sender b c x → ContentionStands b (some (split b c))

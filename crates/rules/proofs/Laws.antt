@@ -28,6 +28,10 @@ pub or-false : (a b : Bool) → (a || b) ≡ false → (a ≡ false) × (b ≡ f
 or-false true b e = clash refl e
 or-false false b e = (refl, e)
 
+pub bit-most : (t : Bool) → bit t ≤ 1
+bit-most true = omega arith
+bit-most false = omega arith
+
 -- ---- each and some
 
 module _ {X : Type 0} where

@@ -26,7 +26,7 @@ use Rattle.rules.specs.Engine.{Engine, machine, Call, reach}
 use Rattle.rules.specs.Demands.{Demand2, Ahead, contendersAt, StillAble, transmittersAt, Least, WinnerIsLeast, Heard, TrueEvents, NoFalseWin, EventsAreTrue, AddressesApart}
 use Rattle.rules.proofs.Laws.{clash, and-true, and-false, among-cases, among-none, keep-from, keep-into}
 use Rattle.rules.proofs.Standing.{set-up-stands}
-use Rattle.rules.proofs.Reach.{answer-cases, reach-holds, standing-reached, answers-agree}
+use Rattle.rules.proofs.Reach.{Keeps, answer-cases, reach-holds, standing-reached, answers-agree}
 use Rattle.rules.proofs.Contenders.{contenders-admitted}
 
 -- no contender below the window: in the tie phase none of a smaller parameter, nor of the tied one and a smaller address
@@ -139,15 +139,17 @@ admission-clears : (b : Bus) (a : Arrival) (c : Option Contention) → ClearedBy
 admission-clears b a none k = tt
 admission-clears b a (some c) k = λ x i. k x (subst (Among x) (contenders-admitted b a) i)
 
-pub cleared-reached : (r : Request) (calls : List Call) → Cleared (reach machine r calls)
-cleared-reached =
-    reach-holds Cleared tt
-    (record {
+pub cleared-keeps : Keeps Cleared
+cleared-keeps =
+    record {
       at-set-up = λ r e. tt;
       at-admission = λ b a h k e. admission-clears b a (b .contention) k;
       at-begin = λ b h k e. opened-clears b none tt;
       at-probe = λ b h k e. probe-clears (opened b) (opened-clears b (b .contention) k);
-    })
+    }
+
+pub cleared-reached : (r : Request) (calls : List Call) → Cleared (reach machine r calls)
+cleared-reached = reach-holds Cleared tt cleared-keeps
 
 -- ---- the theorems
 

@@ -20,6 +20,7 @@ pub mod Enabled
 pub mod Round
 pub mod Circuit
 pub mod Turns
+pub mod Ending
 pub mod Tallied
 pub mod Passing
 pub mod Demand3

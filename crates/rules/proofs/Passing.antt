@@ -1,37 +1,38 @@
 -- Nobody passes a waiting circuit twice (P13): between two successes of a circuit that waits, each other succeeds at most once, and at most one contention
--- is idle, for every engine that meets demand 2. Assumes nothing.
+-- is idle, for every engine that meets demand 2; and for the one that ends the round as soon as the top circuit has sent. Assumes nothing.
 use Prim.Native.Nat.{ℕ, _+_, _≤_, _<_}
 use mathlib.Core.Path.{_≡_, refl, sym, ap, _∙_, subst}
 use mathlib.Core.Logic.{_⊎_, inl, inr}
-use mathlib.Core.Bool.{Bool, true, false, not, _&&_, _||_, cond, and-false}
+use mathlib.Core.Bool.{Bool, true, false, _&&_, cond, and-false}
 use mathlib.Core.Option.{Option, none, some}
 use mathlib.Core.List.{List, [], _∷_, _++_, map}
 use native.Mathlib.Omega.{arith}
 use lib.Dec.{eqb, leb}
 use lib.ListN.{length, take, length-map, getD}
-use borrow.Author.Tests.{eqb-true, eq-eqb, ne-eqb}
-use Rattle.rules.specs.Lists.{bit, keep, count, Among, at-head, Distinct}
+use borrow.Author.Tests.{eqb-true, eq-eqb, ne-eqb, le-leb}
+use Rattle.rules.specs.Lists.{bit, keep, Among, Distinct}
 use Rattle.rules.specs.Bus.{RTVC, code, Packet, Station, Bus, nothing}
 use Rattle.rules.specs.SetUp.{Asked, Request, disciplineOf, freshStation, freshBus, setUp}
-use Rattle.rules.specs.Standing.{asked, Standing}
+use Rattle.rules.specs.Standing.{asked}
 use Rattle.rules.specs.Admission.{joined, withPacket}
 use Rattle.rules.specs.Begin.{sits-out}
 use Rattle.rules.specs.Probe.{Answer, refusedAnswer, success, idle, probe}
 use Rattle.rules.specs.Step.{is-under-way, refusedBegun, opened}
-use Rattle.rules.specs.Engine.{Engine, machine, Call, admission, one-begin, one-probe, one-step, begun, probed, reply, next, replies, reach, probeIn, answers}
+use Rattle.rules.specs.Engine.{Engine, machine, Call, admission, one-begin, one-probe, one-step, begun, probed, reply, next, after, replies, reach, probeIn, answers}
 use Rattle.rules.specs.Demands.{Demand2, upTo, idleContentionsIn, wins, CircuitWaits, successesOf, PassedOnce, beside, succeeds, Tally, blank, tallied, tally, waits-at, waits-throughout, NobodyPassesTwice}
-use Rattle.rules.proofs.Laws.{clash, and-true, all-map, keep-into, length-keep, map-into, map-map}
+use Rattle.rules.specs.WrongEngines.{amended, roundOver, endingRound, topSent, topEndsRound}
+use Rattle.rules.proofs.Laws.{clash, and-true, bit-most, all-map, keep-into, length-keep, map-into, map-map}
 use Rattle.rules.proofs.Numbers.{one-apart, held}
-use Rattle.rules.proofs.Standing.{SetUpStands, set-up-stands, accepted-set-up}
+use Rattle.rules.proofs.Standing.{set-up-stands, accepted-set-up}
 use Rattle.rules.proofs.Refusals.{probe-number}
 use Rattle.rules.proofs.Contenders.{joined-alike}
-use Rattle.rules.proofs.Keeps.{keepsStanding}
-use Rattle.rules.proofs.Reach.{outcome, accepted-or-nothing, reachedStands, after-more, replies-agree, answers-agree, stepsAgree}
-use Rattle.rules.proofs.Probes.{Crowded, probesLeft}
-use Rattle.rules.proofs.Round.{winsLeft, idlesLeft, wins-most, own-again, other-wins, wins-stay, idle-ends}
+use Rattle.rules.proofs.Reach.{outcome, accepted-or-nothing, after-more, replies-agree, answers-agree, stepsAgree}
+use Rattle.rules.proofs.Probes.{probesLeft}
+use Rattle.rules.proofs.Round.{winsLeft, idlesLeft, wins-most, other-wins, wins-stay, idle-ends}
 use Rattle.rules.proofs.Circuit.{circuitsOf, Waits, Turn, goes-on, its-own, earlier, anothers, nobodys}
-use Rattle.rules.proofs.Turns.{Reached, reached-next, reached-stands, waits-first, Holds, over-calls}
-use Rattle.rules.proofs.Tallied.{Tells, Sent, sent-next, tells-next, tells-after}
+use Rattle.rules.proofs.Turns.{Sound, sound-reached, sound-next, waits-first, Holds, Everywhere, one-call}
+use Rattle.rules.proofs.Ending.{TopOnly, never, top-only, either, over-sound, over-waits, CallOver, call-over, nothing-stays}
+use Rattle.rules.proofs.Tallied.{Tells, Between, sent-next, tells-next}
 
 -- ---- while the circuit waits
 
@@ -73,17 +74,17 @@ module _ (row : List Asked) (D : ℕ) (s : Station) (p : Packet) where
 
   -- one probe, and the answers after it
   passed-probe :
-      {ahead : List Packet} (b : Bus) (said : List Answer) → Standing b → Crowded b → Turn row D s p b (probe (opened b)) ahead
+      {ahead : List Packet} (b : Bus) (said : List Answer) → Sound b → Turn row D s p b (probe (opened b)) ahead
       → ((before : List Packet) → Waits row D s p before (probe (opened b) .1) → Passed (probe (opened b) .1 .last) said)
       → Passed (b .last) (probe (opened b) .0 ∷ said)
-  passed-probe {ahead} b said h crowded (goes-on ended event last w′) more =
+  passed-probe {ahead} b said h (goes-on ended event last w′) more =
       let none! = unsent-wins (probe (opened b) .0) event in
       passed-more (probe (opened b) .0) said (none! (s .address)) (λ other. rw (none! other) (omega arith)) (rw ended (omega arith))
       (subst (λ l. Passed l said) last (more ahead w′))
-  passed-probe b said h crowded (its-own ended event it out two) more =
+  passed-probe b said h (its-own ended event it out two) more =
       passed-own (probe (opened b) .0) said (b .last) (and-true _ _ it .0)
-  passed-probe b said h crowded (earlier ended event it unsent out two last c w′) more = passed-own (probe (opened b) .0) said (b .last) it
-  passed-probe {ahead} b said h crowded (anothers {x = x} ended event at other! last i out below two c w′) more =
+  passed-probe b said h (earlier ended event it unsent out two last c w′) more = passed-own (probe (opened b) .0) said (b .last) it
+  passed-probe {ahead} b said h (anothers {x = x} ended event at other! last i out below two c w′) more =
       let fewer = other-wins (circuitsOf row) (s .capability) (b .last) (map-into (λ t. t .capability) row i) out below in
       let not-own : wins (s .address) (probe (opened b) .0) ≡ false = rw (event) (ne-eqb _ _ (λ e. other! (sym at ∙ e))) in
       passed-more (probe (opened b) .0) said not-own (λ other. go other (eqb other (x .address)) refl) (rw (ended, event) (omega (arith, fewer .1)))
@@ -101,7 +102,7 @@ module _ (row : List Asked) (D : ℕ) (s : Station) (p : Packet) where
       go other false e =
           let lost : wins other (probe (opened b) .0) ≡ false = rw (event) (ne-eqb _ _ (λ q. clash (eq-eqb other (x .address) (sym q ∙ at)) e)) in
           rw lost (omega (arith, wins-stay (circuitsAt other row) (s .capability) (b .last) out below))
-  passed-probe {ahead} b said h crowded (nobodys ended event all out last c w′) more =
+  passed-probe {ahead} b said h (nobodys ended event all out last c w′) more =
       let none! = unsent-wins (probe (opened b) .0) (λ e. let y : _≡_ {A = ℕ} 0 2 = sym event ∙ e in omega arith) in
       passed-more (probe (opened b) .0) said (none! (s .address))
       (λ other. rw (none! other) (omega (arith, idle-ends (circuitsAt other row) (s .capability) (b .last) out .0)))
@@ -111,109 +112,25 @@ module _ (row : List Asked) (D : ℕ) (s : Station) (p : Packet) where
   passing : Holds row D s p (λ ahead last left said. Passed last said)
   passing =
       record {
-        at-end = λ b h crowded enabled w. record { each = λ other h. omega arith; idles = omega arith };
+        at-end = λ b h w. record { each = λ other h. omega arith; idles = omega arith };
         at-refusal = λ n said z k. passed-more (refusedAnswer n) said refl (λ other. omega arith) (omega arith) k;
         at-probe = passed-probe;
       }
 
--- of a circuit that has just sent and has a packet
-passes-waiting :
-    (b : Bus) → Reached b → (s : Station) (p : Packet) → CircuitWaits b s [] p → b .last ≡ some (s .capability) → (later : List Call)
-    → PassedOnce (s .address) (upTo (wins (s .address)) (answers machine b later))
-passes-waiting b r s p h last later =
-    record {
-      each-other = λ other apart-from. omega (arith, k .each other apart-from, wins-most (circuitsAt other row) (s .capability) (some (s .capability)) .0, few other);
-      idle-ones = omega (arith, k .idles, own-again (circuitsOf row) (s .capability) .1);
-    }
-  where
-    row : List Asked
-    row = map asked (b .stations)
-
-    k : Passed row (b .D) s p (some (s .capability)) (answers machine b later)
-    k =
-        subst (λ l. Passed row (b .D) s p l (answers machine b later)) last
-        (over-calls row (b .D) s p (λ ahead l left said. Passed row (b .D) s p l said) (passing row (b .D) s p) later [] b r (waits-first b s [] p h))
-
-    apart : Distinct (map (λ t. t .address) row)
-    apart =
-        subst Distinct (sym (map-map (λ (t : Asked). t .address) asked (b .stations)))
-        (set-up-stands b (reached-stands r (h .by-circuit)) .addresses-apart)
-
-    few : (other : ℕ) → length (circuitsAt other row) ≤ 1
-    few other =
-        omega (
-          arith,
-          length-map (keep (λ t. eqb other (t .address)) row) (λ t. t .capability),
-          length-keep (λ t. eqb other (t .address)) row,
-          one-apart (λ t. t .address) other row apart,
-        )
-
--- ---- until it has a packet again
-
-module _ (address : ℕ) where
-  -- over these calls, from any reached state in which a success of the address was the last to end a contention, and none has begun since
-  abbrev Passes : List Call → Type 0
-  Passes later =
-      (b : Bus) (t : Tally) → Reached b → Sent address b → Tells address b t → waits-throughout address t (beside later (replies machine b later)) ≡ true
-      → PassedOnce address (upTo (wins address) (answers machine b later))
-
-  -- a refused probe is no success, and ends no contention
-  passes-refused :
-      (n : ℕ) (said : List Answer) → PassedOnce address (upTo (wins address) said) → PassedOnce address (upTo (wins address) (refusedAnswer n ∷ said))
-  passes-refused n said k = record { each-other = λ other h. omega (arith, k .each-other other h); idle-ones = omega (arith, k .idle-ones) }
-
-  -- an accepted probe that begins a contention while no packet waits does not meet the premise
-  unmet : (t : Tally) (a : Answer) → t .under-way ≡ false → a .refusal ≡ 0 → t .waiting ≡ 0 → waits-at t (probed a) ≡ false
-  unmet t a u n w = rw (u, n, w)
-
-  -- where it has no packet, no contention begins
-  passes-empty : (c : Call) (later : List Call) → Passes later → (b : Bus) (t : Tally) → t .waiting ≡ 0 → Reached b → Sent address b → Tells address b t
-      → waits-throughout address t (beside (c ∷ later) (replies machine b (c ∷ later))) ≡ true
-      → PassedOnce address (upTo (wins address) (answers machine b (c ∷ later)))
-  passes-empty c later passes b t empty r h tells premise =
-      outcome b
-      (λ rep b′.
-      Reached b′ → Tells address b′ (tallied address t c rep) → waits-throughout address t ((c, rep) ∷ beside later (replies machine b′ later)) ≡ true
-      → PassedOnce address (upTo (wins address) (probeIn rep (answers machine b′ later))))
-      (record {
-        refuses = λ n z r′ k w. passes b _ r h k w;
-        admits = λ a z r′ k w.
-            let alike = joined-alike b a (h .station) in
-            passes (withPacket b a) _ r′
-            (record {
-              station = joined b a (h .station);
-              listed = map-into (joined b a) (b .stations) (h .listed);
-              here = alike .0 ∙ h .here;
-              last = h .last ∙ ap some (sym (alike .1));
-              ended = h .ended;
-            })
-            k
-            w;
-        refuses-begin = λ n z r′ k w. passes b _ r h k (and-true (waits-at t (begun (refusedBegun n))) _ w .1);
-        begins = λ z r′ k w. clash w (rw empty);
-        refuses-probe = λ n z r′ k w. passes-refused n (answers machine b later) (passes b _ r h k (and-true (waits-at t (probed (refusedAnswer n))) _ w .1));
-        probes-one = λ z r′ k w.
-            clash (and-true (waits-at t (probed (probe (opened b) .0))) _ w .0) (unmet t (probe (opened b) .0) (sym (tells .under-way) ∙ ap is-under-way (h .ended)) (probe-number (opened b)) empty);
-      })
-      c
-      (reached-next r c)
-      (tells-next address b (reached-stands r (tells .by-circuit)) (tells .by-circuit) t tells c)
-      premise
-
-  passes-after : (later : List Call) → Passes later
-  passes-after [] b t r h tells premise = record { each-other = λ other h. omega arith; idle-ones = omega arith }
-  passes-after (c ∷ later) b t r h tells premise = go (h .station .queue) refl (passes-after later)
+  -- where the round is over no more is left
+  passed-over : (over : Bus → Bool) → TopOnly over → {ahead : List Packet} (b : Bus) (said : List Answer) → Waits row D s p ahead b
+      → Passed (roundOver over b .last) said → Passed (b .last) said
+  passed-over over top b said w k = go (over b) refl (b .last) refl k
     where
-      go : (queue : List Packet) → h .station .queue ≡ queue → Passes later → PassedOnce address (upTo (wins address) (answers machine b (c ∷ later)))
-      go [] e passes = passes-empty c later passes b t (sym (tells .waiting (h .station) (h .listed) (h .here)) ∙ ap length e) r h tells premise
-      go (p ∷ rest) e passes =
-          subst (λ n. PassedOnce n (upTo (wins n) (answers machine b (c ∷ later)))) (h .here)
-          (passes-waiting b r (h .station) p
-          (record { by-circuit = tells .by-circuit; listed = h .listed; rest = rest; queue = e; begins = h .ended })
-          (h .last)
-          (c ∷ later))
-
--- ---- from set-up
+      go : (t : Bool) → over b ≡ t → (last : Option ℕ) → b .last ≡ last → Passed (cond t (amended (b .clock) none b) b .last) said → Passed last said
+      go false e last l k′ = subst (λ l′. Passed l′ said) l k′
+      go true e none l k′ = k′
+      go true e (some v) l k′ =
+          let out : leb (s .capability) v ≡ true = le-leb _ _ (subst (λ n. n ≤ v) (w .capability) (top b e .1 v l (w .station) (w .listed))) in
+          record {
+            each = λ other h. omega (arith, k′ .each other h, idle-ends (circuitsAt other row) (s .capability) (some v) out .0);
+            idles = omega (arith, k′ .idles, idle-ends (circuitsOf row) (s .capability) (some v) out .1);
+          }
 
 -- what a refused set-up hands back answers no success
 nothing-succeeds : (address : ℕ) (c : Call) → succeeds address (reply machine nothing c) ≡ false
@@ -222,7 +139,7 @@ nothing-succeeds address one-begin = refl
 nothing-succeeds address one-probe = refl
 nothing-succeeds address one-step = refl
 
--- no packet waits as yet
+-- what an accepted one does has no packet waiting
 tells-fresh : (address : ℕ) (r : Request) → r .discipline ≡ code RTVC → Tells address (freshBus r) blank
 tells-fresh address r d =
     record {
@@ -231,28 +148,195 @@ tells-fresh address r d =
       waiting = all-map (λ s. s .address ≡ address → held s ≡ 0) freshStation (take (r .N) (r .row)) (λ s i e. refl);
     }
 
--- the machine itself
-nobodyPassesTwice-machine : NobodyPassesTwice machine
-nobodyPassesTwice-machine r calls c later address d won premise = go (accepted-or-nothing r calls)
-  where
-    sofar : List Call
-    sofar = calls ++ (c ∷ [])
+-- ---- the machine, and where the round may be over
 
-    go : (setUp r .0 .refusal ≡ 0) ⊎ (reach machine r calls ≡ nothing) → PassedOnce address (upTo (wins address) (answers machine (reach machine r sofar) later))
-    go (inr e) = clash (subst (λ (b : Bus). succeeds address (reply machine b c) ≡ true) e won) (nothing-succeeds address c)
-    go (inl z) =
-        passes-after address later (reach machine r sofar) _ (r, sofar, refl)
-        (subst (Sent address) (sym (after-more machine (setUp r .1) calls (c ∷ [])))
-        (sent-next address (reach machine r calls) (reachedStands r calls z) (tells-by calls .by-circuit) c won))
-        (tells-by sofar)
-        premise
+module _ (over : Bus → Bool) (top : TopOnly over) where
+  abbrev E : Engine
+  E = endingRound over
+
+  -- while the circuit waits
+  passes-calls :
+      (row : List Asked) (D : ℕ) (s : Station) (p : Packet) (later : List Call)
+      → Everywhere row D s p (λ ahead last left said. Passed row D s p last said) (λ b. answers E b later)
+  passes-calls row D s p [] ahead b h w = passing row D s p .at-end b h w
+  passes-calls row D s p (c ∷ later) ahead b h w =
+      rw (call .replied, call .state)
+      (one-call row D s p (λ before last left said. Passed row D s p last said) (passing row D s p) c (λ b′. answers E (roundOver (call .test) b′) later)
+      (λ before b′ h′ w′.
+      passed-over row D s p (call .test) (call .test-top) b′ _ w′
+      (passes-calls row D s p later before (roundOver (call .test) b′) (over-sound (call .test) (call .test-top) h′)
+      (over-waits (call .test) (call .test-top) w′)))
+      ahead
+      b
+      h
+      w)
+    where
+      call : CallOver over top b c
+      call = call-over over top b c
+
+  -- from the beginning of a contention, with a packet
+  passes-waiting :
+      (b : Bus) → Sound b → (s : Station) (p : Packet) → CircuitWaits b s [] p → (later : List Call)
+      → PassedOnce (s .address) (upTo (wins (s .address)) (answers E b later))
+  passes-waiting b sound s p h later =
+      record {
+        each-other = λ other h. omega (arith, k .each other h, wins-most (circuitsAt other row) (s .capability) (b .last) .0, few other);
+        idle-ones = omega (arith, k .idles, bit-most (sits-out RTVC (b .last) (s .capability)));
+      }
+    where
+      row : List Asked
+      row = map asked (b .stations)
+
+      k : Passed row (b .D) s p (b .last) (answers E b later)
+      k = passes-calls row (b .D) s p later [] b sound (waits-first b s [] p h)
+
+      apart : Distinct (map (λ t. t .address) row)
+      apart =
+          subst Distinct (sym (map-map (λ (t : Asked). t .address) asked (b .stations))) (set-up-stands b (sound .standing) .addresses-apart)
+
+      few : (other : ℕ) → length (circuitsAt other row) ≤ 1
+      few other =
+          omega (
+            arith,
+            length-map (keep (λ t. eqb other (t .address)) row) (λ t. t .capability),
+            length-keep (λ t. eqb other (t .address)) row,
+            one-apart (λ t. t .address) other row apart,
+          )
+
+  module _ (address : ℕ) where
+    -- a round that is over changes neither
+    over-tells : (test : Bus → Bool) → TopOnly test → (b : Bus) (t : Tally) → Tells address b t → Tells address (roundOver test b) t
+    over-tells test test-top b t h =
+        either test test-top (λ b′. Tells address b′ t) b h (λ e. record { by-circuit = h .by-circuit; under-way = h .under-way; waiting = h .waiting })
+
+    over-between : (test : Bus → Bool) → TopOnly test → (b : Bus) → Between address b → Between address (roundOver test b)
+    over-between test test-top b h =
+        either test test-top (Between address) b h (λ e. record { station = h .station; listed = h .listed; here = h .here; ended = h .ended })
+
+    -- a call, and what calls and replies tell
+    tells-call : (b : Bus) (t : Tally) (c : Call) → Sound b → Tells address b t
+        → Sound (next E b c) × Tells address (next E b c) (tallied address t c (reply E b c))
+    tells-call b t c h k =
+        let call = call-over over top b c in
+        rw (call .replied, call .state)
+        (over-sound (call .test) (call .test-top) (sound-next h c), over-tells (call .test) (call .test-top) (next machine b c) _ (tells-next address b (h .standing) (k .by-circuit) t k c))
+
+    tells-calls : (b : Bus) (t : Tally) (calls : List Call) → Sound b → Tells address b t
+        → Sound (after E b calls) × Tells address (after E b calls) (tally address t (beside calls (replies E b calls)))
+    tells-calls b t [] h k = (h, k)
+    tells-calls b t (c ∷ calls) h k = let n = tells-call b t c h k in tells-calls (next E b c) (tallied address t c (reply E b c)) calls (n .0) (n .1)
+
+    -- ---- until it has a packet again
+
+    -- over these calls, from any sound state between contentions
+    abbrev Passes : List Call → Type 0
+    Passes later =
+        (b : Bus) (t : Tally) → Sound b → Between address b → Tells address b t → waits-throughout address t (beside later (replies E b later)) ≡ true
+        → PassedOnce address (upTo (wins address) (answers E b later))
+
+    -- a refused probe is no success, and ends no contention
+    passes-refused :
+        (n : ℕ) (said : List Answer) → PassedOnce address (upTo (wins address) said) → PassedOnce address (upTo (wins address) (refusedAnswer n ∷ said))
+    passes-refused n said k = record { each-other = λ other h. omega (arith, k .each-other other h); idle-ones = omega (arith, k .idle-ones) }
+
+    -- an accepted probe that begins a contention while no packet waits does not meet the premise
+    unmet : (t : Tally) (a : Answer) → t .under-way ≡ false → a .refusal ≡ 0 → t .waiting ≡ 0 → waits-at t (probed a) ≡ false
+    unmet t a u n w = rw (u, n, w)
+
+    -- where it has no packet, no contention begins
+    passes-empty : (c : Call) (later : List Call) → Passes later → (b : Bus) (t : Tally) → t .waiting ≡ 0 → Sound b → Between address b → Tells address b t
+        → waits-throughout address t (beside (c ∷ later) (replies E b (c ∷ later))) ≡ true
+        → PassedOnce address (upTo (wins address) (answers E b (c ∷ later)))
+    passes-empty c later passes b t empty h between tells =
+        rw (call .replied, call .state)
+        (outcome b
+        (λ rep b′.
+        Sound b′ → Tells address b′ (tallied address t c rep)
+        → waits-throughout address t ((c, rep) ∷ beside later (replies E (roundOver (call .test) b′) later)) ≡ true
+        → PassedOnce address (upTo (wins address) (probeIn rep (answers E (roundOver (call .test) b′) later))))
+        (record {
+          refuses = λ n z h′ k w. goes-on-with b between h k w;
+          admits = λ a z h′ k w.
+              let alike = joined-alike b a (between .station) in
+              goes-on-with (withPacket b a)
+              (record {
+                station = joined b a (between .station);
+                listed = map-into (joined b a) (b .stations) (between .listed);
+                here = alike .0 ∙ between .here;
+                ended = between .ended;
+              })
+              h′
+              k
+              w;
+          refuses-begin = λ n z h′ k w. goes-on-with b between h k (and-true (waits-at t (begun (refusedBegun n))) _ w .1);
+          begins = λ z h′ k w. clash w (rw empty);
+          refuses-probe = λ n z h′ k w.
+              passes-refused n (answers E (roundOver (call .test) b) later) (goes-on-with b between h k (and-true (waits-at t (probed (refusedAnswer n))) _ w .1));
+          probes-one = λ z h′ k w.
+              clash (and-true (waits-at t (probed (probe (opened b) .0))) _ w .0)
+              (unmet t (probe (opened b) .0) (sym (tells .under-way) ∙ ap is-under-way (between .ended)) (probe-number (opened b)) empty);
+        })
+        c
+        (sound-next h c)
+        (tells-next address b (h .standing) (tells .by-circuit) t tells c))
       where
-        tells-by : (those : List Call) → Tells address (reach machine r those) (tally address blank (beside those (replies machine (setUp r .1) those)))
-        tells-by those =
-            tells-after address (setUp r .1) blank those (keepsStanding .set-up r z)
-            (subst (λ (b : Bus). Tells address b blank) (sym (accepted-set-up r z)) (tells-fresh address r d))
+        call : CallOver over top b c
+        call = call-over over top b c
 
--- every engine that meets demand 2
+        goes-on-with : (b′ : Bus) {t′ : Tally} → Between address b′ → Sound b′ → Tells address b′ t′
+            → waits-throughout address t′ (beside later (replies E (roundOver (call .test) b′) later)) ≡ true
+            → PassedOnce address (upTo (wins address) (answers E (roundOver (call .test) b′) later))
+        goes-on-with b′ {t′} i h′ k w =
+            passes (roundOver (call .test) b′) t′ (over-sound (call .test) (call .test-top) h′) (over-between (call .test) (call .test-top) b′ i)
+            (over-tells (call .test) (call .test-top) b′ t′ k)
+            w
+
+    passes-after : (later : List Call) → Passes later
+    passes-after [] b t h between tells premise = record { each-other = λ other h. omega arith; idle-ones = omega arith }
+    passes-after (c ∷ later) b t h between tells premise = go (between .station .queue) refl (passes-after later)
+      where
+        go : (queue : List Packet) → between .station .queue ≡ queue → Passes later → PassedOnce address (upTo (wins address) (answers E b (c ∷ later)))
+        go [] e passes =
+            passes-empty c later passes b t (sym (tells .waiting (between .station) (between .listed) (between .here)) ∙ ap length e) h between tells premise
+        go (p ∷ rest) e passes =
+            subst (λ n. PassedOnce n (upTo (wins n) (answers E b (c ∷ later)))) (between .here)
+            (passes-waiting b h (between .station) p
+            (record { by-circuit = tells .by-circuit; listed = between .listed; rest = rest; queue = e; begins = between .ended })
+            (c ∷ later))
+
+  -- ---- from set-up
+
+  pub passes-from-set-up : NobodyPassesTwice E
+  passes-from-set-up r calls c later address d won premise = go (accepted-or-nothing r [])
+    where
+      sofar : List Call
+      sofar = calls ++ (c ∷ [])
+
+      go : (setUp r .0 .refusal ≡ 0) ⊎ (setUp r .1 ≡ nothing) → PassedOnce address (upTo (wins address) (answers E (reach E r sofar) later))
+      go (inr e) =
+          let handed : reach E r calls ≡ nothing = ap (λ b. after E b calls) e ∙ nothing-stays over top calls in
+          clash (sym (ap (succeeds address) (call-over over top nothing c .replied)) ∙ subst (λ (b : Bus). succeeds address (reply E b c) ≡ true) handed won) (nothing-succeeds address c)
+      go (inl z) = passes-after address later (reach E r sofar) _ (tells-by sofar .0) at-end (tells-by sofar .1) premise
+        where
+          begins : Tells address (setUp r .1) blank
+          begins = subst (λ (b : Bus). Tells address b blank) (sym (accepted-set-up r z)) (tells-fresh address r d)
+
+          tells-by : (those : List Call) → Sound (reach E r those) × Tells address (reach E r those) (tally address blank (beside those (replies E (setUp r .1) those)))
+          tells-by those = tells-calls address (setUp r .1) blank those (sound-reached r [] (begins .by-circuit)) begins
+
+          at-end : Between address (reach E r sofar)
+          at-end =
+              let call = call-over over top (reach E r calls) c in
+              let before = tells-by calls in
+              subst (Between address) (sym (after-more E (setUp r .1) calls (c ∷ []) ∙ call .state))
+              (over-between address (call .test) (call .test-top) (next machine (reach E r calls) c)
+              (sent-next address (reach E r calls) (before .0 .standing) (before .1 .by-circuit) c (sym (ap (succeeds address) (call .replied)) ∙ won)))
+
+-- ---- every engine that meets demand 2, and the wrong one that ends the round as soon as the top circuit has sent
+
+nobodyPassesTwice-machine : NobodyPassesTwice machine
+nobodyPassesTwice-machine = passes-from-set-up (λ b. false) never
+
 pub nobodyPassesTwice : (E : Engine) → Demand2 E → NobodyPassesTwice E
 nobodyPassesTwice E meets r calls c later address d won premise =
     subst (λ said. PassedOnce address (upTo (wins address) said)) (sym (answers-agree E meets r sofar later))
@@ -264,3 +348,6 @@ nobodyPassesTwice E meets r calls c later address d won premise =
 
     same : reply E (reach E r calls) c ≡ reply machine (reach machine r calls) c
     same = ap (λ rs. getD rs 0 (begun (refusedBegun 0))) (replies-agree E meets r calls (c ∷ []))
+
+pub topEndsRound-passes : NobodyPassesTwice topEndsRound
+topEndsRound-passes = passes-from-set-up topSent top-only

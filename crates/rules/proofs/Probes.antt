@@ -29,7 +29,7 @@ use Rattle.rules.specs.Demands.{Demand2, contendersAt, probes, mostProbe
 use Rattle.rules.proofs.Laws.{and-true, true-and, length-keep, count-le, count-same, none-counted, count-parts, count-mono, clash}
 use Rattle.rules.proofs.Standing.{set-up-stands, begin-accepted, step-accepted}
 use Rattle.rules.proofs.Keeps.{opened-stands, opened-contention}
-use Rattle.rules.proofs.Reach.{outcome, answer-cases, reach-holds, answers-agree}
+use Rattle.rules.proofs.Reach.{Keeps, outcome, answer-cases, reach-holds, answers-agree}
 use Rattle.rules.proofs.Contenders.{contender-from, contenders-admitted, one-address, one-capability}
 
 -- ---- the definitions
@@ -357,15 +357,17 @@ admission-crowded b a k = go (b .contention) k
     go (some c) (inl e) = inl e
     go (some c) (inr k) = inr (rw (contenders-admitted b a) k)
 
-pub crowded-reached : (r : Request) (calls : List Call) → Crowded (reach machine r calls)
-crowded-reached =
-    reach-holds Crowded tt
-    (record {
+pub crowded-keeps : Keeps Crowded
+crowded-keeps =
+    record {
       at-set-up = λ r e. tt;
       at-admission = λ b a h k e. admission-crowded b a k;
       at-begin = λ b h k e. inl refl;
       at-probe = λ b h k e. step-crowded b h k;
-    })
+    }
+
+pub crowded-reached : (r : Request) (calls : List Call) → Crowded (reach machine r calls)
+crowded-reached = reach-holds Crowded tt crowded-keeps
 
 right-half : (s : Side) → otherHalf s ≡ 0 → s ≡ Right
 right-half Left e = absurd (omega arith)

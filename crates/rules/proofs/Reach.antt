@@ -95,7 +95,7 @@ pub record Keeps (P : Bus → Type 0) : Type 0 where
 
 module _ (P : Bus → Type 0) (keeps : Keeps P) where
   -- one call on a standing state
-  next-keeps : (b : Bus) (c : Call) → Standing b → P b → Standing (next machine b c) × P (next machine b c)
+  pub next-keeps : (b : Bus) (c : Call) → Standing b → P b → Standing (next machine b c) × P (next machine b c)
   next-keeps b c h p =
       outcome b (λ r b′. Standing b′ × P b′)
       (record {
@@ -124,7 +124,7 @@ pub step-stands : (b : Bus) → Standing b → Standing (step b .1)
 step-stands b h = subst (λ (r : Answer × Bus). Standing (r .1)) (step-made b) (next-stands b h one-step)
 
 -- what a refused set-up hands back stays as it is, whatever is called
-nothing-next : (c : Call) → next machine nothing c ≡ nothing
+pub nothing-next : (c : Call) → next machine nothing c ≡ nothing
 nothing-next (admission a) = refl
 nothing-next one-begin = refl
 nothing-next one-probe = refl

@@ -11,7 +11,7 @@ use lib.ListN.{length}
 use Rattle.window.specs.Splitting.{exponentOf, isPower}
 use Rattle.rules.specs.SetUp.{setUp}
 use Rattle.rules.specs.Engine.{machine}
-use Rattle.rules.specs.Examples.{Row, fact, script, holds, failingFrom, settled, orders, edges, bounds, waits, beginnings, table, firstFailing}
+use Rattle.rules.specs.Examples.{Row, fact, script, holds, failingFrom, settled, orders, edges, bounds, waits, beginnings, passes, table, firstFailing}
 use Rattle.rules.proofs.Computing.{bus, computed, bus-same, computed-replies}
 
 -- whether a row holds, its script computed state by state
@@ -63,11 +63,16 @@ beginnings-hold : failingFrom computes 62 beginnings ≡ none
 unfolding computes exponentOf isPower
 beginnings-hold = refl
 
+passes-hold : failingFrom computes 70 passes ≡ none
+unfolding computes exponentOf isPower
+passes-hold = refl
+
 -- no row fails
 pub starred : firstFailing ≡ none
 starred =
     ap (λ holding. failingFrom holding 1 table) (fun-ext rewritten)
-    ∙ both-hold 1 29 settled (orders ++ (edges ++ (bounds ++ (waits ++ beginnings)))) refl settled-hold
-    (both-hold 29 33 orders (edges ++ (bounds ++ (waits ++ beginnings))) refl orders-hold
-    (both-hold 33 51 edges (bounds ++ (waits ++ beginnings)) refl edges-hold
-    (both-hold 51 56 bounds (waits ++ beginnings) refl bounds-hold (both-hold 56 62 waits beginnings refl waits-hold beginnings-hold))))
+    ∙ both-hold 1 29 settled (orders ++ (edges ++ (bounds ++ (waits ++ (beginnings ++ passes))))) refl settled-hold
+    (both-hold 29 33 orders (edges ++ (bounds ++ (waits ++ (beginnings ++ passes)))) refl orders-hold
+    (both-hold 33 51 edges (bounds ++ (waits ++ (beginnings ++ passes))) refl edges-hold
+    (both-hold 51 56 bounds (waits ++ (beginnings ++ passes)) refl bounds-hold
+    (both-hold 56 62 waits (beginnings ++ passes) refl waits-hold (both-hold 62 70 beginnings passes refl beginnings-hold passes-hold)))))

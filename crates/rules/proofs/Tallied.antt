@@ -1,10 +1,10 @@
 -- What calls and replies tell of a circuit (`Tally`, specs/Demands.antt) is so of the machine in RTVC: how many packets wait at an address, and whether
--- a contention is under way; and what a success of that address leaves. Assumes nothing.
+-- a contention is under way; and a success of that address ends one. Assumes nothing.
 use Prim.Native.Nat.{ℕ, suc, _+_, _-_}
-use mathlib.Core.Path.{_≡_, refl, sym, ap, _∙_, subst}
-use mathlib.Core.Bool.{Bool, true, false, cond}
+use mathlib.Core.Path.{_≡_, refl, sym, ap, _∙_}
+use mathlib.Core.Bool.{true}
 use mathlib.Core.Option.{Option, none, some}
-use mathlib.Core.List.{List, [], _∷_, map}
+use mathlib.Core.List.{List, [], _∷_}
 use native.Mathlib.Omega.{arith}
 use lib.Dec.{eqb}
 use lib.ListN.{length}
@@ -12,19 +12,19 @@ use borrow.Author.Tests.{eqb-true, ne-eqb}
 use Rattle.window.specs.declared.Side.{Side}
 use Rattle.window.specs.declared.Side.the-variants.{Left, Right}
 use Rattle.rules.specs.Lists.{bit, Among, at-head, All}
-use Rattle.rules.specs.Bus.{Discipline, RTVC, Packet, Station, Contention, Bus}
+use Rattle.rules.specs.Bus.{RTVC, Station, Contention, Bus}
 use Rattle.rules.specs.Standing.{Standing}
 use Rattle.rules.specs.Admission.{Arrival, Admitted, named, admissionRefusal, joined, withPacket}
-use Rattle.rules.specs.Begin.{inTime, entered, begin}
-use Rattle.rules.specs.Probe.{Contender, Open, transmitters, withdrawn, left, lastWinner, unheard, heard, probe}
+use Rattle.rules.specs.Begin.{entered, begin}
+use Rattle.rules.specs.Probe.{Contender, Open, transmitters, withdrawn, left, unheard, heard}
 use Rattle.rules.specs.Step.{is-under-way, openedBy, opened}
-use Rattle.rules.specs.Engine.{machine, Call, admission, one-begin, one-probe, one-step, Reply, admitted, probed, reply, next, after, replies}
-use Rattle.rules.specs.Demands.{adds-admitted, wins, beside, succeeds, Tally, tallied, tally}
+use Rattle.rules.specs.Engine.{machine, Call, admission, one-begin, one-probe, one-step, admitted, probed, reply, next}
+use Rattle.rules.specs.Demands.{adds-admitted, wins, succeeds, Tally, tallied}
 use Rattle.rules.proofs.Laws.{clash, all-map, map-into}
 use Rattle.rules.proofs.Numbers.{held, joined-held}
 use Rattle.rules.proofs.Contenders.{joined-alike}
 use Rattle.rules.proofs.Keeps.{opened-stands, opened-contention, opened-same, Sender, sender, own, one-less}
-use Rattle.rules.proofs.Reach.{call-cases, outcome, next-stands}
+use Rattle.rules.proofs.Reach.{call-cases, outcome}
 use Rattle.rules.proofs.Circuit.{all-in-time}
 
 -- each station of the address has so many packets
@@ -37,17 +37,14 @@ pub record Tells (address : ℕ) (b : Bus) (t : Tally) : Type 0 where
   pub under-way : is-under-way (b .contention) ≡ t .under-way
   pub waiting : Waiting address (t .waiting) (b .stations)
 
--- a bus on which a success of the address has just ended the contention: its circuit is the last winner
-pub record Sent (address : ℕ) (b : Bus) : Type 0 where
+-- a bus on which a station of the address is listed, and no contention is under way
+pub record Between (address : ℕ) (b : Bus) : Type 0 where
   pub station : Station
   pub listed : Among station (b .stations)
   pub here : station .address ≡ address
-  pub last : b .last ≡ some (station .capability)
   pub ended : b .contention ≡ none
 
 module _ (address : ℕ) where
-  -- ---- one call
-
   -- an accepted admission
   tells-admission :
       (b : Bus) (t : Tally) (a : Arrival) → Tells address b t
@@ -100,11 +97,11 @@ module _ (address : ℕ) where
         }
     tells-heard t c w (x ∷ y ∷ more) senders = record { by-circuit = d; under-way = refl; waiting = λ s i e. omega (arith, w s i e) }
 
-    -- a success of the address
-    sent-heard : (xs : List Contender) → All (Sender (o .bus) (o .contention)) xs → wins address (heard o xs .0) ≡ true → Sent address (heard o xs .1)
+    -- a success of the address ends its contention
+    sent-heard : (xs : List Contender) → All (Sender (o .bus) (o .contention)) xs → wins address (heard o xs .0) ≡ true → Between address (heard o xs .1)
     sent-heard [] senders won = by-side (o .contention .window .side) won
       where
-        by-side : (side : Side) → wins address (unheard o side .0) ≡ true → Sent address (unheard o side .1)
+        by-side : (side : Side) → wins address (unheard o side .0) ≡ true → Between address (unheard o side .1)
         by-side Left e = clash e refl
         by-side Right e = clash e refl
     sent-heard (x ∷ []) senders won =
@@ -113,7 +110,6 @@ module _ (address : ℕ) where
           station = left x (k .station);
           listed = map-into (left x) (o .bus .stations) (k .listed);
           here = sym (k .address) ∙ eqb-true (x .address) address won;
-          last = ap (λ d. lastWinner d x) d ∙ ap some (k .capability);
           ended = refl;
         }
     sent-heard (x ∷ y ∷ more) senders won = clash won refl
@@ -126,9 +122,9 @@ module _ (address : ℕ) where
     senders-opened : All (Sender (opened b .bus) (opened b .contention)) (transmitters (opened b .bus) (opened b .contention))
     senders-opened x i = sender (opened b .bus) (opened b .contention) x (opened-stands b h) (opened-contention b) i
 
-    pub sent-next : (c : Call) → succeeds address (reply machine b c) ≡ true → Sent address (next machine b c)
+    pub sent-next : (c : Call) → succeeds address (reply machine b c) ≡ true → Between address (next machine b c)
     sent-next =
-        outcome b (λ r b′. succeeds address r ≡ true → Sent address b′)
+        outcome b (λ r b′. succeeds address r ≡ true → Between address b′)
         (record {
           refuses = λ n z won. clash won refl;
           admits = λ a z won. clash won refl;
@@ -177,12 +173,3 @@ module _ (address : ℕ) where
       tells-next one-begin = tells-other one-begin refl
       tells-next one-probe = tells-other one-probe refl
       tells-next one-step = tells-other one-step refl
-
-  -- ---- any calls
-
-  pub tells-after :
-      (b : Bus) (t : Tally) (calls : List Call) → Standing b → Tells address b t
-      → Tells address (after machine b calls) (tally address t (beside calls (replies machine b calls)))
-  tells-after b t [] h k = k
-  tells-after b t (c ∷ calls) h k =
-      tells-after (next machine b c) (tallied address t c (reply machine b c)) calls (next-stands b h c) (tells-next b h (k .by-circuit) t k c)

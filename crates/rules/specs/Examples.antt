@@ -1,13 +1,13 @@
 -- The starred examples of paper 01 ('Settled examples') as one table over the definitions, with rows on its traps, on open points that
--- docs/DECISIONS.md settles, on the order of offers, at the edges of the ranges, where the bounds are met, on waits, and on begin and probe. Each row
--- quotes its line.
+-- docs/DECISIONS.md settles, on the order of offers, at the edges of the ranges, where the bounds are met, on waits, on begin and probe, and on who
+-- passes a waiting circuit. Each row quotes its line.
 -- proofs/Starred.antt proves that no row fails. Assumes nothing.
-use Prim.Native.Nat.{ℕ, zero, suc, _+_}
+use Prim.Native.Nat.{ℕ, zero, suc, _+_, _*_}
 use mathlib.Core.Bool.{Bool, true, false, not, _&&_, cond}
 use mathlib.Core.Option.{Option, none, some}
 use mathlib.Core.List.{List, [], _∷_, _++_, map}
-use lib.Dec.{leb, eqb}
-use lib.ListN.{length, drop, replicate}
+use lib.Dec.{leb, ltb, eqb}
+use lib.ListN.{length, take, drop, replicate}
 use Rattle.window.specs.declared.Side.the-variants.{Right}
 use Rattle.window.specs.Splitting.{exponentOf, firstWindow, sameSide}
 use Rattle.rules.specs.Lists.{total, countUp}
@@ -19,7 +19,7 @@ use Rattle.rules.specs.Begin.{parameterOf}
 use Rattle.rules.specs.Probe.{withdrawn, parameter-phase, tie-phase, idle, collision, success, Answer, dropping}
 use Rattle.rules.specs.Step.{Contends, Begun, beginRefusal, beginCall, probeRefusal, stepRefusal, step}
 use Rattle.rules.specs.Engine.{machine, Call, admission, one-begin, one-probe, one-step, Reply, replies, probesIn, admissionsIn, beginsIn}
-use Rattle.rules.specs.Demands.{probes, mostProbes, slotsBefore, contentionsIn, idleContentionsIn, slotsIn, sends, upTo, mostContentions, most-idle, mostSlots, fewerSlots}
+use Rattle.rules.specs.Demands.{probes, mostProbes, slotsBefore, contentionsIn, idleContentionsIn, slotsIn, wins, sends, upTo, mostContentions, most-idle, mostSlots, fewerSlots, place, most-passes, most-idle-between, successesOf, beside, blank, tally, waits-throughout}
 
 -- ---- rows
 
@@ -387,6 +387,60 @@ pair d = record { discipline = code d; D = 2; A = 2; q = 1; N = 2; row = station
 abbrev pub untilSent : ℕ → ℕ → ℕ → List Reply → List Answer
 untilSent n address number rs = upTo (sends (freshStation (station address 0)) (packet number 0 0)) (drop n (probesIn rs))
 
+-- ---- between two successes of a circuit
+
+-- the answers after the first n replies, up to the next success of an address
+abbrev pub between : ℕ → ℕ → List Reply → List Answer
+between n address rs = upTo (wins address) (probesIn (drop n rs))
+
+-- whether a packet waits there at the beginning of each contention among them
+abbrev pub waits-between : ℕ → ℕ → List Call → List Reply → Bool
+waits-between n address calls rs =
+    waits-throughout address (tally address blank (take n (beside calls rs))) (drop n (beside calls rs))
+
+-- circuit 1 has sent, and sends again; circuit 0 has a packet waiting all the time, and circuit 3 has one
+abbrev pub chatty : List Call
+chatty = arrives 6 0 1 ∷ one-step ∷ arrives 5 0 1 ∷ arrives 5 0 1 ∷ arrives 6 0 1 ∷ arrives 7 0 1 ∷ steps 6
+
+-- circuit 1 has sent and has no packet, but one comes before the next begin; circuit 3 has one after that begin; probes, an admission and a begin are
+-- refused, and a begin without a probe comes last
+abbrev pub filledAgain : List Call
+filledAgain =
+    arrives 6 0 1
+    ∷ one-begin
+    ∷ one-probe
+    ∷ one-probe
+    ∷ arrives 9 0 1
+    ∷ arrives 5 0 1
+    ∷ arrives 6 0 1
+    ∷ one-begin
+    ∷ one-begin
+    ∷ arrives 7 0 1
+    ∷ one-probe
+    ∷ steps 3
+    ++ (one-begin ∷ [])
+
+-- circuit 1 has sent, and has a packet again only after three contentions
+abbrev pub comesLate : List Call
+comesLate = arrives 6 0 1 ∷ one-step ∷ arrives 5 0 1 ∷ arrives 5 0 1 ∷ steps 3 ++ (arrives 6 0 1 ∷ steps 4)
+
+-- circuit 1 of two has sent, and both have three packets
+abbrev pub threeEach : List Call
+threeEach =
+    arrives 1 0 1
+    ∷ one-step
+    ∷ arrives 0 0 1
+    ∷ arrives 0 0 1
+    ∷ arrives 0 0 1
+    ∷ arrives 1 0 1
+    ∷ arrives 1 0 1
+    ∷ arrives 1 0 1
+    ∷ steps 12
+
+-- n packets
+abbrev pub packets : ℕ → List Packet
+packets n = replicate n (packet 1 0 1)
+
 -- ---- waits
 
 -- at station 1, arrivals with times 0 and 1 and lengths 10 and 1, as a run admits them: the second once the first has been sent
@@ -718,8 +772,87 @@ beginnings =
     ∷ script (pri 5) (arrives 1 4 1 ∷ one-begin ∷ []) (begin-as (B 0 0 8 (none ∷ contends 1 1 4 ∷ none ∷ []) ∷ []))
     ∷ []
 
+-- who passes a waiting circuit, and the later packets of a queue
+abbrev pub passes : List Row
+passes =
+    -- 70: 'each other circuit succeeds at most once between them, and at most one contention between them is idle': between two successes of circuit 1 each
+    -- of the others succeeds once, though circuit 0 has another packet, and one contention is idle
+    script
+    circuits
+    chatty
+    (λ rs.
+    are
+    (S 0 P 0 4 6 1 1 0
+    ∷ S 1 P 0 4 7 5 1 0
+    ∷ I-end 2 P 0 4
+    ∷ C 3 P 0 4
+    ∷ C 4 P 0 2
+    ∷ S 5 P 0 1 5 2 1 4
+    ∷ S 6 P 0 4 6 4 1 5
+    ∷ [])
+    rs
+    && eqb (successesOf 5 (between 2 6 rs)) most-passes
+    && eqb (successesOf 7 (between 2 6 rs)) most-passes
+    && eqb (idleContentionsIn (between 2 6 rs)) most-idle-between
+    && waits-between 2 6 chatty rs)
+    -- 71: 'waiting at the beginning', whatever else is called: the queue may be empty until the next begin; and all answers there are, if the next success
+    -- has not come yet
+    ∷ script
+    circuits
+    filledAgain
+    (λ rs.
+    are (S 0 P 0 4 6 1 1 0 ∷ no-probe 26 ∷ I-end 1 P 0 4 ∷ C 2 P 0 4 ∷ C 3 P 0 2 ∷ S 4 P 0 1 5 2 1 3 ∷ []) rs
+    && eqb (successesOf 5 (between 3 6 rs)) most-passes
+    && eqb (idleContentionsIn (between 3 6 rs)) most-idle-between
+    && waits-between 3 6 filledAgain rs)
+    -- 72: 'if a circuit has a packet waiting at the beginning of every contention': circuit 1 has none at three beginnings; circuit 0 succeeds twice
+    -- before it, and two contentions are idle
+    ∷ script
+    circuits
+    comesLate
+    (λ rs.
+    are
+    (S 0 P 0 4 6 1 1 0
+    ∷ I-end 1 P 0 4
+    ∷ S 2 P 0 4 5 2 1 1
+    ∷ I-end 3 P 0 4
+    ∷ C 4 P 0 4
+    ∷ C 5 P 0 2
+    ∷ S 6 P 0 1 5 3 1 5
+    ∷ S 7 P 0 4 6 4 1 3
+    ∷ [])
+    rs
+    && eqb (successesOf 5 (between 2 6 rs)) (suc most-passes)
+    && eqb (idleContentionsIn (between 2 6 rs)) (suc most-idle-between)
+    && not (waits-between 2 6 comesLate rs))
+    -- 73: 'for the j-th packet in a queue .. j times the bound for the oldest': row 54 with two packets at both; the second of circuit 0 takes 2 × 3
+    -- contentions, two of them idle
+    ∷ script
+    (pair RTVC)
+    (arrives 0 0 1 ∷ one-step ∷ arrives 0 0 1 ∷ arrives 0 0 1 ∷ arrives 1 0 1 ∷ arrives 1 0 1 ∷ steps 7)
+    (λ rs.
+    eqb (contentionsIn (untilSent 1 0 3 rs)) (place (packets 1) * mostContentions 2)
+    && eqb (idleContentionsIn (untilSent 1 0 3 rs)) (place (packets 1) * most-idle))
+    -- 74: row 55 with three packets at both: the second of circuit 1 takes 2 × 4 slots, more than once the bound, and the third 3 × 4, more than twice
+    ∷ script
+    (pair RTVC)
+    threeEach
+    (λ rs.
+    eqb (slotsIn (untilSent 1 1 6 rs)) (place (packets 1) * fewerSlots 2 1 1)
+    && ltb (1 * mostSlots 2 1 1) (slotsIn (untilSent 1 1 6 rs))
+    && eqb (slotsIn (untilSent 1 1 7 rs)) (place (packets 2) * fewerSlots 2 1 1)
+    && ltb (2 * mostSlots 2 1 1) (slotsIn (untilSent 1 1 7 rs)))
+    -- 75: and their waits, and lengths, meet it too: they came as the contention began
+    ∷ script
+    (pair RTVC)
+    threeEach
+    (λ rs.
+    eqb (total (λ a. a .wait + a .length) (drop 8 (take 9 (probesIn rs)))) (place (packets 1) * fewerSlots 2 1 1)
+    && eqb (total (λ a. a .wait + a .length) (drop 12 (probesIn rs))) (place (packets 2) * fewerSlots 2 1 1))
+    ∷ []
+
 abbrev pub table : List Row
-table = settled ++ (orders ++ (edges ++ (bounds ++ (waits ++ beginnings))))
+table = settled ++ (orders ++ (edges ++ (bounds ++ (waits ++ (beginnings ++ passes)))))
 
 -- the number of the first row of the table that fails
 abbrev pub firstFailing : Option ℕ

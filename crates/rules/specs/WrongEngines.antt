@@ -2,18 +2,18 @@
 -- histories may rely on'), and others: proofs/WrongEngines.antt refutes demand 2 of each of them, demand 3 of `firstStation`, of `oneTooLow`
 -- that numbers are answers, of those that count waits wrongly that waits are true, and of `offersAnew` that nobody joins. Assumes nothing.
 use Prim.Native.Nat.{ℕ, zero, suc, _+_, _-_, _%_, max}
-use mathlib.Core.Bool.{Bool, true, false, not, _||_, cond}
+use mathlib.Core.Bool.{Bool, true, false, not, _&&_, _||_, cond}
 use mathlib.Core.Option.{Option, none, some}
 use mathlib.Core.List.{List, [], _∷_, map}
-use lib.Dec.{eqb}
+use lib.Dec.{leb, eqb}
 use Rattle.window.specs.Splitting.{firstWindow}
-use Rattle.rules.specs.Lists.{keep}
+use Rattle.rules.specs.Lists.{keep, each-of}
 use Rattle.rules.specs.Bus.{Packet, Station, Contention, Bus, nothing}
 use Rattle.rules.specs.SetUp.{fault, setUp}
 use Rattle.rules.specs.Admission.{admit}
-use Rattle.rules.specs.Probe.{Contender, transmitters, Answer, success, refusedAnswer, dropping, Open, sentBy, withdrawn, lastWinner, heard, probe}
+use Rattle.rules.specs.Probe.{Contender, transmitters, Answer, idle, success, refusedAnswer, dropping, Open, sentBy, withdrawn, lastWinner, heard, probe}
 use Rattle.rules.specs.Begin.{begin}
-use Rattle.rules.specs.Step.{Begun, refusedBegun, beginCall, probeRefusal, probeCall, opened}
+use Rattle.rules.specs.Step.{is-under-way, Begun, refusedBegun, beginCall, probeRefusal, probeCall, opened}
 use Rattle.rules.specs.Engine.{Engine}
 
 -- refuses every call, set-up too, with one and the same number
@@ -263,22 +263,63 @@ offersAnew =
       probe = λ b. cond (eqb (probeRefusal b) 0) (probeCall (anew b (b .contention))) (probeCall b);
     }
 
--- a begin takes a slot
-abbrev pub slotLater : Bus → Bus
-slotLater b =
+-- a bus with another clock and last winner
+abbrev pub amended : ℕ → Option ℕ → Bus → Bus
+amended clock last b =
     record {
       discipline = b .discipline;
       D = b .D;
       A = b .A;
       q = b .q;
       stations = b .stations;
-      clock = suc (b .clock);
+      clock = clock;
       admitted = b .admitted;
       sent = b .sent;
       lost = b .lost;
-      last = b .last;
+      last = last;
       contention = b .contention;
     }
 
+-- a begin takes a slot
+abbrev pub slotLater : Bus → Bus
+slotLater b = amended (suc (b .clock)) (b .last) b
+
 abbrev pub beginTakesASlot : Engine
 beginTakesASlot = beginning λ b. (beginCall b .0, cond (eqb (beginCall b .0 .refusal) 0) (slotLater (beginCall b .1)) b)
+
+-- ---- rounds
+
+-- the round is over where a test holds
+abbrev pub roundOver : (Bus → Bool) → Bus → Bus
+roundOver over b = cond (over b) (amended (b .clock) none b) b
+
+-- the machine, but that after a probe the round is over where a test holds
+abbrev pub endingRound : (Bus → Bool) → Engine
+endingRound over =
+    record { State = Bus; setUp = setUp; admit = admit; begin = beginCall; probe = λ b. (probeCall b .0, roundOver over (probeCall b .1)) }
+
+-- ends the round as soon as the top circuit has sent
+abbrev pub is-top : List Station → Option ℕ → Bool
+is-top stations none = false
+is-top stations (some winner) = each-of (λ s. leb (s .capability) winner) stations
+
+abbrev pub topSent : Bus → Bool
+topSent b = not (is-under-way (b .contention)) && is-top (b .stations) (b .last)
+
+abbrev pub topEndsRound : Engine
+topEndsRound = endingRound topSent
+
+-- ends the round with each contention, whoever has sent
+abbrev pub eachEndsRound : Engine
+eachEndsRound = endingRound λ b. not (is-under-way (b .contention))
+
+-- goes on with the round after a contention without a winner
+abbrev pub roundGoesOn : Engine
+roundGoesOn =
+    record {
+      State = Bus;
+      setUp = setUp;
+      admit = admit;
+      begin = beginCall;
+      probe = λ b. (probeCall b .0, cond (eqb (probeCall b .0 .event) idle) (amended (probeCall b .1 .clock) (b .last) (probeCall b .1)) (probeCall b .1));
+    }
