@@ -1,7 +1,8 @@
 -- Demand 2 rules out each wrong engine of specs/WrongEngines.antt, by a script of calls to which its replies are not the machine's; demand 3
 -- rules out the one that names the first station, that numbers are answers the one that answers one too low, that waits are true those that
--- count them wrongly, and that nobody joins the one that offers anew. Assumes nothing.
-use Prim.Native.Nat.{ℕ, suc, _+_}
+-- count them wrongly, that nobody joins the one that offers anew, and that nobody passes twice those that end the round with each contention or not with
+-- an idle one. Assumes nothing.
+use Prim.Native.Nat.{ℕ, suc, _+_, _≤_}
 use mathlib.Core.Path.{_≡_, refl, sym, ap, _∙_}
 use mathlib.Core.Option.{none}
 use mathlib.Core.List.{List, [], _∷_, _++_}
@@ -15,9 +16,9 @@ use Rattle.rules.specs.SetUp.{Request, setUp}
 use Rattle.rules.specs.Admission.{Arrival}
 use Rattle.rules.specs.Probe.{Answer}
 use Rattle.rules.specs.Engine.{Engine, machine, Call, one-begin, one-probe, one-step, Reply, reach, probesIn, beginsIn, answers}
-use Rattle.rules.specs.Demands.{Demand2, adds-lost, numbersAnswered, NumbersAreAnswers, WaitsAreTrue, NobodyJoins, mostContentions, most-idle, mostSlots, EndsWithin, Demand3}
+use Rattle.rules.specs.Demands.{Demand2, adds-lost, numbersAnswered, NumbersAreAnswers, WaitsAreTrue, NobodyJoins, mostContentions, most-idle, mostSlots, EndsWithin, Demand3, NobodyPassesTwice}
 use Rattle.rules.specs.Examples.{arrives, steps, listing, rtdg, circuits, apart, admittedLater}
-use Rattle.rules.specs.WrongEngines.{refusesAll, refusesCalls, untouched, oneTooLow, alwaysIdle, madeUpDrops, madeUpSent, lowByte, twoForOne, transmittersKept, madeUpProbes, firstStation, waitToTheEnd, waitOfTheContention, waitFromTheArrival, arrivalTimes, dropsLater, offersAnew, beginTakesASlot}
+use Rattle.rules.specs.WrongEngines.{refusesAll, refusesCalls, untouched, oneTooLow, alwaysIdle, madeUpDrops, madeUpSent, lowByte, twoForOne, transmittersKept, madeUpProbes, firstStation, waitToTheEnd, waitOfTheContention, waitFromTheArrival, arrivalTimes, dropsLater, offersAnew, beginTakesASlot, topEndsRound, eachEndsRound, roundGoesOn}
 use Rattle.rules.proofs.Laws.{clash}
 use Rattle.rules.proofs.Reach.{stepsAgree}
 use Rattle.rules.proofs.Computing.{Brings, Same, number, bus, test, pair, computed, bus-same, test-same, number-same, pair-same, computed-replies}
@@ -219,3 +220,39 @@ pub beginTakesASlot-wrong : Demand2 beginTakesASlot → ⊥
 unfolding slots exponentOf isPower
 beginTakesASlot-wrong demand =
     let z : _≡_ {A = ℕ} 1 0 = agrees beginTakesASlot bus bus-same demand slots listing (arrives 1 0 1 ∷ one-begin ∷ one-probe ∷ []) in omega arith
+
+-- ---- rounds
+
+-- after the top circuit there is an idle contention before circuit 1 wins again
+pub topEndsRound-wrong : Demand2 topEndsRound → ⊥
+unfolding events exponentOf isPower
+topEndsRound-wrong demand =
+    let calls : List Call = arrives 6 0 1 ∷ one-step ∷ arrives 6 0 1 ∷ arrives 7 0 1 ∷ steps 2 in
+    let z : _≡_ {A = ℕ} 6 4 = agrees topEndsRound bus bus-same demand events circuits calls in
+    omega arith
+
+-- a circuit that has sent sits out
+pub eachEndsRound-wrong : Demand2 eachEndsRound → ⊥
+unfolding events exponentOf isPower
+eachEndsRound-wrong demand =
+    let z : _≡_ {A = ℕ} 4 2 = agrees eachEndsRound bus bus-same demand events circuits (arrives 5 0 1 ∷ arrives 5 0 1 ∷ steps 2) in omega arith
+
+-- until a contention ends idle
+pub roundGoesOn-wrong : Demand2 roundGoesOn → ⊥
+unfolding events exponentOf isPower
+roundGoesOn-wrong demand =
+    let z : _≡_ {A = ℕ} 2 4 = agrees roundGoesOn bus bus-same demand events circuits (arrives 5 0 1 ∷ arrives 5 0 1 ∷ steps 3) in omega arith
+
+-- Nobody passes twice: circuit 1 has sent, and has a packet; circuit 0 sends twice before it.
+pub eachEndsRound-lets-pass : NobodyPassesTwice eachEndsRound → ⊥
+unfolding exponentOf isPower
+eachEndsRound-lets-pass holds =
+    let later : List Call = arrives 5 0 1 ∷ arrives 5 0 1 ∷ arrives 6 0 1 ∷ steps 6 in
+    let z : 2 ≤ 1 = holds circuits (arrives 6 0 1 ∷ []) one-step later 6 refl refl refl .each-other 5 (λ e. omega arith) in
+    omega arith
+
+-- and at most one contention is idle: circuit 1 has sent, and has a packet; two contentions end idle before it sends
+pub roundGoesOn-idles : NobodyPassesTwice roundGoesOn → ⊥
+unfolding exponentOf isPower
+roundGoesOn-idles holds =
+    let z : 2 ≤ 1 = holds circuits (arrives 6 0 1 ∷ []) one-step (arrives 6 0 1 ∷ steps 2) 6 refl refl refl .idle-ones in omega arith
