@@ -398,9 +398,9 @@ abbrev pub waits-between : ℕ → ℕ → List Call → List Reply → Bool
 waits-between n address calls rs =
     waits-throughout address (tally address blank (take n (beside calls rs))) (drop n (beside calls rs))
 
--- circuit 1 has sent, and sends again; circuit 0 has a packet waiting all the time, and circuit 3 has one
+-- circuit 1 has sent, and sends its last packet; circuit 0 has a packet waiting all the time, and circuit 3 has one
 abbrev pub chatty : List Call
-chatty = arrives 6 0 1 ∷ one-step ∷ arrives 5 0 1 ∷ arrives 5 0 1 ∷ arrives 6 0 1 ∷ arrives 7 0 1 ∷ steps 6
+chatty = arrives 6 0 1 ∷ one-step ∷ arrives 5 0 1 ∷ arrives 5 0 1 ∷ arrives 6 0 1 ∷ arrives 7 0 1 ∷ steps 7
 
 -- circuit 1 has sent and has no packet, but one comes before the next begin; circuit 3 has one after that begin; probes, an admission and a begin are
 -- refused, and a begin without a probe comes last
@@ -420,9 +420,38 @@ filledAgain =
     ∷ steps 3
     ++ (one-begin ∷ [])
 
--- circuit 1 has sent, and has a packet again only after three contentions
-abbrev pub comesLate : List Call
-comesLate = arrives 6 0 1 ∷ one-step ∷ arrives 5 0 1 ∷ arrives 5 0 1 ∷ steps 3 ++ (arrives 6 0 1 ∷ steps 4)
+-- circuit 1 has sent, an admission of its own is refused, and it has a packet again only after three contentions of these calls each
+abbrev pub comesLate : List Call → List Call
+comesLate contention =
+    arrives 6 0 1
+    ∷ one-step
+    ∷ arrives 5 0 1
+    ∷ arrives 5 0 1
+    ∷ arrives 6 1 1
+    ∷ contention
+    ++ (contention ++ (contention ++ (arrives 6 0 1 ∷ steps 4)))
+
+-- circuit 0 succeeds twice before it, and two contentions are idle
+abbrev pub passedTwice : List Call → Row
+passedTwice contention =
+    script
+    circuits
+    (comesLate contention)
+    (λ rs.
+    are
+    (S 0 P 0 4 6 1 1 0
+    ∷ I-end 1 P 0 4
+    ∷ S 2 P 0 4 5 2 1 1
+    ∷ I-end 3 P 0 4
+    ∷ C 4 P 0 4
+    ∷ C 5 P 0 2
+    ∷ S 6 P 0 1 5 3 1 5
+    ∷ S 7 P 0 4 6 4 1 3
+    ∷ [])
+    rs
+    && eqb (successesOf 5 (between 2 6 rs)) (suc most-passes)
+    && eqb (idleContentionsIn (between 2 6 rs)) (suc most-idle-between)
+    && not (waits-between 2 6 (comesLate contention) rs))
 
 -- circuit 1 of two has sent, and both have three packets
 abbrev pub threeEach : List Call
@@ -776,7 +805,7 @@ beginnings =
 abbrev pub passes : List Row
 passes =
     -- 70: 'each other circuit succeeds at most once between them, and at most one contention between them is idle': between two successes of circuit 1 each
-    -- of the others succeeds once, though circuit 0 has another packet, and one contention is idle
+    -- of the others succeeds once, though circuit 0 has another packet, and one contention is idle; that none waits once it has succeeded does not matter
     script
     circuits
     chatty
@@ -789,6 +818,7 @@ passes =
     ∷ C 4 P 0 2
     ∷ S 5 P 0 1 5 2 1 4
     ∷ S 6 P 0 4 6 4 1 5
+    ∷ I-end 7 P 0 4
     ∷ [])
     rs
     && eqb (successesOf 5 (between 2 6 rs)) most-passes
@@ -805,27 +835,10 @@ passes =
     && eqb (successesOf 5 (between 3 6 rs)) most-passes
     && eqb (idleContentionsIn (between 3 6 rs)) most-idle-between
     && waits-between 3 6 filledAgain rs)
-    -- 72: 'if a circuit has a packet waiting at the beginning of every contention': circuit 1 has none at three beginnings; circuit 0 succeeds twice
-    -- before it, and two contentions are idle
-    ∷ script
-    circuits
-    comesLate
-    (λ rs.
-    are
-    (S 0 P 0 4 6 1 1 0
-    ∷ I-end 1 P 0 4
-    ∷ S 2 P 0 4 5 2 1 1
-    ∷ I-end 3 P 0 4
-    ∷ C 4 P 0 4
-    ∷ C 5 P 0 2
-    ∷ S 6 P 0 1 5 3 1 5
-    ∷ S 7 P 0 4 6 4 1 3
-    ∷ [])
-    rs
-    && eqb (successesOf 5 (between 2 6 rs)) (suc most-passes)
-    && eqb (idleContentionsIn (between 2 6 rs)) (suc most-idle-between)
-    && not (waits-between 2 6 comesLate rs))
-    -- 73: 'for the j-th packet in a queue .. j times the bound for the oldest': row 54 with two packets at both; the second of circuit 0 takes 2 × 3
+    -- 72, 73: 'if a circuit has a packet waiting at the beginning of every contention': circuit 1 has none at three beginnings, those of steps or of begins
+    ∷ passedTwice (one-step ∷ [])
+    ∷ passedTwice (one-begin ∷ one-probe ∷ [])
+    -- 74: 'for the j-th packet in a queue .. j times the bound for the oldest': row 54 with two packets at both; the second of circuit 0 takes 2 × 3
     -- contentions, two of them idle
     ∷ script
     (pair RTVC)
@@ -833,7 +846,7 @@ passes =
     (λ rs.
     eqb (contentionsIn (untilSent 1 0 3 rs)) (place (packets 1) * mostContentions 2)
     && eqb (idleContentionsIn (untilSent 1 0 3 rs)) (place (packets 1) * most-idle))
-    -- 74: row 55 with three packets at both: the second of circuit 1 takes 2 × 4 slots, more than once the bound, and the third 3 × 4, more than twice
+    -- 75: row 55 with three packets at both: the second of circuit 1 takes 2 × 4 slots, more than once the bound, and the third 3 × 4, more than twice
     ∷ script
     (pair RTVC)
     threeEach
@@ -842,7 +855,7 @@ passes =
     && ltb (1 * mostSlots 2 1 1) (slotsIn (untilSent 1 1 6 rs))
     && eqb (slotsIn (untilSent 1 1 7 rs)) (place (packets 2) * fewerSlots 2 1 1)
     && ltb (2 * mostSlots 2 1 1) (slotsIn (untilSent 1 1 7 rs)))
-    -- 75: and their waits, and lengths, meet it too: they came as the contention began
+    -- 76: and their waits, and lengths, meet it too: they came as the contention began
     ∷ script
     (pair RTVC)
     threeEach
