@@ -5,7 +5,7 @@
 use Prim.Native.Nat.{ℕ, suc, _+_, _≤_}
 use mathlib.Core.Path.{_≡_, refl, sym, ap, _∙_}
 use mathlib.Core.Option.{none}
-use mathlib.Core.List.{List, [], _∷_, _++_}
+use mathlib.Core.List.{List, [], _∷_, _++_, map}
 use native.Mathlib.Omega.{arith}
 use lib.Dec.{lit≤}
 use lib.ListN.{take}
@@ -15,9 +15,9 @@ use Rattle.rules.specs.Bus.{Packet, Station}
 use Rattle.rules.specs.SetUp.{Request, setUp}
 use Rattle.rules.specs.Admission.{Arrival}
 use Rattle.rules.specs.Probe.{Answer}
-use Rattle.rules.specs.Engine.{Engine, machine, Call, one-begin, one-probe, one-step, Reply, reach, probesIn, beginsIn, answers}
+use Rattle.rules.specs.Engine.{Engine, machine, Call, one-begin, one-probe, one-step, Reply, replies, reach, probesIn, beginsIn, answers}
 use Rattle.rules.specs.Demands.{Demand2, adds-lost, numbersAnswered, NumbersAreAnswers, WaitsAreTrue, NobodyJoins, mostContentions, most-idle, mostSlots, EndsWithin, Demand3, NobodyPassesTwice}
-use Rattle.rules.specs.Examples.{arrives, steps, listing, rtdg, circuits, apart, admittedLater}
+use Rattle.rules.specs.Examples.{arrives, steps, listing, rtdg, circuits, apart, admittedLater, chatty}
 use Rattle.rules.specs.WrongEngines.{refusesAll, refusesCalls, untouched, oneTooLow, alwaysIdle, madeUpDrops, madeUpSent, lowByte, twoForOne, transmittersKept, madeUpProbes, firstStation, waitToTheEnd, waitOfTheContention, waitFromTheArrival, arrivalTimes, dropsLater, offersAnew, beginTakesASlot, topEndsRound, eachEndsRound, roundGoesOn}
 use Rattle.rules.proofs.Laws.{clash}
 use Rattle.rules.proofs.Reach.{stepsAgree}
@@ -230,6 +230,13 @@ topEndsRound-wrong demand =
     let calls : List Call = arrives 6 0 1 ∷ one-step ∷ arrives 6 0 1 ∷ arrives 7 0 1 ∷ steps 2 in
     let z : _≡_ {A = ℕ} 6 4 = agrees topEndsRound bus bus-same demand events circuits calls in
     omega arith
+
+-- but nobody passes twice (`topEndsRound-passes`, proofs/Passing.antt): in the run of row 70 the idle contention is left out, and circuit 0, of address 5,
+-- sends once before circuit 1, of address 6, sends again; 0 stands for a probe without a winner
+pub topEndsRound-chatty : map (λ a. a .address) (probesIn (replies topEndsRound (setUp circuits .1) chatty)) ≡ 6 ∷ 7 ∷ 0 ∷ 0 ∷ 5 ∷ 6 ∷ 0 ∷ 5 ∷ []
+unfolding exponentOf isPower
+topEndsRound-chatty =
+    ap (λ rs. map (λ (a : Answer). a .address) (probesIn rs)) (sym (computed-replies topEndsRound bus bus-same (setUp circuits .1) chatty))
 
 -- a circuit that has sent sits out
 pub eachEndsRound-wrong : Demand2 eachEndsRound → ⊥
