@@ -19,7 +19,7 @@ use Rattle.rules.specs.Begin.{sits-out}
 use Rattle.rules.specs.Probe.{Answer, refusedAnswer, success, idle, probe}
 use Rattle.rules.specs.Step.{is-under-way, refusedBegun, opened}
 use Rattle.rules.specs.Engine.{Engine, machine, Call, admission, one-begin, one-probe, one-step, begun, probed, reply, next, after, replies, reach, probeIn, answers}
-use Rattle.rules.specs.Demands.{Demand2, upTo, idleContentionsIn, wins, CircuitWaits, successesOf, PassedOnce, beside, succeeds, Tally, blank, tallied, tally, waits-at, waits-throughout, NobodyPassesTwice}
+use Rattle.rules.specs.Demands.{Demand2, upTo, idleContentionsIn, wins, CircuitWaits, successesOf, PassedOnce, beside, succeeds, Tally, blank, tallied, tally, tallyOf, TalliesAreTrue, waits-at, waits-throughout, NobodyPassesTwice}
 use Rattle.rules.specs.WrongEngines.{amended, roundOver, endingRound, topSent, topEndsRound}
 use Rattle.rules.proofs.Laws.{clash, and-true, bit-most, all-map, keep-into, length-keep, map-into, map-map}
 use Rattle.rules.proofs.Numbers.{one-apart, held}
@@ -306,6 +306,14 @@ module _ (over : Bus → Bool) (top : TopOnly over) where
 
   -- ---- from set-up
 
+  tells-from-set-up :
+      (r : Request) (calls : List Call) (address : ℕ) → r .discipline ≡ code RTVC → setUp r .0 .refusal ≡ 0
+      → Sound (reach E r calls) × Tells address (reach E r calls) (tallyOf E r address calls)
+  tells-from-set-up r calls address d z = tells-calls address (setUp r .1) blank calls (sound-reached r [] (begins .by-circuit)) begins
+    where
+      begins : Tells address (setUp r .1) blank
+      begins = subst (λ (b : Bus). Tells address b blank) (sym (accepted-set-up r z)) (tells-fresh address r d)
+
   pub passes-from-set-up : NobodyPassesTwice E
   passes-from-set-up r calls c later address d won premise = go (accepted-or-nothing r [])
     where
@@ -316,23 +324,24 @@ module _ (over : Bus → Bool) (top : TopOnly over) where
       go (inr e) =
           let handed : reach E r calls ≡ nothing = ap (λ b. after E b calls) e ∙ nothing-stays over top calls in
           clash (sym (ap (succeeds address) (call-over over top nothing c .replied)) ∙ subst (λ (b : Bus). succeeds address (reply E b c) ≡ true) handed won) (nothing-succeeds address c)
-      go (inl z) = passes-after address later (reach E r sofar) _ (tells-by sofar .0) at-end (tells-by sofar .1) premise
-        where
-          begins : Tells address (setUp r .1) blank
-          begins = subst (λ (b : Bus). Tells address b blank) (sym (accepted-set-up r z)) (tells-fresh address r d)
-
-          tells-by : (those : List Call) → Sound (reach E r those) × Tells address (reach E r those) (tally address blank (beside those (replies E (setUp r .1) those)))
-          tells-by those = tells-calls address (setUp r .1) blank those (sound-reached r [] (begins .by-circuit)) begins
-
-          at-end : Between address (reach E r sofar)
-          at-end =
-              let call = call-over over top (reach E r calls) c in
-              let before = tells-by calls in
-              subst (Between address) (sym (after-more E (setUp r .1) calls (c ∷ []) ∙ call .state))
-              (over-between address (call .test) (call .test-top) (next machine (reach E r calls) c)
-              (sent-next address (reach E r calls) (before .0 .standing) (before .1 .by-circuit) c (sym (ap (succeeds address) (call .replied)) ∙ won)))
+      go (inl z) =
+          let call = call-over over top (reach E r calls) c in
+          let before = tells-from-set-up r calls address d z in
+          let now = tells-from-set-up r sofar address d z in
+          passes-after address later (reach E r sofar) (tallyOf E r address sofar) (now .0)
+          (subst (Between address) (sym (after-more E (setUp r .1) calls (c ∷ []) ∙ call .state))
+          (over-between address (call .test) (call .test-top) (next machine (reach E r calls) c)
+          (sent-next address (reach E r calls) (before .0 .standing) (before .1 .by-circuit) c (sym (ap (succeeds address) (call .replied)) ∙ won))))
+          (now .1)
+          premise
 
 -- ---- every engine that meets demand 2, and the wrong one that ends the round as soon as the top circuit has sent
+
+-- what the machine's replies tell is so, and so what an engine's do
+pub talliesAreTrue : (E : Engine) → Demand2 E → TalliesAreTrue E
+talliesAreTrue E meets r calls address d z =
+    let k = tells-from-set-up (λ b. false) never r calls address d z .1 in
+    rw (stepsAgree E meets r calls) (record { waiting = λ s i e. sym (k .waiting s i e); under-way = sym (k .under-way) })
 
 nobodyPassesTwice-machine : NobodyPassesTwice machine
 nobodyPassesTwice-machine = passes-from-set-up (λ b. false) never

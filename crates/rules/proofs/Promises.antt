@@ -102,6 +102,7 @@ promised E meets =
       soonerInTurn = Demand3.soonerInTurn E meets;
       waitOfTheOldest = OldestWait.waitOfTheOldest E meets;
       waitInTurn = OldestWait.waitInTurn E meets;
+      talliesAreTrue = Passing.talliesAreTrue E meets;
       nobodyPassesTwice = Passing.nobodyPassesTwice E meets;
     }
 

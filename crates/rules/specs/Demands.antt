@@ -18,7 +18,7 @@ use Rattle.rules.specs.Admission.{Arrival, Admitted, numbered, queued, a
 use Rattle.rules.specs.Begin.{parameterOf, entered}
 use Rattle.rules.specs.Conditions.{Late}
 use Rattle.rules.specs.Probe.{Answer, Contender, able, contenders, transmitters, idle, collision, success, refusedAnswer, dropping, waitOf}
-use Rattle.rules.specs.Step.{Contends, refusedBegun, beginCall, probeCall, opened, step}
+use Rattle.rules.specs.Step.{is-under-way, Contends, refusedBegun, beginCall, probeCall, opened, step}
 use Rattle.rules.specs.Engine.{Engine, machine, stepOf, Call, OwnCall, admission, one-begin, one-probe, one-step, Reply, admitted, begun, probed, reply, replies, reach, admissionsIn, answers}
 
 -- ---- demand 2
@@ -390,7 +390,7 @@ pub record CircuitWaits (b : Bus) (s : Station) (ahead : List Packet) (p : Packe
   -- 'when a contention begins': none is under way, and the next begin, or step, begins one
   pub begins : b .contention ≡ none
 
--- The packet p of s has ended within n contentions, `idles` of them idle at the most, and within `slots P` slots. The first three say so of the answers
+-- The packet p of s has ended within n contentions, `idles` of them idle at the most, and within `most P` slots. The first three say so of the answers
 -- up to its end, or of all there are where it has not ended yet; the last two say that it ends: it has been sent once so many contentions, or
 -- slots, have gone by. P is 'the longest packet sent meanwhile', its own among them.
 pub record EndsWithin (n idles : ℕ) (most : ℕ → ℕ) (s : Station) (p : Packet) (said : List Answer) : Type 0 where
@@ -518,6 +518,20 @@ abbrev pub tally : ℕ → Tally → List (Call × Reply) → Tally
 tally address t [] = t
 tally address t (x ∷ xs) = tally address (tallied address t (x .0) (x .1)) xs
 
+-- a circuit's tally after calls, of E's own replies
+abbrev pub tallyOf : (E : Engine) → Request → ℕ → List Call → Tally
+tallyOf E r address calls = tally address blank (beside calls (replies E (E .setUp r .1) calls))
+
+-- and it is true: so many packets wait at the station of that address, and a contention is under way or not
+pub record TallyIsTrue (b : Bus) (address : ℕ) (t : Tally) : Type 0 where
+  pub waiting : All (λ s. s .address ≡ address → t .waiting ≡ length (s .queue)) (b .stations)
+  pub under-way : t .under-way ≡ is-under-way (b .contention)
+
+abbrev pub TalliesAreTrue : Engine → Type 0
+TalliesAreTrue E =
+    (r : Request) (calls : List Call) (address : ℕ) → r .discipline ≡ code RTVC → setUp r .0 .refusal ≡ 0
+    → TallyIsTrue (reach machine r calls) address (tallyOf E r address calls)
+
 -- whether a contention began with a reply, by whether one was under way before it
 abbrev pub begins-one : Bool → Reply → Bool
 begins-one under-way (admitted a) = false
@@ -541,11 +555,7 @@ abbrev pub NobodyPassesTwice : Engine → Type 0
 NobodyPassesTwice E =
     (r : Request) (calls : List Call) (c : Call) (later : List Call) (address : ℕ) → r .discipline ≡ code RTVC
     → succeeds address (reply E (reach E r calls) c) ≡ true
-    → waits-throughout
-    address
-    (tally address blank (beside (calls ++ (c ∷ [])) (replies E (E .setUp r .1) (calls ++ (c ∷ [])))))
-    (beside later (replies E (reach E r (calls ++ (c ∷ []))) later))
-    ≡ true
+    → waits-throughout address (tallyOf E r address (calls ++ (c ∷ []))) (beside later (replies E (reach E r (calls ++ (c ∷ []))) later)) ≡ true
     → PassedOnce address (upTo (wins address) (answers E (reach E r (calls ++ (c ∷ []))) later))
 
 -- ---- what demand 2 gives an engine
@@ -567,4 +577,5 @@ pub record Promised (E : Engine) : Type 0 where
   pub soonerInTurn : InTurn fewerSlots E
   pub waitOfTheOldest : WaitOfTheOldest E
   pub waitInTurn : WaitInTurn E
+  pub talliesAreTrue : TalliesAreTrue E
   pub nobodyPassesTwice : NobodyPassesTwice E
