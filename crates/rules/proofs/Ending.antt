@@ -4,7 +4,7 @@ use Prim.Native.Nat.{ℕ, _≤_}
 use mathlib.Core.Path.{_≡_, refl, sym, ap, _∙_, subst}
 use mathlib.Core.Bool.{Bool, true, false, not, cond}
 use mathlib.Core.Option.{Option, none, some}
-use mathlib.Core.List.{List, [], _∷_, map, map-id}
+use mathlib.Core.List.{List, [], _∷_}
 use native.Mathlib.Nat.{le-refl}
 use native.Mathlib.Omega.{arith}
 use lib.Dec.{eqb}
@@ -12,11 +12,10 @@ use borrow.Author.Tests.{leb-true}
 use Rattle.rules.specs.Lists.{All}
 use Rattle.rules.specs.Bus.{Discipline, PRI, RTDG, RTVC, Packet, Station, Contention, Bus, nothing}
 use Rattle.rules.specs.SetUp.{Asked}
-use Rattle.rules.specs.Standing.{Standing}
 use Rattle.rules.specs.Begin.{sits-out}
 use Rattle.rules.specs.Probe.{Answer, refusedAnswer, dropping}
 use Rattle.rules.specs.Step.{is-under-way, beginCall, probeCall}
-use Rattle.rules.specs.Engine.{Engine, machine, probedAfter, begunThen, stepOf, Call, admission, one-begin, one-probe, one-step, probed, reply, next, after}
+use Rattle.rules.specs.Engine.{machine, probedAfter, begunThen, stepOf, Call, admission, one-begin, one-probe, one-step, probed, reply, next, after}
 use Rattle.rules.specs.WrongEngines.{amended, roundOver, endingRound, is-top, topSent}
 use Rattle.rules.proofs.Laws.{clash, and-true, each-view}
 use Rattle.rules.proofs.Keeps.{beside-stands}

@@ -1,6 +1,6 @@
 -- Nobody passes a waiting circuit twice (P13): between two successes of a circuit that waits, each other succeeds at most once, and at most one contention
 -- is idle, for every engine that meets demand 2; and for the one that ends the round as soon as the top circuit has sent. Assumes nothing.
-use Prim.Native.Nat.{ℕ, _+_, _≤_, _<_}
+use Prim.Native.Nat.{ℕ, _+_, _≤_}
 use mathlib.Core.Path.{_≡_, refl, sym, ap, _∙_, subst}
 use mathlib.Core.Logic.{_⊎_, inl, inr}
 use mathlib.Core.Bool.{Bool, true, false, _&&_, cond, and-false}
@@ -10,7 +10,7 @@ use native.Mathlib.Omega.{arith}
 use lib.Dec.{eqb, leb}
 use lib.ListN.{length, take, length-map, getD}
 use borrow.Author.Tests.{eqb-true, eq-eqb, ne-eqb, le-leb}
-use Rattle.rules.specs.Lists.{bit, keep, Among, Distinct}
+use Rattle.rules.specs.Lists.{bit, keep, Distinct}
 use Rattle.rules.specs.Bus.{RTVC, code, Packet, Station, Bus, nothing}
 use Rattle.rules.specs.SetUp.{Asked, Request, disciplineOf, freshStation, freshBus, setUp}
 use Rattle.rules.specs.Standing.{asked}
@@ -27,7 +27,6 @@ use Rattle.rules.proofs.Standing.{set-up-stands, accepted-set-up}
 use Rattle.rules.proofs.Refusals.{probe-number}
 use Rattle.rules.proofs.Contenders.{joined-alike}
 use Rattle.rules.proofs.Reach.{outcome, accepted-or-nothing, after-more, replies-agree, answers-agree, stepsAgree}
-use Rattle.rules.proofs.Probes.{probesLeft}
 use Rattle.rules.proofs.Round.{winsLeft, idlesLeft, wins-most, other-wins, wins-stay, idle-ends}
 use Rattle.rules.proofs.Circuit.{circuitsOf, Waits, Turn, goes-on, its-own, earlier, anothers, nobodys}
 use Rattle.rules.proofs.Turns.{Sound, sound-reached, sound-next, waits-first, Holds, Everywhere, one-call}
@@ -139,7 +138,7 @@ nothing-succeeds address one-begin = refl
 nothing-succeeds address one-probe = refl
 nothing-succeeds address one-step = refl
 
--- what an accepted one does has no packet waiting
+-- on what an accepted one hands back no packet waits
 tells-fresh : (address : ℕ) (r : Request) → r .discipline ≡ code RTVC → Tells address (freshBus r) blank
 tells-fresh address r d =
     record {
