@@ -20,7 +20,7 @@ use Rattle.rules.specs.Begin.{sits-out}
 use Rattle.rules.specs.Probe.{Answer, refusedAnswer, success, idle, probe}
 use Rattle.rules.specs.Step.{opened}
 use Rattle.rules.specs.Engine.{Engine, machine, Call, reach, answers}
-use Rattle.rules.specs.Demands.{Demand2, slotsOf, mostContentions, most-idle, mostSlots, fewerSlots, contentionsIn, idleContentionsIn, slotsIn, longestIn, sends, upTo, CircuitWaits, EndsWithin, slotsOn, Serves, Demand3, SoonerThanDemand3, place, ServesInTurn, InTurn}
+use Rattle.rules.specs.Demands.{Demand2, slotsOf, mostContentions, most-idle, mostSlots, fewerSlots, contentionsIn, idleContentionsIn, slotsIn, longestIn, sends, upTo, CircuitWaits, EndsWithin, slotsOn, Serves, Demand3, SoonerThanDemand3, place, contentionsFor, idleFor, slotsFor, ServesInTurn, InTurn}
 use Rattle.rules.proofs.Laws.{clash, or-false, bit-most, among-right, map-into}
 use Rattle.rules.proofs.Reach.{answers-agree}
 use Rattle.rules.proofs.Probes.{probesLeft, halved-once, probes-left, probes-fall}
@@ -223,7 +223,7 @@ never-fails false h = absurd (h refl)
 ends-sooner :
     (N j : ℕ) {L w i spare : ℕ} {s : Station} {p : Packet} {said : List Answer} → w ≤ j * N → i ≤ j → w + i ≤ j * N + spare → 1 ≤ L
     → Within L (p .length) (sends s p) w i spare (2 * L) said
-    → EndsWithin (j * mostContentions N) (j * most-idle) (λ P. j * fewerSlots N L P) s p said
+    → EndsWithin (contentionsFor j N) (idleFor j) (slotsFor j fewerSlots N L) s p said
 ends-sooner N j {L} {w} {i} {spare} {s} {p} {said} wins idles most halved k =
     record {
       contentions = omega (arith, k .contentions, mul-suc j N);
@@ -274,12 +274,28 @@ module _ (b : Bus) (sound : Sound b) (later : List Call) (s : Station) (ahead : 
   all-circuits = length-map row (λ t. t .capability) ∙ length-map (b .stations) asked
 
   sooner-at :
-      EndsWithin (place ahead * mostContentions (length (b .stations))) (place ahead * most-idle) (λ P. place ahead * slotsOn fewerSlots b P) s p (answers machine b later)
+      EndsWithin
+      (contentionsFor (place ahead) (length (b .stations)))
+      (idleFor (place ahead))
+      (slotsOn (slotsFor (place ahead) fewerSlots) b)
+      s
+      p
+      (answers machine b later)
   sooner-at =
       let most = wins-most (circuitsOf row) (s .capability) (b .last) in
       let one = bit-most (sits-out RTVC (b .last) (s .capability)) in
       let m = suc-mul (length ahead) (length (circuitsOf row)) in
-      rw (← all-circuits) (ends-sooner (length (circuitsOf row)) (place ahead) (omega arith) (omega arith) (omega arith) (halved-once b (sound .standing)) kept)
+      subst
+      (λ N.
+      EndsWithin
+      (contentionsFor (place ahead) N)
+      (idleFor (place ahead))
+      (slotsFor (place ahead) fewerSlots N (exponentOf (b .D)))
+      s
+      p
+      (answers machine b later))
+      all-circuits
+      (ends-sooner (length (circuitsOf row)) (place ahead) (omega arith) (omega arith) (omega arith) (halved-once b (sound .standing)) kept)
 
 -- the machine itself: a slot fewer for each packet than j times demand 3's bound,
 soonerInTurn-machine : InTurn fewerSlots machine

@@ -1,5 +1,5 @@
--- The machine, but that the round may be over after a probe (`endingRound`, specs/WrongEngines.antt), where only the top circuit ends it: its calls are the
--- machine's, and a round that is over leaves a sound bus, and a circuit waiting. Assumes nothing.
+-- The machine, but that the round may be over after a probe (`endingRound`, specs/WrongEngines.antt), where only the top circuit ends it: on one bus its
+-- replies are the machine's, and a round that is over leaves a sound bus, and a circuit waiting. Assumes nothing.
 use Prim.Native.Nat.{ℕ, _≤_}
 use mathlib.Core.Path.{_≡_, refl, sym, ap, _∙_, subst}
 use mathlib.Core.Bool.{Bool, true, false, not, cond}
@@ -29,7 +29,7 @@ use Rattle.rules.proofs.Turns.{Sound}
 abbrev pub TopOnly : (Bus → Bool) → Type 0
 TopOnly over = (b : Bus) → over b ≡ true → (b .contention ≡ none) × ((v : ℕ) → b .last ≡ some v → All (λ s. s .capability ≤ v) (b .stations))
 
--- so it is never, in the machine; and as soon as the top circuit has sent
+-- a round that is never over so, which is the machine's, and one that is over as soon as the top circuit has sent
 pub never : TopOnly (λ b. false)
 never b e = clash e refl
 

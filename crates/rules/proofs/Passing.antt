@@ -1,5 +1,5 @@
 -- Nobody passes a waiting circuit twice (P13): between two successes of a circuit that waits, each other succeeds at most once, and at most one contention
--- is idle, for every engine that meets demand 2; and for the one that ends the round as soon as the top circuit has sent. Assumes nothing.
+-- is idle, for every engine that meets demand 2; and for the machine with rounds that may be over once the top circuit has sent. Assumes nothing.
 use Prim.Native.Nat.{ℕ, _+_, _≤_}
 use mathlib.Core.Path.{_≡_, refl, sym, ap, _∙_, subst}
 use mathlib.Core.Logic.{_⊎_, inl, inr}
@@ -20,7 +20,7 @@ use Rattle.rules.specs.Probe.{Answer, refusedAnswer, success, idle, prob
 use Rattle.rules.specs.Step.{is-under-way, refusedBegun, opened}
 use Rattle.rules.specs.Engine.{Engine, machine, Call, admission, one-begin, one-probe, one-step, begun, probed, reply, next, after, replies, reach, probeIn, answers}
 use Rattle.rules.specs.Demands.{Demand2, upTo, idleContentionsIn, wins, CircuitWaits, successesOf, PassedOnce, beside, succeeds, Tally, blank, tallied, tally, tallyOf, TalliesAreTrue, waits-at, waits-throughout, NobodyPassesTwice}
-use Rattle.rules.specs.WrongEngines.{amended, roundOver, endingRound, topSent, topEndsRound}
+use Rattle.rules.specs.WrongEngines.{amended, roundOver, endingRound}
 use Rattle.rules.proofs.Laws.{clash, and-true, bit-most, all-map, keep-into, length-keep, map-into, map-map}
 use Rattle.rules.proofs.Numbers.{one-apart, held}
 use Rattle.rules.proofs.Standing.{set-up-stands, accepted-set-up}
@@ -30,7 +30,7 @@ use Rattle.rules.proofs.Reach.{outcome, accepted-or-nothing, after-more
 use Rattle.rules.proofs.Round.{winsLeft, idlesLeft, wins-most, other-wins, wins-stay, idle-ends}
 use Rattle.rules.proofs.Circuit.{circuitsOf, Waits, Turn, goes-on, its-own, earlier, anothers, nobodys}
 use Rattle.rules.proofs.Turns.{Sound, sound-reached, sound-next, waits-first, Holds, Everywhere, one-call}
-use Rattle.rules.proofs.Ending.{TopOnly, never, top-only, either, over-sound, over-waits, CallOver, call-over, nothing-stays}
+use Rattle.rules.proofs.Ending.{TopOnly, never, either, over-sound, over-waits, CallOver, call-over, nothing-stays}
 use Rattle.rules.proofs.Tallied.{Tells, Between, sent-next, tells-next}
 
 -- ---- while the circuit waits
@@ -203,7 +203,7 @@ module _ (over : Bus → Bool) (top : TopOnly over) where
           )
 
   module _ (address : ℕ) where
-    -- a round that is over changes neither
+    -- where the round is over a tally tells as much, and a bus is between contentions as before
     over-tells : (test : Bus → Bool) → TopOnly test → (b : Bus) (t : Tally) → Tells address b t → Tells address (roundOver test b) t
     over-tells test test-top b t h =
         either test test-top (λ b′. Tells address b′ t) b h (λ e. record { by-circuit = h .by-circuit; under-way = h .under-way; waiting = h .waiting })
@@ -307,7 +307,7 @@ module _ (over : Bus → Bool) (top : TopOnly over) where
 
   tells-from-set-up :
       (r : Request) (calls : List Call) (address : ℕ) → r .discipline ≡ code RTVC → setUp r .0 .refusal ≡ 0
-      → Sound (reach E r calls) × Tells address (reach E r calls) (tallyOf E r address calls)
+      → Sound (reach E r calls) × Tells address (reach E r calls) (tallyOf address calls (replies E (setUp r .1) calls))
   tells-from-set-up r calls address d z = tells-calls address (setUp r .1) blank calls (sound-reached r [] (begins .by-circuit)) begins
     where
       begins : Tells address (setUp r .1) blank
@@ -327,14 +327,14 @@ module _ (over : Bus → Bool) (top : TopOnly over) where
           let call = call-over over top (reach E r calls) c in
           let before = tells-from-set-up r calls address d z in
           let now = tells-from-set-up r sofar address d z in
-          passes-after address later (reach E r sofar) (tallyOf E r address sofar) (now .0)
+          passes-after address later (reach E r sofar) (tallyOf address sofar (replies E (setUp r .1) sofar)) (now .0)
           (subst (Between address) (sym (after-more E (setUp r .1) calls (c ∷ []) ∙ call .state))
           (over-between address (call .test) (call .test-top) (next machine (reach E r calls) c)
           (sent-next address (reach E r calls) (before .0 .standing) (before .1 .by-circuit) c (sym (ap (succeeds address) (call .replied)) ∙ won))))
           (now .1)
           premise
 
--- ---- every engine that meets demand 2, and the wrong one that ends the round as soon as the top circuit has sent
+-- ---- every engine that meets demand 2
 
 -- what the machine's replies tell is so, and so what an engine's do
 pub talliesAreTrue : (E : Engine) → Demand2 E → TalliesAreTrue E
@@ -356,6 +356,3 @@ nobodyPassesTwice E meets r calls c later address d won premise =
 
     same : reply E (reach E r calls) c ≡ reply machine (reach machine r calls) c
     same = ap (λ rs. getD rs 0 (begun (refusedBegun 0))) (replies-agree E meets r calls (c ∷ []))
-
-pub topEndsRound-passes : NobodyPassesTwice topEndsRound
-topEndsRound-passes = passes-from-set-up topSent top-only

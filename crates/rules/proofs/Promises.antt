@@ -81,8 +81,8 @@ pub starred : firstFailing ≡ none
 starred = Starred.starred
 
 -- ---- of every engine that meets demand 2: steps are the machine's too, the winner is least, events, counts, numbers and waits are true, probes are
--- bounded, a contention without contenders ends at once, nobody joins, demand 3, a slot fewer than it asks for, the same of the j-th packet, what they say of a wait, and
--- nobody passes a waiting circuit twice
+-- bounded, a contention without contenders ends at once, nobody joins, demand 3, a slot fewer than it asks for, the same of the j-th packet, what they say of a wait, tallies
+-- are true, and nobody passes a waiting circuit twice
 
 pub promised : (E : Engine) → Demand2 E → Promised E
 promised E meets =

@@ -1,5 +1,5 @@
 -- The round, in numbers: how many contentions can still be won, and end idle, before a waiting circuit's own turn, and the slot
--- spared in them. `circuits` are the capabilities of all circuits, `mine` is the waiting one's, and `last` is the round's last winner.
+-- spared in them. `circuits` are capabilities, of all circuits or of some, `mine` is the waiting one's, and `last` is the round's last winner.
 -- Assumes nothing.
 use Prim.Native.Nat.{ℕ, suc, _+_, _-_, _≤_, _<_, min}
 use mathlib.Core.Path.{_≡_, refl, ap}

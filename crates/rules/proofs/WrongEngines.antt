@@ -14,13 +14,15 @@ use Rattle.rules.specs.Lists.{total, at-head, in-tail}
 use Rattle.rules.specs.Bus.{Packet, Station}
 use Rattle.rules.specs.SetUp.{Request, setUp}
 use Rattle.rules.specs.Admission.{Arrival}
-use Rattle.rules.specs.Probe.{Answer}
+use Rattle.rules.specs.Probe.{Answer, idle, collision, success}
 use Rattle.rules.specs.Engine.{Engine, machine, Call, one-begin, one-probe, one-step, Reply, replies, reach, probesIn, beginsIn, answers}
 use Rattle.rules.specs.Demands.{Demand2, adds-lost, numbersAnswered, NumbersAreAnswers, WaitsAreTrue, NobodyJoins, mostContentions, most-idle, mostSlots, EndsWithin, Demand3, NobodyPassesTwice}
 use Rattle.rules.specs.Examples.{arrives, steps, listing, rtdg, circuits, apart, admittedLater, chatty}
-use Rattle.rules.specs.WrongEngines.{refusesAll, refusesCalls, untouched, oneTooLow, alwaysIdle, madeUpDrops, madeUpSent, lowByte, twoForOne, transmittersKept, madeUpProbes, firstStation, waitToTheEnd, waitOfTheContention, waitFromTheArrival, arrivalTimes, dropsLater, offersAnew, beginTakesASlot, topEndsRound, eachEndsRound, roundGoesOn}
+use Rattle.rules.specs.WrongEngines.{refusesAll, refusesCalls, untouched, oneTooLow, alwaysIdle, madeUpDrops, madeUpSent, lowByte, twoForOne, transmittersKept, madeUpProbes, firstStation, waitToTheEnd, waitOfTheContention, waitFromTheArrival, arrivalTimes, dropsLater, offersAnew, beginTakesASlot, topEndsRound, eachEndsRound, topSent, roundGoesOn}
 use Rattle.rules.proofs.Laws.{clash}
 use Rattle.rules.proofs.Reach.{stepsAgree}
+use Rattle.rules.proofs.Ending.{top-only}
+use Rattle.rules.proofs.Passing.{passes-from-set-up}
 use Rattle.rules.proofs.Computing.{Brings, Same, number, bus, test, pair, computed, bus-same, test-same, number-same, pair-same, computed-replies}
 
 -- A number read off the replies to a script is the machine's, both computed state by state.
@@ -231,12 +233,18 @@ topEndsRound-wrong demand =
     let z : _≡_ {A = ℕ} 6 4 = agrees topEndsRound bus bus-same demand events circuits calls in
     omega arith
 
--- but nobody passes twice (`topEndsRound-passes`, proofs/Passing.antt): in the run of row 70 the idle contention is left out, and circuit 0, of address 5,
--- sends once before circuit 1, of address 6, sends again; 0 stands for a probe without a winner
-pub topEndsRound-chatty : map (λ a. a .address) (probesIn (replies topEndsRound (setUp circuits .1) chatty)) ≡ 6 ∷ 7 ∷ 0 ∷ 0 ∷ 5 ∷ 6 ∷ 0 ∷ 5 ∷ []
+-- Yet in that engine too nobody passes twice.
+pub topEndsRound-passes : NobodyPassesTwice topEndsRound
+topEndsRound-passes = passes-from-set-up topSent top-only
+
+-- The events of its run over the calls of row 70, and the winners' addresses: circuit 0, of address 5, sends once before circuit 1, of address 6, sends
+-- again, and no contention is idle between.
+pub topEndsRound-chatty :
+    map {B = ℕ × ℕ} (λ a. (a .event, a .address)) (probesIn (replies topEndsRound (setUp circuits .1) chatty))
+    ≡ (success, 6) ∷ (success, 7) ∷ (collision, 0) ∷ (collision, 0) ∷ (success, 5) ∷ (success, 6) ∷ (idle, 0) ∷ (success, 5) ∷ []
 unfolding exponentOf isPower
 topEndsRound-chatty =
-    ap (λ rs. map (λ (a : Answer). a .address) (probesIn rs)) (sym (computed-replies topEndsRound bus bus-same (setUp circuits .1) chatty))
+    ap (λ rs. map {B = ℕ × ℕ} (λ a. (a .event, a .address)) (probesIn rs)) (sym (computed-replies topEndsRound bus bus-same (setUp circuits .1) chatty))
 
 -- a circuit that has sent sits out
 pub eachEndsRound-wrong : Demand2 eachEndsRound → ⊥
@@ -244,7 +252,7 @@ unfolding events exponentOf isPower
 eachEndsRound-wrong demand =
     let z : _≡_ {A = ℕ} 4 2 = agrees eachEndsRound bus bus-same demand events circuits (arrives 5 0 1 ∷ arrives 5 0 1 ∷ steps 2) in omega arith
 
--- until a contention ends idle
+-- a circuit that sits out sends after an idle contention
 pub roundGoesOn-wrong : Demand2 roundGoesOn → ⊥
 unfolding events exponentOf isPower
 roundGoesOn-wrong demand =
@@ -258,7 +266,7 @@ eachEndsRound-lets-pass holds =
     let z : 2 ≤ 1 = holds circuits (arrives 6 0 1 ∷ []) one-step later 6 refl refl refl .each-other 5 (λ e. omega arith) in
     omega arith
 
--- and at most one contention is idle: circuit 1 has sent, and has a packet; two contentions end idle before it sends
+-- At most one contention is idle: circuit 1 has sent, and has a packet; two contentions end idle after that, and it has not sent again.
 pub roundGoesOn-idles : NobodyPassesTwice roundGoesOn → ⊥
 unfolding exponentOf isPower
 roundGoesOn-idles holds =

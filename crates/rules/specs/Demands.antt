@@ -19,7 +19,7 @@ use Rattle.rules.specs.Begin.{parameterOf, entered}
 use Rattle.rules.specs.Conditions.{Late}
 use Rattle.rules.specs.Probe.{Answer, Contender, able, contenders, transmitters, idle, collision, success, refusedAnswer, dropping, waitOf}
 use Rattle.rules.specs.Step.{is-under-way, Contends, refusedBegun, beginCall, probeCall, opened, step}
-use Rattle.rules.specs.Engine.{Engine, machine, stepOf, Call, OwnCall, admission, one-begin, one-probe, one-step, Reply, admitted, begun, probed, reply, replies, reach, admissionsIn, answers}
+use Rattle.rules.specs.Engine.{Engine, machine, stepOf, Call, OwnCall, admission, one-begin, one-probe, one-step, Reply, admitted, begun, probed, reply, replies, reach, probesIn, admissionsIn, answers}
 
 -- ---- demand 2
 
@@ -421,17 +421,26 @@ Demand3 E = (r : Request) (calls later : List Call) → Serves mostSlots (reach 
 abbrev pub SoonerThanDemand3 : Engine → Type 0
 SoonerThanDemand3 E = (r : Request) (calls later : List Call) → Serves fewerSlots (reach machine r calls) (answers E (reach E r calls) later)
 
--- 'the bound of demand 3 for the j-th packet in a queue as j times the bound for the oldest' (P13): the place of a packet, itself counted
+-- 'the bound of demand 3 for the j-th packet in a queue as j times the bound for the oldest' (P13): its place, itself counted, and j times each bound
 abbrev pub place : List Packet → ℕ
 place ahead = suc (length ahead)
+
+abbrev pub contentionsFor : ℕ → ℕ → ℕ
+contentionsFor j N = j * mostContentions N
+
+abbrev pub idleFor : ℕ → ℕ
+idleFor j = j * most-idle
+
+abbrev pub slotsFor : ℕ → (ℕ → ℕ → ℕ → ℕ) → ℕ → ℕ → ℕ → ℕ
+slotsFor j bound N L P = j * bound N L P
 
 abbrev pub ServesInTurn : (ℕ → ℕ → ℕ → ℕ) → Bus → List Answer → Type 0
 ServesInTurn bound b said =
     (s : Station) (ahead : List Packet) (p : Packet) → CircuitWaits b s ahead p
     → EndsWithin
-    (place ahead * mostContentions (length (b .stations)))
-    (place ahead * most-idle)
-    (λ P. place ahead * slotsOn bound b P)
+    (contentionsFor (place ahead) (length (b .stations)))
+    (idleFor (place ahead))
+    (slotsOn (slotsFor (place ahead) bound) b)
     s
     p
     said
@@ -453,11 +462,11 @@ OldestWaits b said = (s : Station) (p : Packet) → CircuitWaits b s [] p → Wi
 abbrev pub WaitOfTheOldest : Engine → Type 0
 WaitOfTheOldest E = (r : Request) (calls later : List Call) → OldestWaits (reach machine r calls) (answers E (reach E r calls) later)
 
--- of its j-th, from the contention that begins after its admission: j times as many
+-- of its j-th: j times as many, from any contention that begins while it waits, as the first after its admission
 abbrev pub WaitsInTurn : Bus → List Answer → Type 0
 WaitsInTurn b said =
     (s : Station) (ahead : List Packet) (p : Packet) → CircuitWaits b s ahead p
-    → WinsWithin (λ P. place ahead * slotsOn fewerSlots b P) b s p said
+    → WinsWithin (slotsOn (slotsFor (place ahead) fewerSlots) b) b s p said
 
 abbrev pub WaitInTurn : Engine → Type 0
 WaitInTurn E = (r : Request) (calls later : List Call) → WaitsInTurn (reach machine r calls) (answers E (reach E r calls) later)
@@ -475,7 +484,11 @@ most-idle-between = 1
 abbrev pub successesOf : ℕ → List Answer → ℕ
 successesOf address said = count (wins address) said
 
--- the answers after a circuit's success, up to its next success or all there are
+-- the answers among replies up to a success of an address, and with it, or all there are
+abbrev pub untilSuccess : ℕ → List Reply → List Answer
+untilSuccess address rs = upTo (wins address) (probesIn rs)
+
+-- the answers between two successes of an address, the second among them if it has come
 pub record PassedOnce (address : ℕ) (between : List Answer) : Type 0 where
   pub each-other : (other : ℕ) → ¬ (other ≡ address) → successesOf other between ≤ most-passes
   pub idle-ones : idleContentionsIn between ≤ most-idle-between
@@ -518,9 +531,9 @@ abbrev pub tally : ℕ → Tally → List (Call × Reply) → Tally
 tally address t [] = t
 tally address t (x ∷ xs) = tally address (tallied address t (x .0) (x .1)) xs
 
--- a circuit's tally after calls, of E's own replies
-abbrev pub tallyOf : (E : Engine) → Request → ℕ → List Call → Tally
-tallyOf E r address calls = tally address blank (beside calls (replies E (E .setUp r .1) calls))
+-- of calls since set-up and the replies to them
+abbrev pub tallyOf : ℕ → List Call → List Reply → Tally
+tallyOf address calls rs = tally address blank (beside calls rs)
 
 -- and it is true: so many packets wait at the station of that address, and a contention is under way or not
 pub record TallyIsTrue (b : Bus) (address : ℕ) (t : Tally) : Type 0 where
@@ -530,7 +543,7 @@ pub record TallyIsTrue (b : Bus) (address : ℕ) (t : Tally) : Type 0 where
 abbrev pub TalliesAreTrue : Engine → Type 0
 TalliesAreTrue E =
     (r : Request) (calls : List Call) (address : ℕ) → r .discipline ≡ code RTVC → setUp r .0 .refusal ≡ 0
-    → TallyIsTrue (reach machine r calls) address (tallyOf E r address calls)
+    → TallyIsTrue (reach machine r calls) address (tallyOf address calls (replies E (E .setUp r .1) calls))
 
 -- whether a contention began with a reply, by whether one was under way before it
 abbrev pub begins-one : Bool → Reply → Bool
@@ -549,14 +562,24 @@ waits-throughout address t [] = true
 waits-throughout address t (x ∷ xs) =
     waits-at t (x .1) && (succeeds address (x .1) || waits-throughout address (tallied address t (x .0) (x .1)) xs)
 
+-- the same of calls `later` and the replies to them, after those since set-up
+abbrev pub waits-after : ℕ → List Call → List Reply → List Call → List Reply → Bool
+waits-after address calls rs later rs′ = waits-throughout address (tallyOf address calls rs) (beside later rs′)
+
 -- 'For pure RTVC, over any calls from set-up': c, after these calls, is answered with a success of the address. The calls `later` are any: admissions,
 -- refused calls and begins without a probe may stand anywhere among them. All is counted from E's own replies.
 abbrev pub NobodyPassesTwice : Engine → Type 0
 NobodyPassesTwice E =
     (r : Request) (calls : List Call) (c : Call) (later : List Call) (address : ℕ) → r .discipline ≡ code RTVC
     → succeeds address (reply E (reach E r calls) c) ≡ true
-    → waits-throughout address (tallyOf E r address (calls ++ (c ∷ []))) (beside later (replies E (reach E r (calls ++ (c ∷ []))) later)) ≡ true
-    → PassedOnce address (upTo (wins address) (answers E (reach E r (calls ++ (c ∷ []))) later))
+    → waits-after
+    address
+    (calls ++ (c ∷ []))
+    (replies E (E .setUp r .1) (calls ++ (c ∷ [])))
+    later
+    (replies E (reach E r (calls ++ (c ∷ []))) later)
+    ≡ true
+    → PassedOnce address (untilSuccess address (replies E (reach E r (calls ++ (c ∷ []))) later))
 
 -- ---- what demand 2 gives an engine
 

@@ -19,7 +19,7 @@ use Rattle.rules.specs.Begin.{parameterOf}
 use Rattle.rules.specs.Probe.{withdrawn, parameter-phase, tie-phase, idle, collision, success, Answer, dropping}
 use Rattle.rules.specs.Step.{Contends, Begun, beginRefusal, beginCall, probeRefusal, stepRefusal, step}
 use Rattle.rules.specs.Engine.{machine, Call, admission, one-begin, one-probe, one-step, Reply, replies, probesIn, admissionsIn, beginsIn}
-use Rattle.rules.specs.Demands.{probes, mostProbes, slotsBefore, contentionsIn, idleContentionsIn, slotsIn, wins, sends, upTo, mostContentions, most-idle, mostSlots, fewerSlots, place, most-passes, most-idle-between, successesOf, beside, blank, tally, waits-throughout}
+use Rattle.rules.specs.Demands.{probes, mostProbes, slotsBefore, contentionsIn, idleContentionsIn, slotsIn, sends, upTo, mostContentions, most-idle, mostSlots, fewerSlots, place, contentionsFor, idleFor, slotsFor, most-passes, most-idle-between, successesOf, untilSuccess, tallyOf, waits-after}
 
 -- ---- rows
 
@@ -391,18 +391,21 @@ untilSent n address number rs = upTo (sends (freshStation (station address 0)) (
 
 -- the answers after the first n replies, up to the next success of an address
 abbrev pub between : ℕ → ℕ → List Reply → List Answer
-between n address rs = upTo (wins address) (probesIn (drop n rs))
+between n address rs = untilSuccess address (drop n rs)
 
 -- whether a packet waits there at the beginning of each contention among them
 abbrev pub waits-between : ℕ → ℕ → List Call → List Reply → Bool
-waits-between n address calls rs =
-    waits-throughout address (tally address blank (take n (beside calls rs))) (drop n (beside calls rs))
+waits-between n address calls rs = waits-after address (take n calls) (take n rs) (drop n calls) (drop n rs)
+
+-- the place in its queue of the packet that the call after the first n admits
+abbrev pub placeAfter : ℕ → ℕ → List Call → List Reply → ℕ
+placeAfter n address calls rs = place (replicate (tallyOf address (take n calls) (take n rs) .waiting) (packet 1 0 1))
 
 -- circuit 1 has sent, and sends its last packet; circuit 0 has a packet waiting all the time, and circuit 3 has one
 abbrev pub chatty : List Call
 chatty = arrives 6 0 1 ∷ one-step ∷ arrives 5 0 1 ∷ arrives 5 0 1 ∷ arrives 6 0 1 ∷ arrives 7 0 1 ∷ steps 7
 
--- circuit 1 has sent and has no packet, but one comes before the next begin; circuit 3 has one after that begin; probes, an admission and a begin are
+-- circuit 1 has sent and has no packet, but one comes before the next begin; circuit 3 has one after that begin; a probe, an admission and a begin are
 -- refused, and a begin without a probe comes last
 abbrev pub filledAgain : List Call
 filledAgain =
@@ -453,6 +456,14 @@ passedTwice contention =
     && eqb (idleContentionsIn (between 2 6 rs)) (suc most-idle-between)
     && not (waits-between 2 6 (comesLate contention) rs))
 
+-- circuit 1 has sent, and has a packet again only once a contention has begun
+abbrev pub afterTheBegin : List Call
+afterTheBegin = arrives 6 0 1 ∷ one-step ∷ one-begin ∷ arrives 6 0 1 ∷ one-probe ∷ []
+
+-- circuit 0 of two has sent, and both have two packets
+abbrev pub twoEach : List Call
+twoEach = arrives 0 0 1 ∷ one-step ∷ arrives 0 0 1 ∷ arrives 0 0 1 ∷ arrives 1 0 1 ∷ arrives 1 0 1 ∷ steps 7
+
 -- circuit 1 of two has sent, and both have three packets
 abbrev pub threeEach : List Call
 threeEach =
@@ -465,10 +476,6 @@ threeEach =
     ∷ arrives 1 0 1
     ∷ arrives 1 0 1
     ∷ steps 12
-
--- n packets
-abbrev pub packets : ℕ → List Packet
-packets n = replicate n (packet 1 0 1)
 
 -- ---- waits
 
@@ -486,7 +493,7 @@ offeringSince slot offered = offeringOf (packetSince slot 1 0 1) 0 (packetSince 
 abbrev pub betweenAt : ℕ → Bus
 betweenAt slot = busAt slot none (withdrawn (offering 0 1 0) ∷ [])
 
--- ---- the table, in six parts
+-- ---- the table, in seven parts
 
 -- the settled examples, traps and open points
 abbrev pub settled : List Row
@@ -805,7 +812,8 @@ beginnings =
 abbrev pub passes : List Row
 passes =
     -- 70: 'each other circuit succeeds at most once between them, and at most one contention between them is idle': between two successes of circuit 1 each
-    -- of the others succeeds once, though circuit 0 has another packet, and one contention is idle; that none waits once it has succeeded does not matter
+    -- of the others succeeds once, though circuit 0 has another packet, and one contention is idle; that it has no packet at the beginning after does not
+    -- matter
     script
     circuits
     chatty
@@ -838,30 +846,35 @@ passes =
     -- 72, 73: 'if a circuit has a packet waiting at the beginning of every contention': circuit 1 has none at three beginnings, those of steps or of begins
     ∷ passedTwice (one-step ∷ [])
     ∷ passedTwice (one-begin ∷ one-probe ∷ [])
-    -- 74: 'for the j-th packet in a queue .. j times the bound for the oldest': row 54 with two packets at both; the second of circuit 0 takes 2 × 3
+    -- 74: 'waiting at the beginning': a packet that comes after the begin does not wait at it, though it comes before the first slot
+    ∷ script
+    circuits
+    afterTheBegin
+    (λ rs. are (S 0 P 0 4 6 1 1 0 ∷ I-end 1 P 0 4 ∷ []) rs && not (waits-between 2 6 afterTheBegin rs))
+    -- 75: 'for the j-th packet in a queue .. j times the bound for the oldest': row 54 with two packets at both; the second of circuit 0 takes 2 × 3
     -- contentions, two of them idle
     ∷ script
     (pair RTVC)
-    (arrives 0 0 1 ∷ one-step ∷ arrives 0 0 1 ∷ arrives 0 0 1 ∷ arrives 1 0 1 ∷ arrives 1 0 1 ∷ steps 7)
+    twoEach
     (λ rs.
-    eqb (contentionsIn (untilSent 1 0 3 rs)) (place (packets 1) * mostContentions 2)
-    && eqb (idleContentionsIn (untilSent 1 0 3 rs)) (place (packets 1) * most-idle))
-    -- 75: row 55 with three packets at both: the second of circuit 1 takes 2 × 4 slots, more than once the bound, and the third 3 × 4, more than twice
+    eqb (contentionsIn (untilSent 1 0 3 rs)) (contentionsFor (placeAfter 3 0 twoEach rs) 2)
+    && eqb (idleContentionsIn (untilSent 1 0 3 rs)) (idleFor (placeAfter 3 0 twoEach rs)))
+    -- 76: row 55 with three packets at both: the second of circuit 1 takes 2 × 4 slots, more than once the bound, and the third 3 × 4, more than twice
     ∷ script
     (pair RTVC)
     threeEach
     (λ rs.
-    eqb (slotsIn (untilSent 1 1 6 rs)) (place (packets 1) * fewerSlots 2 1 1)
-    && ltb (1 * mostSlots 2 1 1) (slotsIn (untilSent 1 1 6 rs))
-    && eqb (slotsIn (untilSent 1 1 7 rs)) (place (packets 2) * fewerSlots 2 1 1)
-    && ltb (2 * mostSlots 2 1 1) (slotsIn (untilSent 1 1 7 rs)))
-    -- 76: and their waits, and lengths, meet it too: they came as the contention began
+    eqb (slotsIn (untilSent 1 1 6 rs)) (slotsFor (placeAfter 6 1 threeEach rs) fewerSlots 2 1 1)
+    && ltb (slotsFor 1 mostSlots 2 1 1) (slotsIn (untilSent 1 1 6 rs))
+    && eqb (slotsIn (untilSent 1 1 7 rs)) (slotsFor (placeAfter 7 1 threeEach rs) fewerSlots 2 1 1)
+    && ltb (slotsFor 2 mostSlots 2 1 1) (slotsIn (untilSent 1 1 7 rs)))
+    -- 77: and their waits, with their lengths, meet j × N × (2L − 1 + P): they came as the contention began
     ∷ script
     (pair RTVC)
     threeEach
     (λ rs.
-    eqb (total (λ a. a .wait + a .length) (drop 8 (take 9 (probesIn rs)))) (place (packets 1) * fewerSlots 2 1 1)
-    && eqb (total (λ a. a .wait + a .length) (drop 12 (probesIn rs))) (place (packets 2) * fewerSlots 2 1 1))
+    eqb (total (λ a. a .wait + a .length) (drop 8 (take 9 (probesIn rs)))) (slotsFor (placeAfter 6 1 threeEach rs) fewerSlots 2 1 1)
+    && eqb (total (λ a. a .wait + a .length) (drop 12 (probesIn rs))) (slotsFor (placeAfter 7 1 threeEach rs) fewerSlots 2 1 1))
     ∷ []
 
 abbrev pub table : List Row
