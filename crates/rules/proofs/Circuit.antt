@@ -195,7 +195,7 @@ module _ (row : List Asked) (D : ℕ) (s : Station) (p : Packet) where
       }
 
   -- once a contention has ended: f is what becomes of the stations, and leaves the circuit p and those ahead of it still
-  waits-ended :
+  pub waits-ended :
       {ahead : List Packet} (ahead′ : List Packet) (b b′ : Bus) (f : Station → Station) (w : Waits row D s p ahead b) → b′ .discipline ≡ b .discipline
       → b′ .D ≡ b .D → b′ .stations ≡ map f (b .stations) → b′ .contention ≡ none → ((t : Station) → asked (f t) ≡ asked t)
       → f (w .station) .queue ≡ ahead′ ++ (p ∷ w .rest) → Waits row D s p ahead′ b′

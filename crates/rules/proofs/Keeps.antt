@@ -18,7 +18,7 @@ use Rattle.window.specs.declared.Window.{Window}
 use Rattle.window.specs.Splitting.{firstWindow, leftHalf, moveRight}
 use Rattle.window.proofs.Facts.{placed-first, placed-left, placed-right, placed-view, single}
 use Rattle.rules.specs.Lists.{bit, keep, count, Among, at-head, in-tail, All, Distinct, outside, verdict}
-use Rattle.rules.specs.Bus.{late, most-stations, least-space, most-space, clock-end, last-slot, Discipline, PRI, RTDG, RTVC, code, Packet, Offer, Station, Contention, Bus, waiting, numbers}
+use Rattle.rules.specs.Bus.{late, most-stations, least-space, most-space, clock-end, last-slot, Discipline, PRI, RTDG, RTVC, code, Packet, Offer, Station, Contention, Bus, amended, waiting, numbers}
 use Rattle.rules.specs.SetUp.{Asked, Request, Verdict, fault, step-outside, stationTests, rowTests, setUpVerdict, disciplineOf, freshStation, freshBus}
 use Rattle.rules.specs.Standing.{asked, askedFor, ValueFits, PacketStands, ParameterFits, OfferStands, StationStands, LastStands, WindowStands, ContentionStands, Standing}
 use Rattle.rules.specs.Admission.{Arrival, named, newPacket, queued, joined, withPacket}
@@ -247,27 +247,11 @@ sender b c x h e i =
       lies = and-true _ _ (sends .1) .0;
     }
 
--- the stations stay as they are
-abbrev pub beside-stations : Bus → ℕ → Option ℕ → Option Contention → Bus
-beside-stations b clock last c =
-    record {
-      discipline = b .discipline;
-      D = b .D;
-      A = b .A;
-      q = b .q;
-      stations = b .stations;
-      clock = clock;
-      admitted = b .admitted;
-      sent = b .sent;
-      lost = b .lost;
-      last = last;
-      contention = c;
-    }
-
-pub beside-stands :
+-- the stations and counts stay as they are
+pub amended-stands :
     (b : Bus) (clock : ℕ) (last : Option ℕ) (c : Option Contention) → Standing b → b .clock ≤ clock → clock ≤ clock-end
-    → LastStands (b .discipline) (b .stations) last → (c ≡ none → b .contention ≡ none) → ContentionStands b c → Standing (beside-stations b clock last c)
-beside-stands b clock last c h on t won still w =
+    → LastStands (b .discipline) (b .stations) last → (c ≡ none → b .contention ≡ none) → ContentionStands b c → Standing (amended clock last c b)
+amended-stands b clock last c h on t won still w =
     rw (← (map-id (b .stations)))
     (moved-stands b (λ s. s) clock (b .sent) (b .lost) last c h (λ s. refl) (λ s. fewer-all (s .queue)) on t (rw (map-id (b .stations)))
     (λ s i. offer-kept b _ refl refl s s refl (λ p j. j) (b .contention) c still (s .offer) (h .each-station s i .offered))
@@ -275,7 +259,7 @@ beside-stands b clock last c h on t won still w =
 
 -- a contention goes on with another window
 goes-on-stands : (b : Bus) (c : Contention) → Standing b → b .clock ≤ last-slot → ContentionStands b (some c) → Standing (goesOn b c)
-goes-on-stands b c h t w = beside-stands b (suc (b .clock)) (b .last) (some c) h (omega arith) (omega arith) (h .last-winner) (λ e. cc) w
+goes-on-stands b c h t w = amended-stands b (suc (b .clock)) (b .last) (some c) h (omega arith) (omega arith) (h .last-winner) (λ e. cc) w
 
 -- the window after a collision; a tie phase begins at size 1, so that the tied value is a transmitter's parameter
 split-stands : (b : Bus) (c : Contention) (x : Contender) → ContentionStands b (some c) → Sender b c x → ContentionStands b (some (split b c))

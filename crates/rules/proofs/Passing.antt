@@ -20,7 +20,7 @@ use Rattle.rules.specs.Probe.{Answer, refusedAnswer, success, idle, prob
 use Rattle.rules.specs.Step.{is-under-way, refusedBegun, opened}
 use Rattle.rules.specs.Engine.{Engine, machine, Call, admission, one-begin, one-probe, one-step, begun, probed, reply, next, after, replies, reach, probeIn, answers}
 use Rattle.rules.specs.Demands.{Demand2, upTo, idleContentionsIn, wins, CircuitWaits, successesOf, PassedOnce, beside, succeeds, Tally, blank, tallied, tally, tallyOf, TalliesAreTrue, waits-at, waits-throughout, NobodyPassesTwice}
-use Rattle.rules.specs.WrongEngines.{amended, roundOver, endingRound}
+use Rattle.rules.specs.WrongEngines.{roundEnded, roundOver, endingRound}
 use Rattle.rules.proofs.Laws.{clash, and-true, bit-most, all-map, keep-into, length-keep, map-into, map-map}
 use Rattle.rules.proofs.Numbers.{one-apart, held}
 use Rattle.rules.proofs.Standing.{set-up-stands, accepted-set-up}
@@ -121,7 +121,7 @@ module _ (row : List Asked) (D : ℕ) (s : Station) (p : Packet) where
       → Passed (roundOver over b .last) said → Passed (b .last) said
   passed-over over top b said w k = go (over b) refl (b .last) refl k
     where
-      go : (t : Bool) → over b ≡ t → (last : Option ℕ) → b .last ≡ last → Passed (cond t (amended (b .clock) none b) b .last) said → Passed last said
+      go : (t : Bool) → over b ≡ t → (last : Option ℕ) → b .last ≡ last → Passed (cond t (roundEnded b) b .last) said → Passed last said
       go false e last l k′ = subst (λ l′. Passed l′ said) l k′
       go true e none l k′ = k′
       go true e (some v) l k′ =
@@ -204,13 +204,13 @@ module _ (over : Bus → Bool) (top : TopOnly over) where
 
   module _ (address : ℕ) where
     -- where the round is over a tally tells as much, and a bus is between contentions as before
-    over-tells : (test : Bus → Bool) → TopOnly test → (b : Bus) (t : Tally) → Tells address b t → Tells address (roundOver test b) t
-    over-tells test test-top b t h =
-        either test test-top (λ b′. Tells address b′ t) b h (λ e. record { by-circuit = h .by-circuit; under-way = h .under-way; waiting = h .waiting })
+    over-tells : (test : Bus → Bool) (b : Bus) (t : Tally) → Tells address b t → Tells address (roundOver test b) t
+    over-tells test b t h =
+        either test (λ b′. Tells address b′ t) b h (λ e. record { by-circuit = h .by-circuit; under-way = h .under-way; waiting = h .waiting })
 
-    over-between : (test : Bus → Bool) → TopOnly test → (b : Bus) → Between address b → Between address (roundOver test b)
-    over-between test test-top b h =
-        either test test-top (Between address) b h (λ e. record { station = h .station; listed = h .listed; here = h .here; ended = h .ended })
+    over-between : (test : Bus → Bool) (b : Bus) → Between address b → Between address (roundOver test b)
+    over-between test b h =
+        either test (Between address) b h (λ e. record { station = h .station; listed = h .listed; here = h .here; ended = h .ended })
 
     -- a call, and what calls and replies tell
     tells-call : (b : Bus) (t : Tally) (c : Call) → Sound b → Tells address b t
@@ -218,7 +218,7 @@ module _ (over : Bus → Bool) (top : TopOnly over) where
     tells-call b t c h k =
         let call = call-over over top b c in
         rw (call .replied, call .state)
-        (over-sound (call .test) (call .test-top) (sound-next h c), over-tells (call .test) (call .test-top) (next machine b c) _ (tells-next address b (h .standing) (k .by-circuit) t k c))
+        (over-sound (call .test) (call .test-top) (sound-next h c), over-tells (call .test) (next machine b c) _ (tells-next address b (h .standing) (k .by-circuit) t k c))
 
     tells-calls : (b : Bus) (t : Tally) (calls : List Call) → Sound b → Tells address b t
         → Sound (after E b calls) × Tells address (after E b calls) (tally address t (beside calls (replies E b calls)))
@@ -286,8 +286,8 @@ module _ (over : Bus → Bool) (top : TopOnly over) where
             → waits-throughout address t′ (beside later (replies E (roundOver (call .test) b′) later)) ≡ true
             → PassedOnce address (upTo (wins address) (answers E (roundOver (call .test) b′) later))
         goes-on-with b′ {t′} i h′ k w =
-            passes (roundOver (call .test) b′) t′ (over-sound (call .test) (call .test-top) h′) (over-between (call .test) (call .test-top) b′ i)
-            (over-tells (call .test) (call .test-top) b′ t′ k)
+            passes (roundOver (call .test) b′) t′ (over-sound (call .test) (call .test-top) h′) (over-between (call .test) b′ i)
+            (over-tells (call .test) b′ t′ k)
             w
 
     passes-after : (later : List Call) → Passes later
@@ -329,7 +329,7 @@ module _ (over : Bus → Bool) (top : TopOnly over) where
           let now = tells-from-set-up r sofar address d z in
           passes-after address later (reach E r sofar) (tallyOf address sofar (replies E (setUp r .1) sofar)) (now .0)
           (subst (Between address) (sym (after-more E (setUp r .1) calls (c ∷ []) ∙ call .state))
-          (over-between address (call .test) (call .test-top) (next machine (reach E r calls) c)
+          (over-between address (call .test) (next machine (reach E r calls) c)
           (sent-next address (reach E r calls) (before .0 .standing) (before .1 .by-circuit) c (sym (ap (succeeds address) (call .replied)) ∙ won))))
           (now .1)
           premise

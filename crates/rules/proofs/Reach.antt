@@ -24,7 +24,7 @@ use Rattle.rules.proofs.Laws.{clash, among-append, all-nil, all-cons}
 use Rattle.rules.proofs.Standing.{accepted-set-up, admit-is, begin-accepted, probe-accepted, probed-opened, step-is}
 use Rattle.rules.proofs.Refusals.{handsBack}
 use Rattle.rules.proofs.Keeps.{begin-stands, stepped-stands, keepsStanding}
-use Rattle.rules.proofs.Step.{step-made}
+use Rattle.rules.proofs.Step.{step-alike, step-made}
 
 -- ---- one call
 
@@ -130,9 +130,10 @@ nothing-next one-begin = refl
 nothing-next one-probe = refl
 nothing-next one-step = refl
 
-nothing-stays : (calls : List Call) → after machine nothing calls ≡ nothing
-nothing-stays [] = refl
-nothing-stays (c ∷ calls) = ap (λ b. after machine b calls) (nothing-next c) ∙ nothing-stays calls
+-- a state that no call changes
+pub stays-so : (E : Engine) (s : E .State) → ((c : Call) → next E s c ≡ s) → (calls : List Call) → after E s calls ≡ s
+stays-so E s still [] = refl
+stays-so E s still (c ∷ calls) = ap (λ t. after E t calls) (still c) ∙ stays-so E s still calls
 
 -- P and the standing conditions hold of every state reached from an accepted set-up
 accepted-keeps :
@@ -148,7 +149,7 @@ accepted-or-nothing r calls = go (eqb (setUpVerdict r .refusal) 0) refl
     go : (t : Bool) → eqb (setUpVerdict r .refusal) 0 ≡ t → (setUp r .0 .refusal ≡ 0) ⊎ (reach machine r calls ≡ nothing)
     go true e = inl (eqb-true (setUpVerdict r .refusal) 0 e)
     go false e =
-        inr (ap (λ b. after machine b calls) (handsBack .set-up r (eqb-false (setUpVerdict r .refusal) 0 e)) ∙ nothing-stays calls)
+        inr (ap (λ b. after machine b calls) (handsBack .set-up r (eqb-false (setUpVerdict r .refusal) 0 e)) ∙ stays-so machine nothing nothing-next calls)
 
 pub reachedStands : ReachedStands
 reachedStands r calls z = accepted-keeps (λ b. Unit {0}) anything r calls z .0
@@ -231,49 +232,11 @@ module _ (E : Engine) (meets : Demand2 E) (r : Request) where
   begin-same h = ap (λ rs. getD (beginsIn rs) 0 (refusedBegun 0)) (replies-same h (one-begin ∷ []) (one-own one-begin begin-own))
 
   -- a step is answered as the machine's, and leaves them abreast
-  abbrev Stays : Answer × E .State → Answer × Bus → Type 0
-  Stays x y = (x .0 ≡ y .0) × Abreast (x .1) (y .1)
-
-  step-same : {s : E .State} {b : Bus} → Abreast s b → Stays (stepOf E s) (stepOf machine b)
-  step-same {s} {b} h = first (eqb (E .probe s .0 .refusal) 26) (eqb (probeCall b .0 .refusal) 26) (ap (λ (a : Answer). eqb (a .refusal) 26) (probe-same h))
-    where
-      begun : Abreast (E .begin s .1) (beginCall b .1)
-      begun = abreast-more h (one-begin ∷ []) (one-own one-begin begin-own)
-
-      after-both : Abreast (E .probe (E .begin s .1) .1) (probeCall (beginCall b .1) .1)
-      after-both = abreast-more begun (one-probe ∷ []) (one-own one-probe probe-own)
-
-      drops : E .begin s .0 .drops ≡ beginCall b .0 .drops
-      drops = ap (λ (o : Begun). o .drops) (begin-same h)
-
-      third :
-          (t u : Bool) → t ≡ u
-          → Stays
-          (cond t (dropping (E .begin s .0 .drops) (E .probe (E .begin s .1) .0), E .probe (E .begin s .1) .1) (refusedAnswer (E .probe (E .begin s .1) .0 .refusal), s))
-          (cond u (dropping (beginCall b .0 .drops) (probeCall (beginCall b .1) .0), probeCall (beginCall b .1) .1) (refusedAnswer (probeCall (beginCall b .1) .0 .refusal), b))
-      third true true e = (ap₂ dropping drops (probe-same begun), after-both)
-      third true false e = clash refl e
-      third false true e = clash e refl
-      third false false e = (ap (λ (a : Answer). refusedAnswer (a .refusal)) (probe-same begun), h)
-
-      second :
-          (t u : Bool) → t ≡ u
-          → Stays
-          (cond t (probedAfter s (E .begin s .0 .drops) (E .probe (E .begin s .1))) (refusedAnswer (E .begin s .0 .refusal), s))
-          (cond u (probedAfter b (beginCall b .0 .drops) (probeCall (beginCall b .1))) (refusedAnswer (beginCall b .0 .refusal), b))
-      second true true e =
-          third (eqb (E .probe (E .begin s .1) .0 .refusal) 0) (eqb (probeCall (beginCall b .1) .0 .refusal) 0)
-          (ap (λ (a : Answer). eqb (a .refusal) 0) (probe-same begun))
-      second true false e = clash refl e
-      second false true e = clash e refl
-      second false false e = (ap (λ (o : Begun). refusedAnswer (o .refusal)) (begin-same h), h)
-
-      first : (t u : Bool) → t ≡ u → Stays (cond t (begunThen E s (E .begin s)) (E .probe s)) (cond u (begunThen machine b (beginCall b)) (probeCall b))
-      first true true e =
-          second (eqb (E .begin s .0 .refusal) 0) (eqb (beginCall b .0 .refusal) 0) (ap (λ (o : Begun). eqb (o .refusal) 0) (begin-same h))
-      first true false e = clash refl e
-      first false true e = clash e refl
-      first false false e = (probe-same h, abreast-more h (one-probe ∷ []) (one-own one-probe probe-own))
+  step-same : {s : E .State} {b : Bus} → Abreast s b → (stepOf E s .0 ≡ stepOf machine b .0) × Abreast (stepOf E s .1) (stepOf machine b .1)
+  step-same {s} {b} h =
+      let begun = abreast-more h (one-begin ∷ []) (one-own one-begin begin-own) in
+      step-alike E machine Abreast s b h (probe-same h, abreast-more h (one-probe ∷ []) (one-own one-probe probe-own)) (begin-same h)
+      (probe-same begun, abreast-more begun (one-probe ∷ []) (one-own one-probe probe-own))
 
   -- any call
   call-same : {s : E .State} {b : Bus} → Abreast s b → (c : Call) → (reply E s c ≡ reply machine b c) × Abreast (next E s c) (next machine b c)

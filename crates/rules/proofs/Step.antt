@@ -1,6 +1,6 @@
 -- A step is a begin, where no contention is under way, and a probe. Assumes nothing.
 use Prim.Native.Nat.{ℕ, _+_}
-use mathlib.Core.Path.{_≡_, refl, sym, ap, _∙_}
+use mathlib.Core.Path.{_≡_, refl, sym, ap, ap₂, _∙_}
 use mathlib.Core.Bool.{Bool, true, false, not, cond}
 use mathlib.Core.Option.{Option, none, some}
 use mathlib.Core.List.{List, [], _∷_}
@@ -17,6 +17,7 @@ use Rattle.rules.specs.Probe.{Answer, Contender, Open, transmitters, ref
 use Rattle.rules.specs.Step.{Begun, begunAnswer, beginCall, probeRefusal, underWay, probedIn, probeCall, openedBy, opened, step}
 use Rattle.rules.specs.Engine.{Engine, machine, probedAfter, begunThen, probedFirst, stepOf}
 use Rattle.rules.specs.Demands.{StepIsBoth, BeginTells, BeginsAtAnyClock}
+use Rattle.rules.proofs.Laws.{clash}
 use Rattle.rules.proofs.Tests.{tells, told}
 use Rattle.rules.proofs.Standing.{stands-exactly, begun-as, begin-accepts, begin-is, probe-step, accepted-step, step-accepted, step-is}
 use Rattle.rules.proofs.Refusals.{probe-number}
@@ -48,6 +49,48 @@ step-ways E s P first unbegun unprobed both = by-first (eqb (E .probe s .0 .refu
     by-first : (t : Bool) → eqb (E .probe s .0 .refusal) 26 ≡ t → P (cond t (begunThen E s (E .begin s)) (E .probe s))
     by-first true e = by-begin (eqb (E .begin s .0 .refusal) 0) refl
     by-first false e = first e
+
+-- two engines, whose states R relates
+module _ (E E′ : Engine) (R : E .State → E′ .State → Type 0) where
+  -- answers alike, and states that R relates
+  abbrev Alike : Answer × E .State → Answer × E′ .State → Type 0
+  Alike x y = (x .0 ≡ y .0) × R (x .1) (y .1)
+
+  -- Their steps are alike, where their probes, their begins' answers, and the probes after the begins are.
+  pub step-alike :
+      (s : E .State) (s′ : E′ .State) → R s s′ → Alike (E .probe s) (E′ .probe s′) → E .begin s .0 ≡ E′ .begin s′ .0
+      → Alike (E .probe (E .begin s .1)) (E′ .probe (E′ .begin s′ .1)) → Alike (stepOf E s) (stepOf E′ s′)
+  step-alike s s′ same probes begins both =
+      first (eqb (E .probe s .0 .refusal) 26) (eqb (E′ .probe s′ .0 .refusal) 26) (ap (λ (a : Answer). eqb (a .refusal) 26) (probes .0))
+    where
+      third :
+          (t u : Bool) → t ≡ u
+          → Alike
+          (cond t (dropping (E .begin s .0 .drops) (E .probe (E .begin s .1) .0), E .probe (E .begin s .1) .1) (refusedAnswer (E .probe (E .begin s .1) .0 .refusal), s))
+          (cond u (dropping (E′ .begin s′ .0 .drops) (E′ .probe (E′ .begin s′ .1) .0), E′ .probe (E′ .begin s′ .1) .1) (refusedAnswer (E′ .probe (E′ .begin s′ .1) .0 .refusal), s′))
+      third true true e = (ap₂ dropping (ap (λ (o : Begun). o .drops) begins) (both .0), both .1)
+      third true false e = clash refl e
+      third false true e = clash e refl
+      third false false e = (ap (λ (a : Answer). refusedAnswer (a .refusal)) (both .0), same)
+
+      second :
+          (t u : Bool) → t ≡ u
+          → Alike
+          (cond t (probedAfter s (E .begin s .0 .drops) (E .probe (E .begin s .1))) (refusedAnswer (E .begin s .0 .refusal), s))
+          (cond u (probedAfter s′ (E′ .begin s′ .0 .drops) (E′ .probe (E′ .begin s′ .1))) (refusedAnswer (E′ .begin s′ .0 .refusal), s′))
+      second true true e =
+          third (eqb (E .probe (E .begin s .1) .0 .refusal) 0) (eqb (E′ .probe (E′ .begin s′ .1) .0 .refusal) 0)
+          (ap (λ (a : Answer). eqb (a .refusal) 0) (both .0))
+      second true false e = clash refl e
+      second false true e = clash e refl
+      second false false e = (ap (λ (o : Begun). refusedAnswer (o .refusal)) begins, same)
+
+      first : (t u : Bool) → t ≡ u → Alike (cond t (begunThen E s (E .begin s)) (E .probe s)) (cond u (begunThen E′ s′ (E′ .begin s′)) (E′ .probe s′))
+      first true true e =
+          second (eqb (E .begin s .0 .refusal) 0) (eqb (E′ .begin s′ .0 .refusal) 0) (ap (λ (o : Begun). eqb (o .refusal) 0) begins)
+      first true false e = clash refl e
+      first false true e = clash e refl
+      first false false e = probes
 
 -- an open bus with other drops
 abbrev withDrops : Open → ℕ → Open

@@ -96,6 +96,23 @@ pub record Bus : Type 0 where
   pub last : Option ℕ
   pub contention : Option Contention
 
+-- a bus with another clock, last winner and contention, its stations and counts as they are
+abbrev pub amended : ℕ → Option ℕ → Option Contention → Bus → Bus
+amended clock last contention b =
+    record {
+      discipline = b .discipline;
+      D = b .D;
+      A = b .A;
+      q = b .q;
+      stations = b .stations;
+      clock = clock;
+      admitted = b .admitted;
+      sent = b .sent;
+      lost = b .lost;
+      last = last;
+      contention = contention;
+    }
+
 -- 'waiting is the number of packets in the queues'
 abbrev pub waiting : List Station → ℕ
 waiting stations = total (λ s. length (s .queue)) stations

@@ -11,7 +11,7 @@ use Rattle.window.specs.declared.Side.the-variants.{Left, Right}
 use Rattle.window.specs.declared.Window.{Window}
 use Rattle.window.specs.Splitting.{firstWindow, leftHalf, moveRight, inWindow}
 use Rattle.rules.specs.Lists.{keep}
-use Rattle.rules.specs.Bus.{Discipline, PRI, RTDG, RTVC, Packet, late, Offer, Station, Contention, Bus}
+use Rattle.rules.specs.Bus.{Discipline, PRI, RTDG, RTVC, Packet, late, Offer, Station, Contention, Bus, amended}
 
 -- a station that contends, with its offer
 pub record Contender : Type 0 where
@@ -152,20 +152,7 @@ sentBy o x = answered o success (x .address) (x .packet .number) (x .packet .len
 
 -- the contention goes on with another window, one slot later
 abbrev pub goesOn : Bus → Contention → Bus
-goesOn b c =
-    record {
-      discipline = b .discipline;
-      D = b .D;
-      A = b .A;
-      q = b .q;
-      stations = b .stations;
-      clock = suc (b .clock);
-      admitted = b .admitted;
-      sent = b .sent;
-      lost = b .lost;
-      last = b .last;
-      contention = some c;
-    }
+goesOn b c = amended (suc (b .clock)) (b .last) (some c) b
 
 -- a station whose contention has ended without its packet sent
 abbrev pub withdrawn : Station → Station

@@ -9,7 +9,7 @@ use mathlib.Core.List.{List, [], _∷_, map}
 use lib.Dec.{leb, eqb}
 use Rattle.window.specs.Splitting.{firstWindow}
 use Rattle.rules.specs.Lists.{keep, each-of}
-use Rattle.rules.specs.Bus.{Packet, Station, Contention, Bus, nothing}
+use Rattle.rules.specs.Bus.{Packet, Station, Contention, Bus, amended, nothing}
 use Rattle.rules.specs.SetUp.{fault, setUp}
 use Rattle.rules.specs.Admission.{admit}
 use Rattle.rules.specs.Probe.{Contender, transmitters, Answer, idle, success, refusedAnswer, dropping, Open, sentBy, withdrawn, lastWinner, heard, probe}
@@ -61,16 +61,13 @@ oneTooLow =
       probe = probeCall;
     }
 
+-- the machine with another probe
+abbrev pub probingBy : (Bus → Answer × Bus) → Engine
+probingBy other = record { State = Bus; setUp = setUp; admit = admit; begin = beginCall; probe = other }
+
 -- the machine with another way to probe the contention under way
 abbrev pub probing : (Open → Answer × Bus) → Engine
-probing other =
-    record {
-      State = Bus;
-      setUp = setUp;
-      admit = admit;
-      begin = beginCall;
-      probe = λ b. cond (eqb (probeRefusal b) 0) (other (opened b)) (refusedAnswer (probeRefusal b), b);
-    }
+probing other = probingBy λ b. cond (eqb (probeRefusal b) 0) (other (opened b)) (refusedAnswer (probeRefusal b), b)
 
 -- says idle each time, as if none transmitted
 abbrev pub alwaysIdle : Engine
@@ -150,7 +147,7 @@ playedOut (suc n) b =
 
 -- the engine that makes up probes
 abbrev pub madeUpProbes : Engine
-madeUpProbes = record { State = Bus; setUp = setUp; admit = admit; begin = beginCall; probe = playedOut 66 }
+madeUpProbes = probingBy (playedOut 66)
 
 -- arbitrates the first contention truly, and thereafter names the first listed station with a success each probe, whether or not it has
 -- a packet; beside the bus it keeps whether the first contention is over
@@ -255,49 +252,30 @@ anew b none = b
 anew b (some c) = anewIn b c (c .tie)
 
 abbrev pub offersAnew : Engine
-offersAnew =
-    record {
-      State = Bus;
-      setUp = setUp;
-      admit = admit;
-      begin = beginCall;
-      probe = λ b. cond (eqb (probeRefusal b) 0) (probeCall (anew b (b .contention))) (probeCall b);
-    }
-
--- a bus with another clock and last winner
-abbrev pub amended : ℕ → Option ℕ → Bus → Bus
-amended clock last b =
-    record {
-      discipline = b .discipline;
-      D = b .D;
-      A = b .A;
-      q = b .q;
-      stations = b .stations;
-      clock = clock;
-      admitted = b .admitted;
-      sent = b .sent;
-      lost = b .lost;
-      last = last;
-      contention = b .contention;
-    }
+offersAnew = probingBy λ b. cond (eqb (probeRefusal b) 0) (probeCall (anew b (b .contention))) (probeCall b)
 
 -- a begin takes a slot
 abbrev pub slotLater : Bus → Bus
-slotLater b = amended (suc (b .clock)) (b .last) b
+slotLater b = amended (suc (b .clock)) (b .last) (b .contention) b
 
 abbrev pub beginTakesASlot : Engine
 beginTakesASlot = beginning λ b. (beginCall b .0, cond (eqb (beginCall b .0 .refusal) 0) (slotLater (beginCall b .1)) b)
 
 -- ---- rounds
 
--- the round is over where a test holds
+-- a bus with another last winner; the round is over, with none; it is over where a test holds
+abbrev pub withLast : Option ℕ → Bus → Bus
+withLast last b = amended (b .clock) last (b .contention) b
+
+abbrev pub roundEnded : Bus → Bus
+roundEnded b = withLast none b
+
 abbrev pub roundOver : (Bus → Bool) → Bus → Bus
-roundOver over b = cond (over b) (amended (b .clock) none b) b
+roundOver over b = cond (over b) (roundEnded b) b
 
 -- the machine, but that after a probe the round is over where a test holds
 abbrev pub endingRound : (Bus → Bool) → Engine
-endingRound over =
-    record { State = Bus; setUp = setUp; admit = admit; begin = beginCall; probe = λ b. (probeCall b .0, roundOver over (probeCall b .1)) }
+endingRound over = probingBy λ b. (probeCall b .0, roundOver over (probeCall b .1))
 
 -- ends the round as soon as the top circuit has sent
 abbrev pub is-top : List Station → Option ℕ → Bool
@@ -316,11 +294,4 @@ eachEndsRound = endingRound λ b. not (is-under-way (b .contention))
 
 -- goes on with the round after a contention without a winner
 abbrev pub roundGoesOn : Engine
-roundGoesOn =
-    record {
-      State = Bus;
-      setUp = setUp;
-      admit = admit;
-      begin = beginCall;
-      probe = λ b. (probeCall b .0, cond (eqb (probeCall b .0 .event) idle) (amended (probeCall b .1 .clock) (b .last) (probeCall b .1)) (probeCall b .1));
-    }
+roundGoesOn = probingBy λ b. (probeCall b .0, cond (eqb (probeCall b .0 .event) idle) (withLast (b .last) (probeCall b .1)) (probeCall b .1))
