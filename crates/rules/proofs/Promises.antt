@@ -80,9 +80,9 @@ addressesApart = Least.addressesApart
 pub starred : firstFailing ≡ none
 starred = Starred.starred
 
--- ---- of every engine that meets demand 2: steps are the machine's too, the winner is least, events, counts, numbers and waits are true, probes are
--- bounded, a contention without contenders ends at once, nobody joins, demand 3, a slot fewer than it asks for, the same of the j-th packet, what they say of a wait, tallies
--- are true, and nobody passes a waiting circuit twice
+-- ---- of every engine that meets demand 2: steps are the machine's too, the winner is least, events, counts, numbers, waits and tallies are true, probes are
+-- bounded, a contention without contenders ends at once, nobody joins, demand 3, a slot fewer than it asks for, the same of the j-th packet, what they say of
+-- a wait, and nobody passes a waiting circuit twice
 
 pub promised : (E : Engine) → Demand2 E → Promised E
 promised E meets =

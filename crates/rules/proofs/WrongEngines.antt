@@ -1,7 +1,6 @@
--- Demand 2 rules out each wrong engine of specs/WrongEngines.antt, by a script of calls to which its replies are not the machine's; demand 3
--- rules out the one that names the first station, that numbers are answers the one that answers one too low, that waits are true those that
--- count them wrongly, that nobody joins the one that offers anew, and that nobody passes twice those that end the round with each contention or not with
--- an idle one. Assumes nothing.
+-- Demand 2 rules out each wrong engine of specs/WrongEngines.antt, by a script of calls to which its replies are not the machine's. Other promises rule out
+-- some of them, at the edge of what each allows: demand 3 and the bounds of the j-th packet the one that names the first station; those bounds and the promise
+-- that nobody passes twice those that end rounds otherwise; numbers, waits, tallies and the promise that nobody joins those that break them. Assumes nothing.
 use Prim.Native.Nat.{ℕ, suc, _+_, _≤_}
 use mathlib.Core.Path.{_≡_, refl, sym, ap, _∙_}
 use mathlib.Core.Option.{none}
@@ -11,13 +10,13 @@ use lib.Dec.{lit≤}
 use lib.ListN.{take}
 use Rattle.window.specs.Splitting.{exponentOf, isPower}
 use Rattle.rules.specs.Lists.{total, at-head, in-tail}
-use Rattle.rules.specs.Bus.{Packet, Station}
+use Rattle.rules.specs.Bus.{RTVC, Packet, Station}
 use Rattle.rules.specs.SetUp.{Request, setUp}
 use Rattle.rules.specs.Admission.{Arrival}
 use Rattle.rules.specs.Probe.{Answer, idle, collision, success}
 use Rattle.rules.specs.Engine.{Engine, machine, Call, one-begin, one-probe, one-step, Reply, replies, reach, probesIn, beginsIn, answers}
-use Rattle.rules.specs.Demands.{Demand2, adds-lost, numbersAnswered, NumbersAreAnswers, WaitsAreTrue, NobodyJoins, mostContentions, most-idle, mostSlots, EndsWithin, Demand3, NobodyPassesTwice}
-use Rattle.rules.specs.Examples.{arrives, steps, listing, rtdg, circuits, apart, admittedLater, chatty}
+use Rattle.rules.specs.Demands.{Demand2, adds-lost, numbersAnswered, NumbersAreAnswers, WaitsAreTrue, NobodyJoins, mostContentions, most-idle, mostSlots, fewerSlots, CircuitWaits, EndsWithin, Demand3, contentionsFor, idleFor, slotsFor, InTurn, WaitInTurn, TalliesAreTrue, NobodyPassesTwice}
+use Rattle.rules.specs.Examples.{arrives, steps, listing, rtdg, circuits, apart, packetSince, pair as twoStations, admittedLater, chatty, meanwhile}
 use Rattle.rules.specs.WrongEngines.{refusesAll, refusesCalls, untouched, oneTooLow, alwaysIdle, madeUpDrops, madeUpSent, lowByte, twoForOne, transmittersKept, madeUpProbes, firstStation, waitToTheEnd, waitOfTheContention, waitFromTheArrival, arrivalTimes, dropsLater, offersAnew, beginTakesASlot, topEndsRound, eachEndsRound, topSent, roundGoesOn}
 use Rattle.rules.proofs.Laws.{clash}
 use Rattle.rules.proofs.Reach.{stepsAgree}
@@ -191,6 +190,73 @@ firstStation-unfair demand = clash (served .ends (lit≤ tt)) refl
           begins = refl;
         })
 
+-- ---- the j-th packet, at each of its bounds
+
+-- a station between contentions, by its address, capability and queue
+abbrev waitingAt : ℕ → ℕ → List Packet → Station
+waitingAt address capability queue = record { address = address; capability = capability; queue = queue; offer = none }
+
+-- circuit 0 of two has won over circuit 1, which has two packets
+abbrev circuit0First : List Call
+circuit0First = arrives 0 0 1 ∷ arrives 1 0 1 ∷ arrives 1 0 1 ∷ steps 2
+
+-- The second of these ends within 6 contentions, two of them idle, and 8 slots, where packets take a slot.
+second-in-turn : (E : Engine) → InTurn fewerSlots E → (later : List Call)
+    → EndsWithin (contentionsFor 2 2) (idleFor 2) (slotsFor 2 fewerSlots 2 1) (waitingAt 1 1 (packetSince 0 2 0 1 ∷ packetSince 0 3 0 1 ∷ [])) (packetSince 0 3 0 1) (answers E (reach E (twoStations RTVC) circuit0First) later)
+unfolding exponentOf isPower
+second-in-turn E holds later =
+    holds (twoStations RTVC) circuit0First later _ (packetSince 0 2 0 1 ∷ []) _ (record {
+      by-circuit = refl;
+      listed = in-tail (at-head refl);
+      rest = [];
+      queue = refl;
+      begins = refl;
+    })
+
+-- The engine that names the first station sends neither: not within 6 contentions,
+pub firstStation-contentions : InTurn fewerSlots firstStation → ⊥
+unfolding exponentOf isPower
+firstStation-contentions holds = let z : 7 ≤ 6 = second-in-turn firstStation holds (steps 7) .contentions in omega arith
+
+pub firstStation-unended : InTurn fewerSlots firstStation → ⊥
+unfolding exponentOf isPower
+firstStation-unended holds = clash (second-in-turn firstStation holds (steps 6) .ends (lit≤ tt)) refl
+
+-- and not within 8 slots
+pub firstStation-slots : InTurn fewerSlots firstStation → ⊥
+unfolding exponentOf isPower
+firstStation-slots holds = let z : 9 ≤ 8 = second-in-turn firstStation holds (steps 9) .slots in omega arith
+
+pub firstStation-unended-in-time : InTurn fewerSlots firstStation → ⊥
+unfolding exponentOf isPower
+firstStation-unended-in-time holds = clash (second-in-turn firstStation holds (steps 8) .ends-in-time 1 (lit≤ tt) (lit≤ tt) (lit≤ tt)) refl
+
+-- Circuit 0 has sent, and has two packets: in an engine that goes on with the round three contentions are idle, where two may be.
+pub roundGoesOn-out-of-turn : InTurn fewerSlots roundGoesOn → ⊥
+unfolding exponentOf isPower
+roundGoesOn-out-of-turn holds =
+    let calls : List Call = arrives 0 0 1 ∷ one-step ∷ arrives 0 0 1 ∷ arrives 0 0 1 ∷ [] in
+    let p : Packet = packetSince 1 2 0 1 in
+    let q : Packet = packetSince 1 3 0 1 in
+    let waits : CircuitWaits (reach machine (twoStations RTVC) calls) (waitingAt 0 0 (p ∷ q ∷ [])) (p ∷ []) q =
+    record { by-circuit = refl; listed = at-head refl; rest = []; queue = refl; begins = refl } in
+    let z : 3 ≤ 2 = holds (twoStations RTVC) calls (steps 3) (waitingAt 0 0 (p ∷ q ∷ [])) (p ∷ []) q waits .idle-ones in
+    omega arith
+
+-- The run of row 77: with the wait counted to the packet's end, the wait and the length of the second packet of circuit 1 are a slot more than they may be.
+pub waitToTheEnd-out-of-turn : WaitInTurn waitToTheEnd → ⊥
+unfolding exponentOf isPower
+waitToTheEnd-out-of-turn holds =
+    let p : Packet = packetSince 0 4 0 1 in
+    let q : Packet = packetSince 0 5 0 1 in
+    let waits : CircuitWaits (reach machine (twoStations RTVC) meanwhile) (waitingAt 1 1 (p ∷ q ∷ [])) (p ∷ []) q =
+    record { by-circuit = refl; listed = in-tail (at-head refl); rest = []; queue = refl; begins = refl } in
+    let z : 10 ≤ 9 =
+    holds (twoStations RTVC) meanwhile (steps 8) (waitingAt 1 1 (p ∷ q ∷ [])) (p ∷ []) q waits _
+    (in-tail (in-tail (in-tail (in-tail (in-tail (in-tail (in-tail (at-head refl))))))))
+    refl in
+    omega arith
+
 -- ---- begin and probe
 
 -- what is dropped comes with the begin: latest starts 0 and 1, which have collided, are dropped as the contention at slot 3 begins
@@ -265,6 +331,11 @@ eachEndsRound-lets-pass holds =
     let later : List Call = arrives 5 0 1 ∷ arrives 5 0 1 ∷ arrives 6 0 1 ∷ steps 6 in
     let z : 2 ≤ 1 = holds circuits (arrives 6 0 1 ∷ []) one-step later 6 refl refl refl .each-other 5 (λ e. omega arith) in
     omega arith
+
+-- A circuit's tally: an engine that says idle each time has its packet still waiting.
+pub alwaysIdle-mistallies : TalliesAreTrue alwaysIdle → ⊥
+unfolding exponentOf isPower
+alwaysIdle-mistallies holds = let z : _≡_ {A = ℕ} 1 0 = holds circuits (arrives 5 0 1 ∷ one-step ∷ []) 5 refl refl .waiting _ (at-head refl) refl in omega arith
 
 -- At most one contention is idle: circuit 1 has sent, and has a packet; two contentions end idle after that, and it has not sent again.
 pub roundGoesOn-idles : NobodyPassesTwice roundGoesOn → ⊥

@@ -2,7 +2,7 @@
 -- docs/DECISIONS.md settles, on the order of offers, at the edges of the ranges, where the bounds are met, on waits, on begin and probe, and on who
 -- passes a waiting circuit. Each row quotes its line.
 -- proofs/Starred.antt proves that no row fails. Assumes nothing.
-use Prim.Native.Nat.{ℕ, zero, suc, _+_, _*_}
+use Prim.Native.Nat.{ℕ, zero, suc, _+_, _-_}
 use mathlib.Core.Bool.{Bool, true, false, not, _&&_, cond}
 use mathlib.Core.Option.{Option, none, some}
 use mathlib.Core.List.{List, [], _∷_, _++_, map}
@@ -16,7 +16,7 @@ use Rattle.rules.specs.SetUp.{Asked, Request, freshStation, setUp}
 use Rattle.rules.specs.Standing.{stands}
 use Rattle.rules.specs.Admission.{Admitted, admissionRefusal, admit}
 use Rattle.rules.specs.Begin.{parameterOf}
-use Rattle.rules.specs.Probe.{withdrawn, parameter-phase, tie-phase, idle, collision, success, Answer, dropping}
+use Rattle.rules.specs.Probe.{withdrawn, parameter-phase, tie-phase, idle, collision, success, Answer, waitOf, dropping}
 use Rattle.rules.specs.Step.{Contends, Begun, beginRefusal, beginCall, probeRefusal, stepRefusal, step}
 use Rattle.rules.specs.Engine.{machine, Call, admission, one-begin, one-probe, one-step, Reply, replies, probesIn, admissionsIn, beginsIn}
 use Rattle.rules.specs.Demands.{probes, mostProbes, slotsBefore, contentionsIn, idleContentionsIn, slotsIn, sends, upTo, mostContentions, most-idle, mostSlots, fewerSlots, place, contentionsFor, idleFor, slotsFor, most-passes, most-idle-between, successesOf, untilSuccess, tallyOf, waits-after}
@@ -397,9 +397,9 @@ between n address rs = untilSuccess address (drop n rs)
 abbrev pub waits-between : ℕ → ℕ → List Call → List Reply → Bool
 waits-between n address calls rs = waits-after address (take n calls) (take n rs) (drop n calls) (drop n rs)
 
--- the place in its queue of the packet that the call after the first n admits
+-- the place of the last packet that waits at an address after the first n calls
 abbrev pub placeAfter : ℕ → ℕ → List Call → List Reply → ℕ
-placeAfter n address calls rs = place (replicate (tallyOf address (take n calls) (take n rs) .waiting) (packet 1 0 1))
+placeAfter n address calls rs = place (replicate (tallyOf address (take n calls) (take n rs) .waiting - 1) (packet 1 0 1))
 
 -- circuit 1 has sent, and sends its last packet; circuit 0 has a packet waiting all the time, and circuit 3 has one
 abbrev pub chatty : List Call
@@ -476,6 +476,10 @@ threeEach =
     ∷ arrives 1 0 1
     ∷ arrives 1 0 1
     ∷ steps 12
+
+-- circuit 1 of two has sent, and two packets came to both while its contention was under way
+abbrev pub meanwhile : List Call
+meanwhile = arrives 1 0 1 ∷ one-begin ∷ arrives 0 0 1 ∷ arrives 0 0 1 ∷ arrives 1 0 1 ∷ arrives 1 0 1 ∷ one-probe ∷ []
 
 -- ---- waits
 
@@ -857,24 +861,37 @@ passes =
     (pair RTVC)
     twoEach
     (λ rs.
-    eqb (contentionsIn (untilSent 1 0 3 rs)) (contentionsFor (placeAfter 3 0 twoEach rs) 2)
-    && eqb (idleContentionsIn (untilSent 1 0 3 rs)) (idleFor (placeAfter 3 0 twoEach rs)))
+    eqb (contentionsIn (untilSent 1 0 3 rs)) (contentionsFor (placeAfter 4 0 twoEach rs) 2)
+    && eqb (idleContentionsIn (untilSent 1 0 3 rs)) (idleFor (placeAfter 4 0 twoEach rs)))
     -- 76: row 55 with three packets at both: the second of circuit 1 takes 2 × 4 slots, more than once the bound, and the third 3 × 4, more than twice
     ∷ script
     (pair RTVC)
     threeEach
     (λ rs.
-    eqb (slotsIn (untilSent 1 1 6 rs)) (slotsFor (placeAfter 6 1 threeEach rs) fewerSlots 2 1 1)
+    eqb (slotsIn (untilSent 1 1 6 rs)) (slotsFor (placeAfter 7 1 threeEach rs) fewerSlots 2 1 1)
     && ltb (slotsFor 1 mostSlots 2 1 1) (slotsIn (untilSent 1 1 6 rs))
-    && eqb (slotsIn (untilSent 1 1 7 rs)) (slotsFor (placeAfter 7 1 threeEach rs) fewerSlots 2 1 1)
+    && eqb (slotsIn (untilSent 1 1 7 rs)) (slotsFor (placeAfter 8 1 threeEach rs) fewerSlots 2 1 1)
     && ltb (slotsFor 2 mostSlots 2 1 1) (slotsIn (untilSent 1 1 7 rs)))
-    -- 77: and their waits, with their lengths, meet j × N × (2L − 1 + P): they came as the contention began
+    -- 77: the wait of the j-th packet 'from the contention that begins after its admission', with its length: as that begins, at slot 1, the packets have
+    -- waited for a slot, and j × N × (2L − 1 + P) is met, by the first of circuit 1 and by the second
     ∷ script
     (pair RTVC)
-    threeEach
+    (meanwhile ++ steps 8)
     (λ rs.
-    eqb (total (λ a. a .wait + a .length) (drop 8 (take 9 (probesIn rs)))) (slotsFor (placeAfter 6 1 threeEach rs) fewerSlots 2 1 1)
-    && eqb (total (λ a. a .wait + a .length) (drop 12 (probesIn rs))) (slotsFor (placeAfter 7 1 threeEach rs) fewerSlots 2 1 1))
+    are
+    (S 0 P 0 2 1 1 1 0
+    ∷ I-end 1 P 0 2
+    ∷ C 2 P 0 2
+    ∷ S 3 P 0 1 0 2 1 3
+    ∷ S 4 P 0 2 1 4 1 4
+    ∷ I-end 5 P 0 2
+    ∷ C 6 P 0 2
+    ∷ S 7 P 0 1 0 3 1 7
+    ∷ S 8 P 0 2 1 5 1 8
+    ∷ [])
+    rs
+    && eqb (total (λ a. a .wait + a .length) (drop 4 (take 5 (probesIn rs)))) (waitOf (packetSince 0 4 0 1) 1 + slotsFor 1 fewerSlots 2 1 1)
+    && eqb (total (λ a. a .wait + a .length) (drop 8 (probesIn rs))) (waitOf (packetSince 0 5 0 1) 1 + slotsFor (placeAfter 7 1 meanwhile rs) fewerSlots 2 1 1))
     ∷ []
 
 abbrev pub table : List Row

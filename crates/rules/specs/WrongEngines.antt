@@ -1,7 +1,6 @@
 -- Engines that break the rules, each the machine with one thing changed. 'Try these and see them rejected' (paper 01, 'What the
--- histories may rely on'), and others: proofs/WrongEngines.antt refutes demand 2 of each of them, demand 3 of `firstStation`, of `oneTooLow`
--- that numbers are answers, of those that count waits wrongly that waits are true, of `offersAnew` that nobody joins, and of `eachEndsRound` and
--- `roundGoesOn` that nobody passes twice; `topEndsRound` keeps that one (`topEndsRound-passes`). Assumes nothing.
+-- histories may rely on'), and others: proofs/WrongEngines.antt refutes demand 2 of each of them, and other promises of those that break them; that nobody
+-- passes twice `topEndsRound` keeps (`topEndsRound-passes`). Assumes nothing.
 use Prim.Native.Nat.{ℕ, zero, suc, _+_, _-_, _%_, max}
 use mathlib.Core.Bool.{Bool, true, false, not, _&&_, _||_, cond}
 use mathlib.Core.Option.{Option, none, some}
