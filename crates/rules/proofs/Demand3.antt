@@ -20,7 +20,7 @@ use Rattle.rules.specs.Begin.{sits-out}
 use Rattle.rules.specs.Probe.{Answer, refusedAnswer, success, idle, probe}
 use Rattle.rules.specs.Step.{opened}
 use Rattle.rules.specs.Engine.{Engine, machine, Call, reach, answers}
-use Rattle.rules.specs.Demands.{Demand2, slotsOf, mostContentions, most-idle, mostSlots, fewerSlots, contentionsIn, idleContentionsIn, slotsIn, longestIn, sends, upTo, CircuitWaits, EndsWithin, slotsOn, Serves, Demand3, SoonerThanDemand3, place, contentionsFor, idleFor, slotsFor, ServesInTurn, InTurn}
+use Rattle.rules.specs.Demands.{Demand2, slotsOf, mostSlots, fewerSlots, contentionsIn, idleContentionsIn, slotsIn, longestIn, sends, upTo, CircuitWaits, EndsWithin, slotsOn, Serves, Demand3, SoonerThanDemand3, place, contentionsFor, idleFor, slotsFor, ServesInTurn, InTurn}
 use Rattle.rules.proofs.Laws.{clash, or-false, bit-most, among-right, map-into}
 use Rattle.rules.proofs.Reach.{answers-agree}
 use Rattle.rules.proofs.Probes.{probesLeft, halved-once, probes-left, probes-fall}

@@ -16,11 +16,11 @@ use Rattle.rules.specs.SetUp.{Request, setUp, setUpVerdict, freshBus}
 use Rattle.rules.specs.Standing.{Standing}
 use Rattle.rules.specs.Admission.{Arrival, Admitted, admissionRefusal, withPacket}
 use Rattle.rules.specs.Begin.{begin}
-use Rattle.rules.specs.Probe.{Answer, refusedAnswer, dropping, probe}
+use Rattle.rules.specs.Probe.{Answer, refusedAnswer, probe}
 use Rattle.rules.specs.Step.{Begun, refusedBegun, begunAnswer, beginRefusal, beginCall, probeRefusal, probeCall, opened, stepRefusal, step}
-use Rattle.rules.specs.Engine.{Engine, machine, probedAfter, begunThen, stepOf, Call, OwnCall, admission, one-begin, one-probe, one-step, Reply, admitted, begun, probed, reply, next, after, replies, reach, probeIn, probesIn, beginsIn, answers}
+use Rattle.rules.specs.Engine.{Engine, machine, stepOf, Call, OwnCall, admission, one-begin, one-probe, one-step, Reply, admitted, begun, probed, reply, next, after, replies, reach, probeIn, probesIn, beginsIn, answers}
 use Rattle.rules.specs.Demands.{Demand2, StepsAgree, ReachedStands}
-use Rattle.rules.proofs.Laws.{clash, among-append, all-nil, all-cons}
+use Rattle.rules.proofs.Laws.{among-append, all-nil, all-cons}
 use Rattle.rules.proofs.Standing.{accepted-set-up, admit-is, begin-accepted, probe-accepted, probed-opened, step-is}
 use Rattle.rules.proofs.Refusals.{handsBack}
 use Rattle.rules.proofs.Keeps.{begin-stands, stepped-stands, keepsStanding}
