@@ -1,5 +1,5 @@
--- Text stored in room that is lent: a byte before text, text after text, and what the room has then; and what a text that fits, or does not, comes
--- to. Assumes nothing.
+-- Text stored in room that is lent: a byte before text, text after text, and what the room has then; what a text comes to that fits, and one
+-- that does not. Assumes nothing.
 use Prim.Native.Nat.{ℕ, suc, _+_, _≤_, _<_}
 use mathlib.Core.Path.{_≡_, refl, sym, ap, ap₂, _∙_}
 use mathlib.Core.Bool.{Bool, true, false, not, cond}

@@ -53,11 +53,12 @@ loop-less c = search needs
 loop-again : tie.Need-loop-again Inv-loop μ-loop
 loop-again c =
     let turn = c .before .loop in
-    let args = c .before .before .before .before .args in (
+    let args = c .before .before .before .before .args in
+    let n = turn .written in (
       turn .inv .0,
       search needs,
-      sets-after (args .room .now) (turn .room) (replicate (turn .written) space) (args .at) (turn .written) space (length-replicate (turn .written) space) (turn .inv .2)
-          ∙ ap (sets (args .room .now) (args .at)) (replicate-append-replicate (turn .written) 1 space),
+      sets-after (args .room .now) (turn .room) (replicate n space) (args .at) n space (length-replicate n space) (turn .inv .2)
+          ∙ ap (sets (args .room .now) (args .at)) (replicate-append-replicate n 1 space),
     )
 
 add-result : tie.Need-add-result Inv-loop μ-loop
