@@ -1,6 +1,4 @@
 -- The modules of the shared laws and theorems. Assumes nothing.
-pub mod Decimals
-pub mod Stores
 pub mod Gathered
 pub mod Played
 pub mod TurnLaws

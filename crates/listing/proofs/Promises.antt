@@ -4,17 +4,15 @@
 use Prim.Native.Nat.{ℕ, _≤_, _<_}
 use mathlib.Core.Path.{_≡_}
 use mathlib.Core.Bool.{true, false}
-use mathlib.Core.List.{List, _++_}
-use lib.ListN.{length, drop}
+use mathlib.Core.List.{List}
 use Rattle.rules.specs.Lists.{All}
 use Rattle.rules.specs.SetUp.{Request, setUp}
 use Rattle.state.specs.declared.Arrival.{Arrival}
 use Rattle.scenario.specs.Reading.{accepted, reading}
 use Rattle.scenario.specs.Writing.{Bytes, written, Good}
 use Rattle.listing.specs.Run.{listing, answersOf}
-use Rattle.listing.specs.Turns.{Play, opened, turn, roomWith, handed, turnsLeft, played}
+use Rattle.listing.specs.Turns.{Play, opened, turn, handed, turnsLeft, played}
 use Rattle.listing.specs.Worked.{worked-input, worked-output, worked-request, worked-arrivals, timed-input, timed-output, waited-input, waited-output}
-use Rattle.listing.proofs.Stores as Stores
 use Rattle.listing.proofs.Handed as Handed
 use Rattle.listing.proofs.NeverRefused as NeverRefused
 use Rattle.listing.proofs.Worked as Worked
@@ -23,13 +21,6 @@ use Rattle.listing.proofs.Worked as Worked
 pub handed-out :
     (input : List ℕ) (turns : ℕ) → turnsLeft input (opened input .play) ≤ turns → handed turns input (opened input) ≡ listing input
 handed-out = Handed.handed-out
-
--- the text of a turn that fits the room stands at its start, the rest is as it was, and the room stays as long as it is
-pub room-starts : (text room : List ℕ) → length text ≤ length room → roomWith text room ≡ text ++ drop (length text) room
-room-starts = Stores.room-starts
-
-pub room-kept : (text room : List ℕ) → length (roomWith text room) ≡ length room
-room-kept = Stores.room-kept
 
 -- each turn takes from the turns that a play has yet, whatever the play, and then the run is over
 pub falls : (input : List ℕ) (p : Play) → p .going ≡ true → turnsLeft input (turn input p .play) < turnsLeft input p

@@ -22,11 +22,13 @@ use Rattle.bus.specs.Stretch.{row-places, most-calls, course, noReport, stretch
 use Rattle.bus.proofs.Stretch as stretch-row
 use Rattle.scenario.specs.declared.Scenario.{Scenario}
 use Rattle.scenario.specs.Reading.{arrival-bytes}
+use Rattle.text.specs.Room.{room-bytes, roomWith}
+use Rattle.text.specs.Parts.{Told}
+use Rattle.text.proofs.Stores.{sets-start}
 use Rattle.listing.specs.Text.{refusedText}
 use Rattle.listing.specs.Turns.{Play, Turn, Outcome, says, over, openedBy, nextArrivals, reportText, reportsText, courseOf, stretched}
-use Rattle.listing.specs.Turns.{closedBy, turn, turnForm, room-bytes, roomWith}
-use Rattle.listing.specs.Parts.{Told, TurnTold, arrivalsForm}
-use Rattle.listing.proofs.Stores.{sets-start}
+use Rattle.listing.specs.Turns.{closedBy, turn, turnForm}
+use Rattle.listing.specs.Parts.{TurnTold, arrivalsForm}
 use Rattle.listing.proofs.Gathered.{found-few, bytes-within}
 use Rattle.listing.proofs.Played.{bounds-of}
 

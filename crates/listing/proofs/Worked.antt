@@ -8,7 +8,7 @@ use Rattle.rules.proofs.Laws.{each-view}
 use Rattle.scenario.specs.Reading.{accepted, reading}
 use Rattle.scenario.specs.Writing.{Bytes, written, Good}
 use Rattle.scenario.proofs.Written.{accepted-only}
-use Rattle.listing.specs.Text.{decimal}
+use Rattle.text.specs.Text.{decimal}
 use Rattle.listing.specs.Run.{listing}
 use Rattle.listing.specs.Worked.{worked-input, worked-output, worked-request, worked-arrivals, timed-input, timed-output, waited-input, waited-output}
 

@@ -1,4 +1,5 @@
--- The run as the code plays it, turn by turn: what `open` and `next` of src/lib.rt hand out, and what is in the room then. Assumes nothing.
+-- The run as the code plays it, turn by turn: what `open` and `next` of src/lib.rt hand out. The text stands over the
+-- start of the room then (`roomWith` of text/specs/Room.antt). Assumes nothing.
 use Prim.Native.Nat.{ℕ, zero, suc, _+_, _-_, _*_}
 use mathlib.Core.Bool.{true, false, cond}
 use mathlib.Core.List.{List, [], _∷_, _++_}
@@ -93,20 +94,10 @@ abbrev pub turn : List ℕ → Play → Outcome
 turn input p =
     cond (p .going) (cond (eqb (p .steps) 0) (closedBy (p .state) (totalsOf (p .state))) (stretched input p)) (says [] p)
 
--- ---- what the code hands out, and the room
-
--- the bytes of the room
-abbrev pub room-bytes : ℕ
-room-bytes = 65536
+-- ---- what the code hands out
 
 abbrev pub turnForm : Outcome → Turn
 turnForm o = record { length = length (o .text); play = o .play }
-
--- the room with a text over its start, and the rest as it was
-abbrev pub roomWith : List ℕ → List ℕ → List ℕ
-roomWith [] room = room
-roomWith (byte ∷ text) [] = []
-roomWith (byte ∷ text) (old ∷ room) = byte ∷ roomWith text room
 
 -- ---- the whole run, turn by turn
 

@@ -1,85 +1,24 @@
 // The lines of a listing, written straight into room that the caller lends, from an offset on. A function that writes hands out the offset
 // after its text.
-ghost use Prim.Native.Nat.{_<_};
 ghost use mathlib.Core.Path.{_≡_};
 ghost use mathlib.Core.List.{[], _∷_, _++_};
-ghost use lib.ListN.{length};
 ghost use Rattle.bus.specs.Coded.{answerOf};
-ghost use Rattle.listing.specs.Text.{digit as digitOf, decimal, space, newline as newlineByte, phaseLetter, eventLetter, refusedText, arrivalText, endText, droppedText, probedText};
-ghost use Rattle.listing.specs.Parts.{Told, roomy, openingText, winnerText};
+ghost use Rattle.text.specs.Text.{decimal, space, newline as newlineByte};
+ghost use Rattle.text.specs.Parts.{Told, roomy};
+ghost use Rattle.listing.specs.Text.{phaseLetter, eventLetter, refusedText, arrivalText, endText, droppedText, probedText};
+ghost use Rattle.listing.specs.Parts.{openingText, winnerText};
 use bus::Answer;
 use bus::Totals;
 use rules::Slot;
 use sorts::Address;
-
-// One byte.
-fn put(room: &mut [u8; 65536], at: usize, byte: u8) -> usize
-    requires { ⌜ roomy at 1 ⌝ }
-    ensures { λ r. ⌜ Told (now (room .entry)) (now (room .exit)) at r (byte ∷ []) 1 ⌝ }
-{
-    room[at] = byte;
-    at + 1
-}
-
-// A word.
-fn letters(room: &mut [u8; 65536], at: usize, word: &[u8]) -> usize
-    requires { ⌜ roomy at (length (now word)) ⌝ }
-    ensures { λ r. ⌜ Told (now (room .entry)) (now (room .exit)) at r (now (word .entry)) (length (now (word .entry))) ⌝ }
-{
-    let mut next = at;
-    let mut i = 0;
-    while i < word.len() {
-        next = put(room, next, word[i]);
-        i += 1;
-    }
-    next
-}
-
-// The ASCII code of a digit.
-fn digit(d: u64) -> u8
-    requires { ⌜ d < 10 ⌝ }
-    ensures { λ r. ⌜ r ≡ digitOf d ⌝ }
-{
-    48 + d as u8
-}
-
-// How many digits a number has.
-fn digits_of(n: u64) -> usize
-    ensures { λ r. ⌜ r ≡ length (decimal n) ⌝ }
-{
-    let tenth = n / 10;
-    let mut power = 1;
-    let mut size = 1;
-    while power <= tenth {
-        power *= 10;
-        size += 1;
-    }
-    size
-}
-
-// A number in decimal, from its last digit on.
-fn number(room: &mut [u8; 65536], at: usize, n: u64) -> usize
-    requires { ⌜ roomy at (length (decimal n)) ⌝ }
-    ensures { λ r. ⌜ Told (now (room .entry)) (now (room .exit)) at r (decimal n) (length (decimal n)) ⌝ }
-{
-    let size = digits_of(n);
-    let mut k = size;
-    let mut rest = n;
-    while k > 0 {
-        k -= 1;
-        room[at + k] = digit(rest % 10);
-        rest /= 10;
-    }
-    at + size
-}
 
 // A space and a number.
 fn field(room: &mut [u8; 65536], at: usize, n: u64) -> usize
     requires { ⌜ roomy at 21 ⌝ }
     ensures { λ r. ⌜ Told (now (room .entry)) (now (room .exit)) at r (space ∷ decimal n) 21 ⌝ }
 {
-    let spaced = put(room, at, b' ');
-    number(room, spaced, n)
+    let spaced = text::put(room, at, b' ');
+    text::number(room, spaced, n)
 }
 
 // A number of 32 bits in decimal.
@@ -87,7 +26,7 @@ fn short_number(room: &mut [u8; 65536], at: usize, n: u32) -> usize
     requires { ⌜ roomy at 10 ⌝ }
     ensures { λ r. ⌜ Told (now (room .entry)) (now (room .exit)) at r (decimal n) 10 ⌝ }
 {
-    number(room, at, n as u64)
+    text::number(room, at, n as u64)
 }
 
 // A space and a number of 32 bits.
@@ -95,7 +34,7 @@ fn short_field(room: &mut [u8; 65536], at: usize, n: u32) -> usize
     requires { ⌜ roomy at 11 ⌝ }
     ensures { λ r. ⌜ Told (now (room .entry)) (now (room .exit)) at r (space ∷ decimal n) 11 ⌝ }
 {
-    let spaced = put(room, at, b' ');
+    let spaced = text::put(room, at, b' ');
     short_number(room, spaced, n)
 }
 
@@ -104,8 +43,8 @@ fn letter(room: &mut [u8; 65536], at: usize, byte: u8) -> usize
     requires { ⌜ roomy at 2 ⌝ }
     ensures { λ r. ⌜ Told (now (room .entry)) (now (room .exit)) at r (space ∷ byte ∷ []) 2 ⌝ }
 {
-    let spaced = put(room, at, b' ');
-    put(room, spaced, byte)
+    let spaced = text::put(room, at, b' ');
+    text::put(room, spaced, byte)
 }
 
 // 'each line closed by one newline'
@@ -113,7 +52,7 @@ fn newline(room: &mut [u8; 65536], at: usize) -> usize
     requires { ⌜ roomy at 1 ⌝ }
     ensures { λ r. ⌜ Told (now (room .entry)) (now (room .exit)) at r (newlineByte ∷ []) 1 ⌝ }
 {
-    put(room, at, b'\n')
+    text::put(room, at, b'\n')
 }
 
 // 'phase P or T'
@@ -138,7 +77,7 @@ pub fn refused(room: &mut [u8; 65536], at: usize, number: u32, offset: usize) ->
     requires { ⌜ roomy at 128 ⌝ }
     ensures { λ r. ⌜ Told (now (room .entry)) (now (room .exit)) at r (refusedText number offset) 128 ⌝ }
 {
-    let word = letters(room, at, b"REFUSED");
+    let word = text::letters(room, at, b"REFUSED");
     let first = short_field(room, word, number);
     let second = field(room, first, offset as u64);
     newline(room, second)
@@ -155,7 +94,7 @@ pub fn arrival(
     requires { ⌜ roomy at 128 ⌝ }
     ensures { λ r. ⌜ Told (now (room .entry)) (now (room .exit)) at r (arrivalText (slot .0) (address .0) number) 128 ⌝ }
 {
-    let word = put(room, at, b'R');
+    let word = text::put(room, at, b'R');
     let first = short_field(room, word, slot.0);
     let second = short_field(room, first, address.0);
     let third = short_field(room, second, number);
@@ -170,7 +109,7 @@ fn dropped(room: &mut [u8; 65536], at: usize, answer: Answer) -> usize
     if answer.drops == 0 {
         return at;
     }
-    let word = put(room, at, b'D');
+    let word = text::put(room, at, b'D');
     let count = field(room, word, answer.drops);
     newline(room, count)
 }
@@ -228,7 +167,7 @@ pub fn ending(room: &mut [u8; 65536], at: usize, totals: Totals) -> usize
     requires { ⌜ roomy at 128 ⌝ }
     ensures { λ r. ⌜ Told (now (room .entry)) (now (room .exit)) at r (endText (totals .clock .0) (totals .admitted) (totals .sent) (totals .lost) (totals .waiting)) 128 ⌝ }
 {
-    let word = letters(room, at, b"END");
+    let word = text::letters(room, at, b"END");
     let clock = short_field(room, word, totals.clock.0);
     let admitted = field(room, clock, totals.admitted);
     let sent = field(room, admitted, totals.sent);

@@ -7,9 +7,11 @@ use mathlib.Core.List.{List}
 use native.Mathlib.Omega.{arith}
 use lib.ListN.{length}
 use borrow.Author.Needs.{needs}
+use Rattle.text.specs.Room.{roomWith}
+use Rattle.text.proofs.Promises.{room-kept}
 use Rattle.listing.specs.declared.Turn.{Turn}
-use Rattle.listing.specs.Turns.{opened, turn, roomWith, turnsLeft}
-use Rattle.listing.proofs.Promises.{room-kept, falls}
+use Rattle.listing.specs.Turns.{opened, turn, turnsLeft}
+use Rattle.listing.proofs.Promises.{falls}
 use Rattle.busrun.proofs.play.Statement.{statement}
 use Rattle.busrun.proofs.play.Tie as tie
 

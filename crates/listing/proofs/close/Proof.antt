@@ -3,9 +3,10 @@ use mathlib.Core.Path.{subst}
 use native.Mathlib.Omega.{arith}
 use borrow.Author.Needs.{needs}
 use Rattle.bus.specs.declared.Totals.{Totals}
-use Rattle.listing.specs.Turns.{closedBy, room-bytes}
-use Rattle.listing.specs.Parts.{Told}
-use Rattle.listing.proofs.Stores.{told-within}
+use Rattle.text.specs.Room.{room-bytes}
+use Rattle.listing.specs.Turns.{closedBy}
+use Rattle.text.specs.Parts.{Told}
+use Rattle.text.proofs.Stores.{told-within}
 use Rattle.listing.proofs.close.Statement.{statement}
 use Rattle.listing.proofs.close.Tie as tie
 

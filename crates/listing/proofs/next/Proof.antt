@@ -1,7 +1,7 @@
 -- `next` meets its contract: a stretch is made, or the run ends; a run that is over hands out nothing. Assumes nothing.
 use mathlib.Core.Path.{refl}
 use borrow.Author.Needs.{needs}
-use Rattle.listing.proofs.Stores.{told-none}
+use Rattle.text.proofs.Stores.{told-none}
 use Rattle.listing.proofs.TurnLaws.{flipped, turn-of, turn-over, turn-ends, turn-goes-on}
 use Rattle.listing.proofs.next.Statement.{statement}
 use Rattle.listing.proofs.next.Tie as tie

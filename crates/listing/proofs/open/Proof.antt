@@ -5,7 +5,7 @@ use native.Mathlib.Omega.{arith}
 use borrow.Author.Needs.{needs}
 use borrow.Author.Tests.{eq-eqb, ne-eqb}
 use Rattle.listing.specs.Turns.{openedBy}
-use Rattle.listing.proofs.Stores.{told-none, told-within}
+use Rattle.text.proofs.Stores.{told-none, told-within}
 use Rattle.listing.proofs.TurnLaws.{turn-of, opened-turn}
 use Rattle.listing.proofs.open.Statement.{statement}
 use Rattle.listing.proofs.open.Tie as tie

@@ -8,8 +8,8 @@ use lib.Seq.{take-suc}
 use borrow.Author.Needs.{needs}
 use Rattle.bus.specs.Stretch.{noReport}
 use Rattle.listing.specs.Turns.{reportsText}
-use Rattle.listing.specs.Parts.{Told}
-use Rattle.listing.proofs.Stores.{told-none, told-then, told-within}
+use Rattle.text.specs.Parts.{Told}
+use Rattle.text.proofs.Stores.{told-none, told-then, told-within}
 use Rattle.listing.proofs.TurnLaws.{one-report, reports-array}
 use Rattle.listing.proofs.tell_all.Statement.{statement}
 use Rattle.listing.proofs.tell_all.Tie as tie

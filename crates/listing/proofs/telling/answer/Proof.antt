@@ -1,7 +1,7 @@
 -- `telling::answer` meets its contract: the packets dropped and then the probe. Assumes nothing.
 use native.Mathlib.Omega.{arith}
 use borrow.Author.Needs.{needs}
-use Rattle.listing.proofs.Stores.{told-then, told-within}
+use Rattle.text.proofs.Stores.{told-then, told-within}
 use Rattle.listing.proofs.telling.answer.Statement.{statement}
 use Rattle.listing.proofs.telling.answer.Tie as tie
 

@@ -1,9 +1,15 @@
 -- `telling::ending` meets its contract: the word, its fields and the newline, one after the other. Assumes nothing.
 use native.Mathlib.Omega.{arith}
 use borrow.Author.Needs.{needs}
-use Rattle.listing.proofs.Stores.{told-none, told-then, told-within}
+use Rattle.text.specs.Parts.{Told}
+use Rattle.text.proofs.Stores.{told-none, told-then, told-within, told-stored}
+use Rattle.listing.specs.Text.{END}
 use Rattle.listing.proofs.telling.ending.Statement.{statement}
 use Rattle.listing.proofs.telling.ending.Tie as tie
+
+-- the word
+word : (c : tie.After-letters) → let args = c .before .before .before .args in Told (args .room .now) (c .letters .last .0) (args .at) (c .letters .result) END 3
+word c = let args = c .before .before .before .args in told-stored (args .room .now) (args .at) END 3 (omega arith) (omega arith) (c .letters .ensures)
 
 slice-aggregate-letters : tie.Need-slice-aggregate-letters
 slice-aggregate-letters c = search needs
@@ -12,22 +18,22 @@ letters-requires : tie.Need-letters-requires
 letters-requires c κs = search needs
 
 short-field-requires : tie.Need-short-field-requires
-short-field-requires c κs = search needs
+short-field-requires c κs = let told = word (c .before) in omega arith
 
 field-requires : tie.Need-field-requires
-field-requires c κs = search needs
+field-requires c κs = let told = word (c .before .before .before) in omega arith
 
 field-requires-2 : tie.Need-field-requires-2
-field-requires-2 c κs = search needs
+field-requires-2 c κs = let told = word (c .before .before .before .before .before) in omega arith
 
 field-requires-3 : tie.Need-field-requires-3
-field-requires-3 c κs = search needs
+field-requires-3 c κs = let told = word (c .before .before .before .before .before .before .before) in omega arith
 
 field-requires-4 : tie.Need-field-requires-4
-field-requires-4 c κs = search needs
+field-requires-4 c κs = let told = word (c .before .before .before .before .before .before .before .before .before) in omega arith
 
 newline-requires : tie.Need-newline-requires
-newline-requires c κs = search needs
+newline-requires c κs = let told = word (c .before .before .before .before .before .before .before .before .before .before .before) in omega arith
 
 returns : tie.Need-returns
 returns c =
@@ -36,11 +42,11 @@ returns c =
     let sent = lost .before .before in
     let admitted = sent .before .before in
     let clock = admitted .before .before in
-    let word = clock .before .before in
+    let first-word = clock .before .before in
     told-within
     (told-then
     (told-then
-    (word .letters .ensures)
+    (word first-word)
     (told-then
     (clock .short-field .ensures)
     (told-then

@@ -1,7 +1,7 @@
 -- `telling::opening` meets its contract: its fields, one after the other. Assumes nothing.
 use native.Mathlib.Omega.{arith}
 use borrow.Author.Needs.{needs}
-use Rattle.listing.proofs.Stores.{told-none, told-then, told-within}
+use Rattle.text.proofs.Stores.{told-none, told-then, told-within}
 use Rattle.listing.proofs.telling.opening.Statement.{statement}
 use Rattle.listing.proofs.telling.opening.Tie as tie
 

@@ -2,7 +2,7 @@
 use native.Mathlib.Omega.{arith}
 use borrow.Author.Needs.{needs}
 use borrow.Author.Tests.{lt-ltb, le-ltb}
-use Rattle.listing.proofs.Stores.{told-none, told-then, told-within}
+use Rattle.text.proofs.Stores.{told-none, told-then, told-within}
 use Rattle.listing.proofs.telling.winner.Statement.{statement}
 use Rattle.listing.proofs.telling.winner.Tie as tie
 

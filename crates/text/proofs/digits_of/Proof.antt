@@ -1,4 +1,4 @@
--- `telling::digits_of` meets its contract. The loop's invariant: the power is one of ten and, unless it is 1, not above the number; the
+-- `digits_of` meets its contract. The loop's invariant: the power is one of ten and, unless it is 1, not above the number; the
 -- size counts the places up to it. Assumes nothing.
 use Prim.Native.Nat.{ℕ, suc, _*_, _-_, _^_, _≤_}
 use mathlib.Core.Path.{_≡_, refl, sym, ap, _∙_}
@@ -7,9 +7,9 @@ use native.Mathlib.Nat.{pow-suc, one-le-pow}
 use native.Mathlib.Numerals.{add-one}
 use native.Mathlib.Omega.{arith}
 use borrow.Author.Needs.{needs}
-use Rattle.listing.proofs.Decimals.{power-length}
-use Rattle.listing.proofs.telling.digits_of.Statement.{statement}
-use Rattle.listing.proofs.telling.digits_of.Tie as tie
+use Rattle.text.proofs.Decimals.{power-length}
+use Rattle.text.proofs.digits_of.Statement.{statement}
+use Rattle.text.proofs.digits_of.Tie as tie
 
 abbrev Inv-loop : tie.InvT-loop
 Inv-loop n tenth power₀ size₀ power size = (k : ℕ) × (power ≡ 10 ^ k) × (size ≡ suc k) × (size ≤ power) × ((k ≡ 0) ⊎ (power ≤ n))

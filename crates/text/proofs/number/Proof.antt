@@ -1,5 +1,5 @@
--- `telling::number` meets its contract. The loop's invariant: the digits at the k lowest places of the rest and those that are stored are the
--- number in decimal. Assumes nothing.
+-- `number` meets its contract. The loop's invariant: the number has room, and the digits at the k lowest places of the rest and those that are
+-- stored are the number in decimal. Assumes nothing.
 use Prim.Native.Nat.{ℕ, zero, suc, _+_, _-_, _/_, _%_, _≤_, _<_}
 use mathlib.Core.Path.{_≡_, refl, sym, ap, ap₂, _∙_}
 use mathlib.Core.List.{List, [], _∷_, _++_, append-assoc, append-nil}
@@ -7,12 +7,12 @@ use native.Mathlib.Omega.{arith}
 use borrow.Author.Needs.{needs}
 use lib.ListN.{length, set}
 use lib.Seq.{sets}
-use Rattle.listing.specs.Text.{digit, decimal}
-use Rattle.listing.specs.Parts.{Told}
-use Rattle.listing.proofs.Decimals.{digits, digits-last, decimal-places}
-use Rattle.listing.proofs.Stores.{sets-before}
-use Rattle.listing.proofs.telling.number.Statement.{statement}
-use Rattle.listing.proofs.telling.number.Tie as tie
+use Rattle.text.specs.Text.{digit, decimal}
+use Rattle.text.specs.Parts.{roomy}
+use Rattle.text.proofs.Decimals.{digits, digits-last, decimal-places}
+use Rattle.text.proofs.Stores.{sets-before, answer-not, answer-fits, has-room}
+use Rattle.text.proofs.number.Statement.{statement}
+use Rattle.text.proofs.number.Tie as tie
 
 -- the digits of n from the place k on are stored in the room a, which is b then, after the offset; those before it are the rest's
 record Stored (n : ℕ) (a b : List ℕ) (at k rest : ℕ) : Type 0 where
@@ -45,16 +45,11 @@ one-more n a b at (suc k) rest d h e s =
     })
 
 -- all digits, where no place is left
-all-stored : (n : ℕ) (a b : List ℕ) (at rest size : ℕ) → size ≡ length (decimal n) → Stored n a b at 0 rest → Told a b at (at + size) (decimal n) (length (decimal n))
-all-stored n a b at rest size e s =
-    record {
-      room = s .room ∙ ap₂ (λ m (l : List ℕ). sets a m l) (omega arith) (s .whole);
-      past = ap (λ m. at + m) e;
-      few = omega arith;
-    }
+all-stored : (n : ℕ) (a b : List ℕ) (at rest : ℕ) → Stored n a b at 0 rest → b ≡ sets a at (decimal n)
+all-stored n a b at rest s = s .room ∙ ap₂ (λ m (l : List ℕ). sets a m l) (omega arith) (s .whole)
 
 abbrev Inv-loop : tie.InvT-loop
-Inv-loop room₀ at n size k₀ rest₀ room k rest = (k ≤ size) × Stored n room₀ room at k rest
+Inv-loop room₀ at n size k₀ rest₀ room k rest = roomy at size × (k ≤ size) × Stored n room₀ room at k rest
 
 abbrev μ-loop : tie.MeasureT-loop
 μ-loop room₀ at n size k₀ rest₀ room k rest = k
@@ -62,10 +57,30 @@ abbrev μ-loop : tie.MeasureT-loop
 digits-of-requires : tie.Need-digits-of-requires Inv-loop μ-loop
 digits-of-requires c κs = search needs
 
+has-room-requires : tie.Need-has-room-requires Inv-loop μ-loop
+has-room-requires c κs = search needs
+
+returns : tie.Need-returns Inv-loop μ-loop
+returns c =
+    let size = c .before .before in
+    let args = size .before .args in
+    answer-not
+    (args .room .now)
+    (args .at)
+    (decimal (args .n))
+    (size .digits-of .result)
+    (sym (size .digits-of .ensures))
+    (c .before .has-room .ensures)
+    (c .if1 .taken)
+
 loop-holds : tie.Need-loop-holds Inv-loop μ-loop
 loop-holds c =
-    let args = c .before .args in
-    (omega arith, rw (c .digits-of .ensures) (none-stored (args .n) (args .at) (args .room .now)))
+    let size = c .before .before in
+    let args = size .before .args in (
+      has-room (args .at) (size .digits-of .result) (c .before .has-room .ensures) (c .if1 .left),
+      omega arith,
+      rw (size .digits-of .ensures) (none-stored (args .n) (args .at) (args .room .now)),
+    )
 
 sub-k : tie.Need-sub-k Inv-loop μ-loop
 sub-k c = search needs
@@ -85,7 +100,8 @@ loop-less c = search needs
 loop-again : tie.Need-loop-again Inv-loop μ-loop
 loop-again c =
     let turn = c .before .before .loop in
-    let args = c .before .before .before .before .args in (
+    let args = c .before .before .before .before .before .before .args in (
+      turn .inv .0,
       omega arith,
       one-more
           (args .n)
@@ -97,27 +113,25 @@ loop-again c =
           (c .digit .result)
           (omega arith)
           (c .digit .ensures)
-          (turn .inv .1),
+          (turn .inv .2),
     )
 
 add-result : tie.Need-add-result Inv-loop μ-loop
 add-result c = search needs
 
-returns : tie.Need-returns Inv-loop μ-loop
-returns c =
+returns-2 : tie.Need-returns-2 Inv-loop μ-loop
+returns-2 c =
     let turn = c .before .loop in
-    let size = c .before .before in
+    let size = c .before .before .before .before in
     let args = size .before .args in
     let none : turn .k ≡ 0 = omega arith in
-    all-stored
-    (args .n)
+    answer-fits
     (args .room .now)
-    (turn .room)
     (args .at)
-    (turn .rest)
-    (size .digits-of .result)
-    (size .digits-of .ensures)
-    (rw none at (turn .inv .1))
+    (decimal (args .n))
+    (omega (arith, size .digits-of .ensures, turn .inv .0))
+    (ap (λ m. args .at + m) (size .digits-of .ensures))
+    (all-stored (args .n) (args .room .now) (turn .room) (args .at) (turn .rest) (rw none at (turn .inv .2)))
 
 pub number-spec : {M : Type 1} → statement M
 number-spec =
@@ -126,6 +140,8 @@ number-spec =
     Inv-loop
     μ-loop
     digits-of-requires
+    has-room-requires
+    returns
     loop-holds
     sub-k
     digit-requires
@@ -134,4 +150,4 @@ number-spec =
     loop-less
     loop-again
     add-result
-    returns)
+    returns-2)

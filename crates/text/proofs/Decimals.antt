@@ -10,8 +10,11 @@ use native.Mathlib.Omega.{arith}
 use borrow.Author.Tests.{lt-ltb, le-ltb, ltb-true}
 use lib.Dec.{ltb}
 use lib.ListN.{length, length-append}
-use Rattle.listing.specs.Text.{digit, decimalIn, decimal}
-use Rattle.listing.specs.Parts.{powerFor}
+use Rattle.text.specs.Text.{digit, decimalIn, decimal}
+
+-- p is 10 ^ k for the k that has a number n below ten times it and, unless it is 1, not below it
+abbrev pub powerFor : ℕ → ℕ → Type 0
+powerFor n p = (k : ℕ) × (p ≡ 10 ^ k) × (n / 10 < p) × ((k ≡ 0) ⊎ (p ≤ n))
 
 -- ---- digits from the highest place down
 
@@ -97,3 +100,10 @@ turns-length (suc turns) (suc k) n h = go (ltb n 10) (turns-length turns k (n / 
 pub decimal-length : (k n : ℕ) → n < 10 ^ suc k → length (decimal n) ≤ suc k
 unfolding decimal
 decimal-length k n = turns-length (suc n) k n
+
+-- one below 2 ^ 32 no more than ten, and one below 2 ^ 64 no more than twenty
+pub decimal-short : (n : ℕ) → n < 2 ^ 32 → length (decimal n) ≤ 10
+decimal-short n h = decimal-length 9 n (omega arith)
+
+pub decimal-long : (n : ℕ) → n < 2 ^ 64 → length (decimal n) ≤ 20
+decimal-long n h = decimal-length 19 n (omega arith)
