@@ -1,0 +1,30 @@
+-- `lines::counts` meets its contract: four columns, one after the other. Assumes nothing.
+use native.Mathlib.Omega.{arith}
+use borrow.Author.Needs.{needs}
+use Rattle.text.proofs.Stores.{told-then}
+use Rattle.page.proofs.lines.counts.Statement.{statement}
+use Rattle.page.proofs.lines.counts.Tie as tie
+
+column-requires : tie.Need-column-requires
+column-requires c κs = search needs
+
+column-requires-2 : tie.Need-column-requires-2
+column-requires-2 c κs = search needs
+
+column-requires-3 : tie.Need-column-requires-3
+column-requires-3 c κs = search needs
+
+column-requires-4 : tie.Need-column-requires-4
+column-requires-4 c κs = search needs
+
+returns : tie.Need-returns
+returns c =
+    let third = c .before .before in
+    let second = third .before .before in
+    let first = second .before .before in
+    told-then (first .column .ensures) (told-then (second .column2 .ensures) (told-then (third .column3 .ensures) (c .column4 .ensures)))
+
+pub counts-spec : {M : Type 1} → statement M
+counts-spec =
+    tie.close
+    (tie.spec column-requires column-requires-2 column-requires-3 column-requires-4 returns)

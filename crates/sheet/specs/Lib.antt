@@ -1,0 +1,5 @@
+-- The modules of the definitions. Assumes nothing.
+pub mod Losses
+pub mod Sheet
+pub mod Parts
+pub mod Examples
