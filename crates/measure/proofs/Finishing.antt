@@ -1,15 +1,15 @@
 -- A run is finished stretch by stretch: whatever finishes what a stretch leaves finishes what there was before it; and the counts of any state fit
 -- 32 bits as they are handed out. Assumes nothing.
-use Prim.Native.Nat.{ℕ, zero, suc, _+_, _-_, _*_, _≤_, _<_}
+use Prim.Native.Nat.{ℕ, zero, suc, _+_, _-_, _*_, _<_}
 use mathlib.Core.Path.{_≡_, refl, sym, ap, ap₂, _∙_, subst}
-use mathlib.Core.Bool.{Bool, true, false, _&&_, cond}
-use mathlib.Core.List.{List, _++_}
+use mathlib.Core.Bool.{Bool, true, false}
+use mathlib.Core.List.{List}
 use native.Mathlib.Omega.{arith}
 use lib.ListN.{length, drop, take, replicate}
 use lib.Seq.{take-append-seam}
 use Rattle.rules.specs.Bus.{Bus}
 use Rattle.rules.specs.SetUp.{setUp}
-use Rattle.rules.specs.Standing.{Standing, stands}
+use Rattle.rules.specs.Standing.{stands}
 use Rattle.rules.proofs.Laws.{and-true}
 use Rattle.rules.proofs.Tests.{tells}
 use Rattle.rules.proofs.Standing.{stands-exactly}
@@ -32,7 +32,7 @@ use Rattle.listing.specs.Turns.{nextArrivals, answersIn, courseOf}
 use Rattle.listing.proofs.Played.{Runs}
 use Rattle.listing.proofs.Handed.{fewer, totalsBy, totals-form, stretch-runs, stretch-past}
 use Rattle.sheet.specs.declared.Run.{Run}
-use Rattle.measure.specs.Measured.{Measured, longer, longestWait, runOf, noRun, measuredOf, measured}
+use Rattle.measure.specs.Measured.{longer, longestWait, runOf, noRun, measuredOf, measured}
 use Rattle.measure.specs.Parts.{Finishes}
 use Rattle.measure.proofs.Waits.{longer-none, none-longer, longer-of-three, longest-append}
 
@@ -91,9 +91,6 @@ pub turns-fall :
     → x .left + (length input - (at + arrival-bytes * x .taken)) < steps + (length input - at)
 turns-fall input s at steps x is some = go steps refl
   where
-    c : Course
-    c = stretchOn input s at steps
-
     go : (n : ℕ) → steps ≡ n → x .left + (length input - (at + arrival-bytes * x .taken)) < steps + (length input - at)
     go zero e = absurd (omega arith)
     go (suc n) e =

@@ -1,8 +1,8 @@
 -- The longest wait: the laws of the longer of two waits, and what a loop over the reports of a stretch makes of it. Assumes nothing.
 use Prim.Native.Nat.{ℕ, _+_, _≤_, _<_}
-use mathlib.Core.Path.{_≡_, refl, sym, ap, ap₂, _∙_}
+use mathlib.Core.Path.{_≡_, sym, ap, _∙_}
 use mathlib.Core.Bool.{Bool, true, false, cond}
-use mathlib.Core.List.{List, [], _∷_, _++_, append-assoc}
+use mathlib.Core.List.{List, [], _∷_, _++_}
 use native.Mathlib.Numerals.{add-one}
 use native.Mathlib.Omega.{arith}
 use lib.ListN.{length, getD, take}
@@ -13,6 +13,7 @@ use Rattle.bus.specs.Coded.{answerOf}
 use Rattle.bus.specs.Stretch.{noReport}
 use Rattle.listing.specs.Turns.{answersIn}
 use Rattle.measure.specs.Measured.{waitIn, longer, longestWait}
+use Rattle.measure.specs.Parts.{waitTold}
 
 -- ---- the longer of two
 
@@ -49,10 +50,6 @@ pub longest-append : (said others : List Answer) → longestWait (said ++ others
 longest-append [] others = sym (none-longer (longestWait others))
 longest-append (a ∷ said) others =
     ap (longer (waitIn a)) (longest-append said others) ∙ sym (longer-of-three (waitIn a) (longestWait said) (longestWait others))
-
--- the wait that a report tells
-abbrev pub waitTold : Report → ℕ
-waitTold r = cond (r .arrival) 0 (waitIn (answerOf (r .answer)))
 
 -- of reports with one report more
 one-report :

@@ -2,12 +2,10 @@
 // busrun plays, and takes any input.
 ghost use Prim.Native.Nat.{_≤_};
 ghost use mathlib.Core.Path.{_≡_};
-ghost use mathlib.Core.Bool.{cond};
 ghost use lib.ListN.{take};
-ghost use Rattle.bus.specs.Coded.{answerOf};
 ghost use Rattle.listing.specs.Turns.{answersIn};
-ghost use Rattle.measure.specs.Measured.{waitIn, longer, longestWait, measured};
-ghost use Rattle.measure.specs.Parts.{Finishes};
+ghost use Rattle.measure.specs.Measured.{longer, longestWait, measured};
+ghost use Rattle.measure.specs.Parts.{waitTold, Finishes};
 use bus::Report;
 use bus::Stretch;
 use scenario::ARRIVAL_BYTES;
@@ -35,7 +33,7 @@ pub struct Measured {
 
 // The wait that a report tells: that of a success, and 0 of anything else.
 fn wait_told(report: Report) -> u32
-    ensures { λ r. ⌜ r ≡ cond (report .arrival) 0 (waitIn (answerOf (report .answer))) ⌝ }
+    ensures { λ r. ⌜ r ≡ waitTold report ⌝ }
 {
     if report.arrival {
         return 0;

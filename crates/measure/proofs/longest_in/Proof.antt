@@ -1,8 +1,8 @@
 -- `longest_in` meets its contract. The loop's invariant: it is the longest of the wait before and of the first i reports. Assumes nothing.
 use Prim.Native.Nat.{_-_, _≤_}
-use mathlib.Core.Path.{_≡_, sym, ap, ap₂, _∙_}
+use mathlib.Core.Path.{_≡_, sym, ap, _∙_}
 use native.Mathlib.Omega.{arith}
-use lib.ListN.{length, take}
+use lib.ListN.{take}
 use borrow.Author.Needs.{needs}
 use Rattle.listing.specs.Turns.{answersIn}
 use Rattle.listing.proofs.TurnLaws.{reports-array}
