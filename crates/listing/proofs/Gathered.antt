@@ -16,8 +16,7 @@ use Rattle.scenario.specs.Format.{Said, readRecord, said}
 use Rattle.scenario.specs.Reading.{arrival-bytes, arrivalFrom}
 use Rattle.scenario.proofs.Arrivals.{ArrivalsAt, arrivals-here, arrivals-none}
 use Rattle.scenario.proofs.ReadingLaws.{arrival-within}
-use Rattle.listing.specs.Turns.{arrivalsIn, nextArrivals}
-use Rattle.listing.specs.Parts.{arrivalsForm}
+use Rattle.listing.specs.Turns.{arrivalsIn, nextArrivals, arrivalsForm}
 
 -- the bytes of arrivals that were found are within the input
 pub bytes-within :

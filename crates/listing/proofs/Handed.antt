@@ -65,7 +65,7 @@ module _ (input : List ℕ) (p : Play) (steps : ℕ) (still : p .steps ≡ suc s
       (course-moves 511 (p .state) found (leb row-places (length found)) steps none-more)
 
   -- and so fewer turns are left
-  fewer : left + (length input - (p .at + arrival-bytes * taken)) < suc steps + (length input - p .at)
+  pub fewer : left + (length input - (p .at + arrival-bytes * taken)) < suc steps + (length input - p .at)
   fewer = by-taken taken takes leaves moves
     where
       by-taken :
@@ -114,7 +114,7 @@ over-at-last input = over-at-last-any input (opened input .play)
 -- ---- the play of a run
 
 -- the play that has a bus
-abbrev playing : Bus → ℕ → ℕ → Play
+abbrev pub playing : Bus → ℕ → ℕ → Play
 playing b at steps = record { state = form b; at = at; steps = steps; going = true }
 
 -- a run that is over says nothing more
@@ -123,7 +123,7 @@ ended zero input o e = refl
 ended (suc turns) input o e = rw e (append-nil (o .text))
 
 -- the numbers of a state, by whether it stands and by the bus that it means
-abbrev totalsBy : State → Bool → Bus → Totals
+abbrev pub totalsBy : State → Bool → Bus → Totals
 totalsBy s t b =
     cond
     t
@@ -138,7 +138,7 @@ totalsBy s t b =
     (record { refusal = 1; clock = record { 0 = 0 }; admitted = 0; sent = 0; lost = 0; waiting = 0 })
 
 -- the state of a bus that stands has the numbers of the bus
-totals-form : (b : Bus) → Standing b → totalsOf (form b) ≡ totalsBy (form b) true b
+pub totals-form : (b : Bus) → Standing b → totalsOf (form b) ≡ totalsBy (form b) true b
 totals-form b h =
     let fits = standing-fits b h in
     ap₂ (λ t m. totalsBy (form b) (t && stands m) m) (padded-form b fits) (meaning-form b fits)
@@ -149,6 +149,24 @@ closed-text : (b : Bus) → Standing b → closedBy (form b) (totalsOf (form b))
 closed-text b h = ap (λ t. closedBy (form b) t .text) (totals-form b h)
 
 module _ (input : List ℕ) where
+  -- A stretch from the state of a bus that stands is one of its run, by the arrivals that stand in the input from an offset on; and past
+  -- those taken stand the rest.
+  module _ (b : Bus) (at steps : ℕ) (arrivals : List Arrival) (h : Standing b) (here : ArrivalsAt input at arrivals) where
+    abbrev stretch : Course
+    stretch = courseOf (nextArrivals input at) (playing b at steps)
+
+    first : Found input at row-places (nextArrivals input at) arrivals
+    first = found-here row-places input at arrivals here
+
+    pub stretch-runs : Runs b arrivals steps stretch
+    stretch-runs =
+        subst (λ (os : List Arrival). Runs b os steps stretch) (sym (first .are))
+        (course-runs most-calls b h (nextArrivals input at) (first .others) (leb row-places (length (nextArrivals input at))) steps
+        (λ e. first .all (leb-false row-places (length (nextArrivals input at)) e)))
+
+    pub stretch-past : ArrivalsAt input (at + arrival-bytes * stretch .taken) (drop (stretch .taken) arrivals)
+    stretch-past = first .past (stretch .taken) (bounds-of (nextArrivals input at) (playing b at steps) .taken)
+
   -- what is handed out in so many turns from a play on is the text of the run, if it has no more turns than these
   abbrev Rest : ℕ → Type 0
   Rest turns =
@@ -169,7 +187,7 @@ module _ (input : List ℕ) where
       (runs .state)
       ∙ ap
       (λ (text : List ℕ). reportsText (c .reports) ++ text)
-      (more (runs .bus) past (c .left) (drop (c .taken) arrivals) (runs .stands) (first .past (c .taken) (takes input p steps refl)) (omega (arith, few)))
+      (more (runs .bus) past (c .left) (drop (c .taken) arrivals) (runs .stands) (stretch-past b at (suc steps) arrivals h here) (omega (arith, few)))
       ∙ sym (runs .text)
     where
       p : Play
@@ -184,14 +202,8 @@ module _ (input : List ℕ) where
       few : c .left + (length input - past) < suc steps + (length input - at)
       few = fewer input p steps refl
 
-      first : Found input at row-places (nextArrivals input at) arrivals
-      first = found-here row-places input at arrivals here
-
       runs : Runs b arrivals (suc steps) c
-      runs =
-          subst (λ (os : List Arrival). Runs b os (suc steps) c) (sym (first .are))
-          (course-runs most-calls b h (nextArrivals input at) (first .others) (leb row-places (length (nextArrivals input at))) (suc steps)
-          (λ e. first .all (leb-false row-places (length (nextArrivals input at)) e)))
+      runs = stretch-runs b at (suc steps) arrivals h here
 
   -- the last turn, of a run that has none
   last-turn : (turns : ℕ) (b : Bus) (at : ℕ) → Standing b → handed turns input (turn input (playing b at 0)) ≡ closingText b

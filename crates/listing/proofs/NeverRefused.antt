@@ -100,7 +100,7 @@ step-clock b h z =
 -- ---- the run
 
 -- the arrivals that are due leave the bus standing, and its clock as it was
-due-stands :
+pub due-stands :
     (arrivals : List Arrival) (b : Bus) → Standing b
     → Standing (admitDue b arrivals .bus) × (admitDue b arrivals .bus .clock ≡ b .clock)
 due-stands [] b h = (h, refl)

@@ -1,5 +1,5 @@
 -- A stretch of calls: what it takes and what it leaves; and, from the state of a bus that stands, that what it tells is the text of the run,
--- up to where it stops. Assumes nothing.
+-- and what it reports the answers to the run's steps, up to where it stops. Assumes nothing.
 use Prim.Native.Nat.{ℕ, zero, suc, _+_, _≤_, _<_}
 use mathlib.Core.Path.{_≡_, refl, sym, ap, ap₂, _∙_, subst}
 use mathlib.Core.Bool.{Bool, true, false, cond}
@@ -20,14 +20,14 @@ use Rattle.rules.proofs.Reach.{next-stands, step-stands}
 use Rattle.state.specs.declared.State.{State}
 use Rattle.state.specs.declared.Arrival.{Arrival}
 use Rattle.state.specs.State.{form}
-use Rattle.bus.specs.Coded.{answerForm, codedAdmit, codedStep}
+use Rattle.bus.specs.Coded.{answerForm, answerOf, codedAdmit, codedStep}
 use Rattle.bus.specs.Stretch.{row-places, Course, most-calls, asks, due, rests, after, stepThen, arrivalReport, stepReport, course}
 use Rattle.state.proofs.Form.{standing-fits}
 use Rattle.bus.proofs.Coded.{coded-admit, coded-step}
 use Rattle.bus.proofs.Promises.{answer-read}
 use Rattle.listing.specs.Text.{refusalText, droppedText, probedText}
-use Rattle.listing.specs.Run.{Left, admitDue, runText}
-use Rattle.listing.specs.Turns.{Play, reportText, reportsText, courseOf}
+use Rattle.listing.specs.Run.{Left, admitDue, runText, answersOf, endOf}
+use Rattle.listing.specs.Turns.{Play, reportText, reportsText, answersIn, courseOf}
 
 -- ---- what a stretch takes and leaves
 
@@ -108,6 +108,17 @@ run-admits :
 run-admits steps b a later e =
     simp e (append-assoc (refusalText (b .clock) (a .address .0) (admit b (asks a) .0 .refusal)) _ _)
 
+-- and so are its answers and its end, which such an arrival adds nothing to
+answers-admit :
+    (steps : ℕ) (b : Bus) (a : Arrival) (later : List Arrival) → due (b .clock) a ≡ true
+    → answersOf (suc steps) b (a ∷ later) ≡ answersOf (suc steps) (admit b (asks a) .1) later
+answers-admit steps b a later e = simp e refl
+
+end-admits :
+    (steps : ℕ) (b : Bus) (a : Arrival) (later : List Arrival) → due (b .clock) a ≡ true
+    → endOf (suc steps) b (a ∷ later) ≡ endOf (suc steps) (admit b (asks a) .1) later
+end-admits steps b a later e = simp e refl
+
 -- none of these arrivals is due: there is none, or the first is not
 abbrev None-due : Bus → List Arrival → Type 0
 None-due b [] = Unit {0}
@@ -131,18 +142,31 @@ run-steps steps b arrivals h =
     (none-admitted b arrivals h)
     ∙ sym (append-assoc (droppedText (step b .0)) _ _)
 
+answers-step :
+    (steps : ℕ) (b : Bus) (arrivals : List Arrival) → None-due b arrivals
+    → answersOf (suc steps) b arrivals ≡ step b .0 ∷ answersOf steps (step b .1) arrivals
+answers-step steps b arrivals h =
+    ap (λ (x : Left). step (x .bus) .0 ∷ answersOf steps (step (x .bus) .1) (x .arrivals)) (none-admitted b arrivals h)
+
+end-steps :
+    (steps : ℕ) (b : Bus) (arrivals : List Arrival) → None-due b arrivals
+    → endOf (suc steps) b arrivals ≡ endOf steps (step b .1) arrivals
+end-steps steps b arrivals h = ap (λ (x : Left). endOf steps (step (x .bus) .1) (x .arrivals)) (none-admitted b arrivals h)
+
 -- ---- a stretch of the run
 
--- A course that is a stretch of the run of a bus: it ends with a bus that stands, and the run's text is what it tells and the text of what is
--- left of the run.
+-- A course that is a stretch of the run of a bus: it ends with a bus that stands; the run's text is what it tells and the text of what is
+-- left of the run; the run's answers are those that it reports and those of what is left; and the run ends as what is left does.
 pub record Runs (b : Bus) (arrivals : List Arrival) (steps : ℕ) (c : Course) : Type 0 where
   pub bus : Bus
   pub stands : Standing bus
   pub state : c .state ≡ form bus
   pub text : runText steps b arrivals ≡ reportsText (c .reports) ++ runText (c .left) bus (drop (c .taken) arrivals)
+  pub answers : answersOf steps b arrivals ≡ answersIn (c .reports) ++ answersOf (c .left) bus (drop (c .taken) arrivals)
+  pub end : endOf steps b arrivals ≡ endOf (c .left) bus (drop (c .taken) arrivals)
 
 runs-still : (b : Bus) (arrivals : List Arrival) (steps : ℕ) → Standing b → Runs b arrivals steps (rests (form b) steps)
-runs-still b arrivals steps h = record { bus = b; stands = h; state = refl; text = refl }
+runs-still b arrivals steps h = record { bus = b; stands = h; state = refl; text = refl; answers = refl; end = refl }
 
 module _ (b : Bus) (h : Standing b) where
   -- a step, and then a stretch of the run after it
@@ -150,10 +174,12 @@ module _ (b : Bus) (h : Standing b) where
       (arrivals : List Arrival) (steps : ℕ) (c : Course) → None-due b arrivals → Runs (step b .1) arrivals steps c
       → Runs b arrivals (suc steps) (stepThen (form b) c)
   step-runs arrivals steps c none r =
+      let said : answerOf (answerForm (codedStep (form b) .0)) ≡ step b .0 =
+      answer-read (form b) ∙ ap (λ (o : Probe.Answer × State). o .0) (coded-step b (standing-fits b h)) in
       let told : reportText (stepReport (form b) (answerForm (codedStep (form b) .0))) ≡ droppedText (step b .0) ++ probedText (step b .0) =
-      ap (λ (a : Probe.Answer). droppedText a ++ probedText a)
-      (answer-read (form b) ∙ ap (λ (o : Probe.Answer × State). o .0) (coded-step b (standing-fits b h))) in
+      ap (λ (a : Probe.Answer). droppedText a ++ probedText a) said in
       let rest = runText (c .left) (r .bus) in
+      let none-taken : c .taken ≡ 0 + c .taken = sym (zero-add (c .taken)) in
       record {
         bus = r .bus;
         stands = r .stands;
@@ -162,7 +188,14 @@ module _ (b : Bus) (h : Standing b) where
             run-steps steps b arrivals none
             ∙ ap₂ _++_ (sym told) (r .text)
             ∙ sym (append-assoc (reportText (stepReport (form b) (answerForm (codedStep (form b) .0)))) (reportsText (c .reports)) _)
-            ∙ ap (λ (n : ℕ). reportsText (stepThen (form b) c .reports) ++ rest (drop n arrivals)) (sym (zero-add (c .taken)));
+            ∙ ap (λ (n : ℕ). reportsText (stepThen (form b) c .reports) ++ rest (drop n arrivals)) none-taken;
+        answers =
+            answers-step steps b arrivals none
+            ∙ ap₂ _∷_ (sym said) (r .answers)
+            ∙ ap
+            (λ (n : ℕ). answersIn (stepThen (form b) c .reports) ++ answersOf (c .left) (r .bus) (drop n arrivals))
+            none-taken;
+        end = end-steps steps b arrivals none ∙ r .end ∙ ap (λ (n : ℕ). endOf (c .left) (r .bus) (drop n arrivals)) none-taken;
       }
 
   -- an arrival that is due, and then a stretch of the run after it
@@ -185,6 +218,13 @@ module _ (b : Bus) (h : Standing b) where
             ∙ ap₂ _++_ (sym told) (r .text)
             ∙ sym (append-assoc (reportText (arrivalReport (form b) a (codedAdmit (form b) (asks a) .0))) (reportsText (c .reports)) _)
             ∙ ap (λ (n : ℕ). reportsText (admitThen (form b) a c .reports) ++ rest (drop n (a ∷ later))) one;
+        answers =
+            answers-admit steps b a later now!
+            ∙ r .answers
+            ∙ ap
+            (λ (n : ℕ). answersIn (admitThen (form b) a c .reports) ++ answersOf (c .left) (r .bus) (drop n (a ∷ later)))
+            one;
+        end = end-admits steps b a later now! ∙ r .end ∙ ap (λ (n : ℕ). endOf (c .left) (r .bus) (drop n (a ∷ later))) one;
       }
 
   -- the states after the calls

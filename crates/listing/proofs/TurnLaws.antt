@@ -26,9 +26,9 @@ use Rattle.text.specs.Room.{room-bytes, roomWith}
 use Rattle.text.specs.Parts.{Told}
 use Rattle.text.proofs.Stores.{sets-start}
 use Rattle.listing.specs.Text.{refusedText}
-use Rattle.listing.specs.Turns.{Play, Turn, Outcome, says, over, openedBy, nextArrivals, reportText, reportsText, courseOf, stretched}
+use Rattle.listing.specs.Turns.{Play, Turn, Outcome, says, over, openedBy, nextArrivals, arrivalsForm, reportText, reportsText, courseOf, stretched}
 use Rattle.listing.specs.Turns.{closedBy, turn, turnForm}
-use Rattle.listing.specs.Parts.{TurnTold, arrivalsForm}
+use Rattle.listing.specs.Parts.{TurnTold}
 use Rattle.listing.proofs.Gathered.{found-few, bytes-within}
 use Rattle.listing.proofs.Played.{bounds-of}
 

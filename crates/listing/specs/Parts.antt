@@ -1,16 +1,12 @@
 -- What the private functions of src/ are held to; for readers of those alone. Assumes nothing.
-use Prim.Native.Nat.{ℕ, _-_}
+use Prim.Native.Nat.{ℕ}
 use mathlib.Core.Path.{_≡_}
 use mathlib.Core.List.{List, [], _∷_, _++_}
-use Rattle.state.specs.declared.Arrival.{Arrival}
-use Rattle.bus.specs.declared.Arrivals.{Arrivals}
-use Rattle.bus.specs.Stretch.{row-places, noArrival}
 use Rattle.text.specs.Text.{space, decimal, fields}
 use Rattle.text.specs.Room.{room-bytes}
 use Rattle.text.specs.Parts.{Told}
 use Rattle.listing.specs.Turns.{Turn, Outcome}
 use Rattle.listing.specs.Text.{phaseLetter, eventLetter, winnerOf, winnerFields}
-use lib.ListN.{length, replicate}
 use Rattle.rules.specs.Probe.{Answer}
 
 -- ---- text
@@ -29,9 +25,3 @@ winnerText a = winnerFields (a .event) (winnerOf a)
 pub record TurnTold (before after : List ℕ) (t : Turn) (o : Outcome) : Type 0 where
   pub play : t .play ≡ o .play
   pub told : Told before after 0 (t .length) (o .text) room-bytes
-
--- ---- arrivals
-
--- arrivals in a row, and zeros past them
-abbrev pub arrivalsForm : List Arrival → Arrivals
-arrivalsForm arrivals = record { row = arrivals ++ replicate (row-places - length arrivals) noArrival; length = length arrivals }

@@ -50,6 +50,14 @@ answersOf (suc steps) b arrivals =
     let r = step (x .bus) in
     r .0 ∷ answersOf steps (r .1) (x .arrivals)
 
+-- the bus at the end of a run
+abbrev pub endOf : ℕ → Bus → List Arrival → Bus
+endOf zero b arrivals = b
+endOf (suc steps) b arrivals =
+    let x = admitDue b arrivals in
+    let r = step (x .bus) in
+    endOf steps (r .1) (x .arrivals)
+
 -- 'A refused scenario prints only REFUSED number offset'
 abbrev pub listingOf : Reading → List ℕ
 listingOf (refused number offset) = refusedText number offset

@@ -4,13 +4,15 @@ use Prim.Native.Nat.{ℕ, zero, suc, _+_, _-_, _*_}
 use mathlib.Core.Bool.{true, false, cond}
 use mathlib.Core.List.{List, [], _∷_, _++_}
 use lib.Dec.{leb, eqb}
-use lib.ListN.{length, drop}
+use lib.ListN.{length, drop, replicate}
+use Rattle.rules.specs.Probe.{Answer}
 use Rattle.state.specs.declared.State.{State}
 use Rattle.bus.specs.declared.Totals.{Totals}
 use Rattle.state.specs.declared.Arrival.{Arrival}
+use Rattle.bus.specs.declared.Arrivals.{Arrivals}
 use Rattle.bus.specs.declared.Report.{Report}
 use Rattle.bus.specs.Coded.{answerOf, totalsOf}
-use Rattle.bus.specs.Stretch.{row-places, Course, most-calls, course}
+use Rattle.bus.specs.Stretch.{row-places, Course, most-calls, course, noArrival}
 use Rattle.scenario.specs.declared.Scenario.{Scenario}
 use Rattle.scenario.specs.Format.{arrivalKind, readRecord}
 use Rattle.scenario.specs.Reading.{arrival-bytes, arrivalFrom, reading, scenarioForm}
@@ -56,6 +58,10 @@ arrivalsIn (suc most) input at =
 abbrev pub nextArrivals : List ℕ → ℕ → List Arrival
 nextArrivals input at = arrivalsIn row-places input at
 
+-- arrivals in a row, and zeros past them
+abbrev pub arrivalsForm : List Arrival → Arrivals
+arrivalsForm arrivals = record { row = arrivals ++ replicate (row-places - length arrivals) noArrival; length = length arrivals }
+
 -- ---- what a stretch tells
 
 -- of an arrival the refusal, if it was refused; of a step the packets dropped, and the probe
@@ -69,6 +75,11 @@ reportText r =
 abbrev pub reportsText : List Report → List ℕ
 reportsText [] = []
 reportsText (r ∷ later) = reportText r ++ reportsText later
+
+-- the answers to the steps among the calls reported
+abbrev pub answersIn : List Report → List Answer
+answersIn [] = []
+answersIn (r ∷ later) = cond (r .arrival) [] (answerOf (r .answer) ∷ []) ++ answersIn later
 
 -- ---- any other turn: a stretch of calls, or the run ends
 

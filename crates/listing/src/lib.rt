@@ -7,8 +7,8 @@ ghost use lib.ListN.{take};
 ghost use Rattle.bus.specs.Coded.{totalsOf};
 ghost use Rattle.text.specs.Room.{room-bytes, roomWith};
 ghost use Rattle.text.specs.Parts.{Told, roomy};
-ghost use Rattle.listing.specs.Turns.{nextArrivals, reportText, reportsText, opened, stretched, closedBy, turn, turnForm};
-ghost use Rattle.listing.specs.Parts.{TurnTold, arrivalsForm};
+ghost use Rattle.listing.specs.Turns.{nextArrivals, arrivalsForm, reportText, reportsText, opened, stretched, closedBy, turn, turnForm};
+ghost use Rattle.listing.specs.Parts.{TurnTold};
 use bus::Arrivals;
 use bus::Report;
 use bus::Stretch;
@@ -80,8 +80,8 @@ pub fn open(input: &[u8], room: &mut [u8; 65536]) -> Turn
     Turn { length: 0, play }
 }
 
-// The arrivals that come next in the input, from an offset on.
-fn gather(input: &[u8], from: usize) -> Arrivals
+// The arrivals that come next in the input, from an offset on: up to the first record that is none, 64 at the most.
+pub fn gather(input: &[u8], from: usize) -> Arrivals
     ensures { λ r. ⌜ r ≡ arrivalsForm (nextArrivals (now (input .entry)) from) ⌝ }
 {
     let mut row = [NO_ARRIVAL; 64];

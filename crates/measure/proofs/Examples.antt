@@ -1,0 +1,14 @@
+-- The examples measured, by computation. Assumes nothing.
+use mathlib.Core.Path.{_≡_, refl}
+use Rattle.window.specs.Splitting.{exponentOf, isPower}
+use Rattle.listing.specs.Worked.{worked-input}
+use Rattle.measure.specs.Measured.{longer, measured}
+use Rattle.measure.specs.Examples.{finishedWith, later-input}
+
+pub worked : measured worked-input ≡ finishedWith 3 3 0 0 14
+unfolding exponentOf isPower longer
+worked = refl
+
+pub longest-before-the-last : measured later-input ≡ finishedWith 4 3 0 1 2
+unfolding exponentOf isPower longer
+longest-before-the-last = refl

@@ -1,0 +1,62 @@
+-- A run measured (P2): from the bytes of a scenario to its finished run, or to the number and the offset of what refuses it. The counts are those
+-- of the rules' machine at the run's end, and the longest wait is over its answers. Assumes nothing.
+use Prim.Native.Nat.{ℕ, _+_, _<_, max}
+use mathlib.Core.Path.{_≡_}
+use mathlib.Core.Bool.{Bool, cond}
+use mathlib.Core.List.{List, [], _∷_}
+use lib.Dec.{eqb}
+use Rattle.rules.specs.Bus.{Bus, waiting}
+use Rattle.rules.specs.SetUp.{setUp}
+use Rattle.rules.specs.Probe.{Answer, success}
+use Rattle.scenario.specs.Reading.{Reading, refused, accepted, reading}
+use Rattle.listing.specs.Run.{answersOf, endOf}
+use Rattle.sheet.specs.declared.Run.{Run}
+pub use Rattle.measure.specs.declared.Measured.{Measured}
+
+-- whether an answer tells of a success
+abbrev pub succeeded : Answer → Bool
+succeeded a = eqb (a .event) success
+
+-- the wait of a success, and 0 of any other answer
+abbrev pub waitIn : Answer → ℕ
+waitIn a = cond (succeeded a) (a .wait) 0
+
+-- the longer of two waits
+unfoldable pub longer : ℕ → ℕ → ℕ
+longer first second = max first second
+
+-- the longest wait of a success, and 0 if there is none
+abbrev pub longestWait : List Answer → ℕ
+longestWait [] = 0
+longestWait (a ∷ later) = longer (waitIn a) (longestWait later)
+
+-- the run that has come to a bus, with a longest wait
+abbrev pub runOf : Bus → ℕ → Run
+runOf b wait = record { admitted = b .admitted; sent = b .sent; lost = b .lost; waiting = waiting (b .stations); wait = wait }
+
+-- a finished run, from the bus at its end and the answers to its steps
+abbrev pub finished : Bus → List Answer → Run
+finished b answers = runOf b (longestWait answers)
+
+-- the run of a scenario that is refused
+abbrev pub noRun : Run
+noRun = record { admitted = 0; sent = 0; lost = 0; waiting = 0; wait = 0 }
+
+-- 'A refused scenario': its number and offset, and no run
+abbrev pub measuredOf : Reading → Measured
+measuredOf (refused number offset) = record { refusal = number; offset = offset; run = noRun }
+measuredOf (accepted r arrivals steps) =
+    record { refusal = 0; offset = 0; run = finished (endOf steps (setUp r .1) arrivals) (answersOf steps (setUp r .1) arrivals) }
+
+-- a scenario measured
+abbrev pub measured : List ℕ → Measured
+measured input = measuredOf (reading input)
+
+-- what the numbers of a run come to: they balance, and each fits 32 bits
+pub record Sums (x : Run) : Type 0 where
+  pub balance : x .admitted ≡ x .sent + x .lost + x .waiting
+  pub admitted : x .admitted < 4_294_967_296
+  pub sent : x .sent < 4_294_967_296
+  pub lost : x .lost < 4_294_967_296
+  pub waiting : x .waiting < 4_294_967_296
+  pub wait : x .wait < 4_294_967_296
