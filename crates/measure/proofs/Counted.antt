@@ -26,7 +26,7 @@ use Rattle.scenario.proofs.Sound.{Sound, sound}
 use Rattle.listing.specs.Text.{refusalText}
 use Rattle.listing.specs.Run.{Left, after, admitDue, answersOf, endOf}
 use Rattle.listing.proofs.NeverRefused.{due-stands}
-use Rattle.measure.specs.Measured.{succeeded, waitIn, longestWait, finished, measuredOf, measured, Sums}
+use Rattle.measure.specs.Measured.{succeeded, waitIn, longestWait, finished, measuredOf, measured, Fits}
 use Rattle.measure.proofs.Waits.{longer-below, none-longer}
 
 -- ---- a step
@@ -152,10 +152,10 @@ none-waits (a ∷ said) e = go (succeeded a) refl e (none-waits said)
 
 -- ---- measured runs
 
-sums-of : (b : Bus) (said : List Answer) → Standing b → longestWait said < 4_294_967_296 → Sums (finished b said)
-sums-of b said h few =
+fits-of : (b : Bus) (said : List Answer) → Standing b → longestWait said < 4_294_967_296 → Fits (finished b said)
+fits-of b said h few =
     record {
-      balance = h .counts;
+      balanced = h .counts;
       admitted = omega (arith, h .admitted-in);
       sent = omega (arith, h .admitted-in, h .counts);
       lost = omega (arith, h .admitted-in, h .counts);
@@ -163,16 +163,16 @@ sums-of b said h few =
       wait = few;
     }
 
-pub sums : (input : List ℕ) → Sums (measured input .run)
-sums input = go (reading input) (sound input)
+pub fits : (input : List ℕ) → Fits (measured input .run)
+fits input = go (reading input) (sound input)
   where
-    go : (y : Reading) → Sound input y → Sums (measuredOf y .run)
+    go : (y : Reading) → Sound input y → Fits (measuredOf y .run)
     go (refused number offset) bears =
         record
-        { balance = refl; admitted = omega arith; sent = omega arith; lost = omega arith; waiting = omega arith; wait = omega arith }
+        { balanced = refl; admitted = omega arith; sent = omega arith; lost = omega arith; waiting = omega arith; wait = omega arith }
     go (accepted r arrivals steps) ok =
         let h = keepsStanding .set-up r (ok .0) in
-        sums-of
+        fits-of
         (endOf steps (setUp r .1) arrivals)
         (answersOf steps (setUp r .1) arrivals)
         (end-stands steps (setUp r .1) arrivals h)

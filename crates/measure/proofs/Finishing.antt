@@ -32,7 +32,8 @@ use Rattle.listing.specs.Turns.{nextArrivals, answersIn, courseOf}
 use Rattle.listing.proofs.Played.{Runs}
 use Rattle.listing.proofs.Handed.{fewer, totalsBy, totals-form, stretch-runs, stretch-past}
 use Rattle.sheet.specs.declared.Run.{Run}
-use Rattle.measure.specs.Measured.{longer, longestWait, runOf, noRun, measuredOf, measured}
+use Rattle.sheet.specs.Sheet.{noRun}
+use Rattle.measure.specs.Measured.{longer, longestWait, runOf, measuredOf, measured}
 use Rattle.measure.specs.Parts.{Finishes}
 use Rattle.measure.proofs.Waits.{longer-none, none-longer, longer-of-three, longest-append}
 

@@ -10,14 +10,14 @@ use Rattle.state.specs.declared.Arrival.{Arrival}
 use Rattle.scenario.specs.Reading.{accepted, reading}
 use Rattle.listing.specs.Run.{answersOf}
 use Rattle.listing.specs.Worked.{worked-input}
-use Rattle.measure.specs.Measured.{succeeded, measured, Sums}
+use Rattle.measure.specs.Measured.{succeeded, measured, Fits}
 use Rattle.measure.specs.Examples.{finishedWith, later-input}
 use Rattle.measure.proofs.Counted as Counted
 use Rattle.measure.proofs.Examples as Examples
 
--- a measured run balances, admitted = sent + lost + waiting, and its five numbers are below 2 ^ 32, whatever the input
-pub sums : (input : List ℕ) → Sums (measured input .run)
-sums = Counted.sums
+-- a measured run balances, so that no sheet refuses it with 24, and its five numbers are below 2 ^ 32, whatever the input
+pub fits : (input : List ℕ) → Fits (measured input .run)
+fits = Counted.fits
 
 -- the packets sent are the successes among the answers, over which the longest wait is taken
 pub sent-are-successes :

@@ -11,6 +11,7 @@ use Rattle.rules.specs.Probe.{Answer, success}
 use Rattle.scenario.specs.Reading.{Reading, refused, accepted, reading}
 use Rattle.listing.specs.Run.{answersOf, endOf}
 use Rattle.sheet.specs.declared.Run.{Run}
+use Rattle.sheet.specs.Sheet.{noRun, Balanced}
 pub use Rattle.measure.specs.declared.Measured.{Measured}
 
 -- whether an answer tells of a success
@@ -38,10 +39,6 @@ runOf b wait = record { admitted = b .admitted; sent = b .sent; lost = b .lost; 
 abbrev pub finished : Bus → List Answer → Run
 finished b answers = runOf b (longestWait answers)
 
--- the run of a scenario that is refused
-abbrev pub noRun : Run
-noRun = record { admitted = 0; sent = 0; lost = 0; waiting = 0; wait = 0 }
-
 -- 'A refused scenario': its number and offset, and no run
 abbrev pub measuredOf : Reading → Measured
 measuredOf (refused number offset) = record { refusal = number; offset = offset; run = noRun }
@@ -52,9 +49,9 @@ measuredOf (accepted r arrivals steps) =
 abbrev pub measured : List ℕ → Measured
 measured input = measuredOf (reading input)
 
--- what the numbers of a run come to: they balance, and each fits 32 bits
-pub record Sums (x : Run) : Type 0 where
-  pub balance : x .admitted ≡ x .sent + x .lost + x .waiting
+-- a run that a sheet can have: it balances, and each of its numbers has 32 bits
+pub record Fits (x : Run) : Type 0 where
+  pub balanced : Balanced x
   pub admitted : x .admitted < 4_294_967_296
   pub sent : x .sent < 4_294_967_296
   pub lost : x .lost < 4_294_967_296

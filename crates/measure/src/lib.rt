@@ -15,15 +15,6 @@ use state::State;
 // 'event .. 2 success'
 const SUCCESS: u32 = 2;
 
-// The run of a scenario that is refused.
-const NO_RUN: Run = Run {
-    admitted: 0,
-    sent: 0,
-    lost: 0,
-    waiting: 0,
-    wait: 0,
-};
-
 // A run measured: the number of the refusal and the offset of what is refused, and no run; or 0 and 0, and the finished run.
 pub struct Measured {
     pub refusal: u32,
@@ -109,7 +100,7 @@ pub fn measure(input: &[u8]) -> Measured
         return Measured {
             refusal: s.refusal,
             offset: s.offset,
-            run: NO_RUN,
+            run: sheet::NO_RUN,
         };
     }
     let state = s.state;

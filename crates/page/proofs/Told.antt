@@ -15,7 +15,7 @@ use lib.Seq.{take-all, take-suc, length-take-le}
 use Rattle.text.specs.Text.{space, decimal}
 use Rattle.text.specs.Room.{room-bytes, stored, past, roomWith}
 use Rattle.text.specs.Parts.{Told}
-use Rattle.text.proofs.Stores.{told-stored, sets-start}
+use Rattle.text.proofs.Stores.{told-stored, sets-start, room-kept}
 use Rattle.sheet.proofs.Sheet as sheet-row
 use Rattle.sheet.specs.declared.Run.{Run}
 use Rattle.sheet.specs.declared.Sheet.{Sheet}
@@ -33,10 +33,19 @@ told-here room at text h said = told-stored room at text (length text) h (omega 
 pub told-few : {a b : List ℕ} {at n : ℕ} {x : List ℕ} {p q : ℕ} → Told a b at n x p → length x ≤ q → Told a b at n x q
 told-few told h = record { room = told .room; past = told .past; few = h }
 
--- a text that was told at the start of the room is over its start
+-- a text that was told at the start of the room is over its start, and fits the room
 pub told-start :
-    {a b : List ℕ} {n : ℕ} {x : List ℕ} {p : ℕ} → Told a b 0 n x p → (n ≡ length x) × (b ≡ roomWith x a)
-told-start {a} {b} {n} {x} told = (omega (arith, told .past), told .room ∙ sets-start a x)
+    {a b : List ℕ} {n : ℕ} {x : List ℕ} {p : ℕ} → p ≤ room-bytes → Told a b 0 n x p
+    → (n ≡ length x) × ((b ≡ roomWith x a) × (n ≤ room-bytes))
+told-start {a} {b} {n} {x} h told =
+    (omega (arith, told .past), (told .room ∙ sets-start a x, omega (arith, told .past, told .few)))
+
+-- the room stays as long as it is, so that the text is in it
+pub text-within :
+    (x a : List ℕ) {b : List ℕ} {n : ℕ} → room-bytes ≡ length a → (n ≡ length x) × ((b ≡ roomWith x a) × (n ≤ room-bytes))
+    → (room-bytes ≡ length b) × (n ≤ length b)
+text-within x a {b} long said =
+    let kept : length b ≡ length a = ap length (said .1 .0) ∙ room-kept x a in (omega arith, omega (arith, said .1 .1))
 
 -- a number is shown whole
 pub number-shown : (n : ℕ) → length (decimal n) ≤ 20 → shown (decimal n) ≡ decimal n

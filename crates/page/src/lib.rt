@@ -2,7 +2,8 @@
 // call takes any input.
 ghost use mathlib.Core.Path.{_≡_};
 ghost use lib.ListN.{length};
-ghost use Rattle.text.specs.Room.{roomWith};
+ghost use Prim.Native.Nat.{_≤_};
+ghost use Rattle.text.specs.Room.{room-bytes, roomWith};
 ghost use Rattle.page.specs.Page.{headingText, lineText, closingText, sheetText};
 use sheet::Highest;
 use sheet::Run;
@@ -28,6 +29,7 @@ pub enum Entry {
 pub fn heading(room: &mut [u8; 65536]) -> usize
     ensures { λ r. ⌜ r ≡ length headingText ⌝ }
     ensures { λ r. ⌜ now (room .exit) ≡ roomWith headingText (now (room .entry)) ⌝ }
+    ensures { λ r. ⌜ r ≤ room-bytes ⌝ }
 {
     lines::heading(room, 0)
 }
@@ -36,6 +38,7 @@ pub fn heading(room: &mut [u8; 65536]) -> usize
 pub fn line(entry: Entry, name: &[u8], room: &mut [u8; 65536]) -> usize
     ensures { λ r. ⌜ r ≡ length (lineText entry (now (name .entry))) ⌝ }
     ensures { λ r. ⌜ now (room .exit) ≡ roomWith (lineText entry (now (name .entry))) (now (room .entry)) ⌝ }
+    ensures { λ r. ⌜ r ≤ room-bytes ⌝ }
 {
     let at = lines::cells(room, 0, entry);
     lines::named(room, at, name)
@@ -45,6 +48,7 @@ pub fn line(entry: Entry, name: &[u8], room: &mut [u8; 65536]) -> usize
 pub fn closing(sums: Sums, highest: Highest, name: &[u8], room: &mut [u8; 65536]) -> usize
     ensures { λ r. ⌜ r ≡ length (closingText sums highest (now (name .entry))) ⌝ }
     ensures { λ r. ⌜ now (room .exit) ≡ roomWith (closingText sums highest (now (name .entry))) (now (room .entry)) ⌝ }
+    ensures { λ r. ⌜ r ≤ room-bytes ⌝ }
 {
     let at = lines::sums(room, 0, sums);
     lines::highest(room, at, highest, name)
@@ -54,6 +58,7 @@ pub fn closing(sums: Sums, highest: Highest, name: &[u8], room: &mut [u8; 65536]
 pub fn write(sheet: Sheet, room: &mut [u8; 65536]) -> usize
     ensures { λ r. ⌜ r ≡ length (sheetText sheet) ⌝ }
     ensures { λ r. ⌜ now (room .exit) ≡ roomWith (sheetText sheet) (now (room .entry)) ⌝ }
+    ensures { λ r. ⌜ r ≤ room-bytes ⌝ }
 {
     let rows = sheet.rows;
     let highest = sheet.highest;

@@ -54,7 +54,7 @@ pub struct Drawn {
 }
 
 // No run.
-const NO_RUN: Run = Run {
+pub const NO_RUN: Run = Run {
     admitted: 0,
     sent: 0,
     lost: 0,

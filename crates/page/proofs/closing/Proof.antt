@@ -1,4 +1,5 @@
 -- `closing` meets its contract: the sums, and the highest loss. Assumes nothing.
+use native.Mathlib.Omega.{arith}
 use borrow.Author.Needs.{needs}
 use Rattle.text.proofs.Stores.{told-then}
 use Rattle.page.proofs.Told.{told-start}
@@ -13,7 +14,7 @@ highest-requires c κs = search needs
 
 returns : tie.Need-returns
 returns c =
-    told-start (told-then (c .before .before .sums .ensures) (c .highest .ensures))
+    told-start (omega arith) (told-then (c .before .before .sums .ensures) (c .highest .ensures))
 
 pub closing-spec : {M : Type 1} → statement M
 closing-spec = tie.close (tie.spec sums-requires highest-requires returns)

@@ -1,4 +1,5 @@
 -- `line` meets its contract: the entry's columns, and its name. Assumes nothing.
+use native.Mathlib.Omega.{arith}
 use borrow.Author.Needs.{needs}
 use Rattle.text.proofs.Stores.{told-then}
 use Rattle.page.proofs.Told.{told-start}
@@ -13,7 +14,7 @@ named-requires c κs = search needs
 
 returns : tie.Need-returns
 returns c =
-    told-start (told-then (c .before .before .cells .ensures) (c .named .ensures))
+    told-start (omega arith) (told-then (c .before .before .cells .ensures) (c .named .ensures))
 
 pub line-spec : {M : Type 1} → statement M
 line-spec = tie.close (tie.spec cells-requires named-requires returns)

@@ -2,6 +2,7 @@
 use Prim.Native.Nat.{ℕ}
 use mathlib.Core.Path.{_≡_, ap, _∙_, subst}
 use mathlib.Core.List.{List}
+use native.Mathlib.Omega.{arith}
 use borrow.Author.Needs.{needs}
 use lib.ListN.{take}
 use Rattle.text.specs.Parts.{Told}
@@ -41,7 +42,7 @@ returns c =
     (λ (text : List ℕ). Told (headed .heading .last .0) (listed .rows2 .last .0) (headed .heading .result) (listed .rows2 .result) text 32_768)
     same
     (listed .rows2 .ensures) in
-    told-start (told-then (headed .heading .ensures) (told-then lines (told-then (summed .sums .ensures) (c .highest-placed .ensures))))
+    told-start (omega arith) (told-then (headed .heading .ensures) (told-then lines (told-then (summed .sums .ensures) (c .highest-placed .ensures))))
 
 pub write-spec : {M : Type 1} → statement M
 write-spec =
