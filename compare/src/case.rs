@@ -2,19 +2,38 @@
 
 use std::fmt::Display;
 
-/// What an input is: a scenario, for `busrun` and `second`, or a script of calls, for `drive` and `replay`.
+/// What an input is: a scenario, for `busrun` and `second`; a script of calls, for `drive` and `replay`; a batch of scenario
+/// files, for `bussheet` and `report`; or a batch of runs in bytes, for `batch` and `tally`.
 #[derive(Clone, Copy, Debug, PartialEq, Eq)]
 pub enum Kind {
     Scenario,
     Script,
+    Files,
+    Runs,
 }
 
-/// An input with its name, and what its output shows.
+/// An input with its name, and what its output shows. The input is on standard input; files are named as arguments.
 #[derive(Clone)]
 pub struct Case {
     pub name: String,
     pub input: Vec<u8>,
+    pub files: Vec<File>,
     pub shows: Vec<Shows>,
+}
+
+/// A file that is named as an argument, and what is there by that name.
+#[derive(Clone, Debug, PartialEq, Eq, PartialOrd, Ord)]
+pub struct File {
+    pub name: Vec<u8>,
+    pub holds: Holds,
+}
+
+/// What is there by a file's name.
+#[derive(Clone, Debug, PartialEq, Eq, PartialOrd, Ord)]
+pub enum Holds {
+    Bytes(Vec<u8>),
+    Folder,
+    Nothing,
 }
 
 /// What an output has to show.
@@ -26,6 +45,8 @@ pub enum Shows {
     Line(String),
     /// Never this line.
     Lacks(String),
+    /// A line that begins so.
+    Begins(&'static str),
     /// Of a listing: a closing line.
     End,
     /// Of a listing: packets that are dropped.
@@ -56,7 +77,12 @@ pub enum Shows {
 
 impl Case {
     pub fn new(name: impl Into<String>, input: impl Into<Vec<u8>>, shows: Vec<Shows>) -> Case {
-        Case { name: name.into(), input: input.into(), shows }
+        Case { name: name.into(), input: input.into(), files: Vec::new(), shows }
+    }
+
+    /// A case of files.
+    pub fn of(name: impl Into<String>, files: Vec<File>, shows: Vec<Shows>) -> Case {
+        Case { files, ..Case::new(name, [], shows) }
     }
 }
 
@@ -68,6 +94,7 @@ impl Shows {
             Shows::Whole(whole) => text == whole,
             Shows::Line(line) => text.lines().any(|other| other == line),
             Shows::Lacks(line) => text.lines().all(|other| other != line),
+            Shows::Begins(part) => text.lines().any(|line| line.starts_with(part)),
             Shows::End => begins("END"),
             Shows::Drop => begins("D"),
             Shows::Tie => text.contains(" T "),
@@ -201,6 +228,7 @@ mod tests {
         shows(Shows::Whole("D 2\n".to_string()), "D 2\n", "D 2\nD 2\n");
         shows(Shows::Line("D 2".to_string()), "D 1\nD 2\n", "D 22\n");
         shows(Shows::Lacks("D 2".to_string()), "D 22\n", "D 1\nD 2\n");
+        shows(Shows::Begins("REFUSED 24 "), "REFUSED 24 1\n", "REFUSED 2 24 1\n");
         shows(Shows::End, "0 P 0 4 I\nEND 1 0 0 0 0\n", "REFUSED 18 0\n");
         shows(Shows::Drop, "D 2\nEND 1 0 0 0 0\n", "END 1 0 0 0 0\n");
         shows(Shows::Tie, "4 T 0 8 C\n", "4 P 0 8 C\n");

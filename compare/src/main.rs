@@ -1,17 +1,19 @@
 //! compare: plays cases through two programs and compares what they write.
 
 use compare::comparing::{differs, play, Pair, Programs};
-use compare::sets::{files, seeded, tables, Set, SCENARIOS, SCRIPTS, SEED};
+use compare::sets::{files, seeded, tables, Set, FILES, RUNS, SCENARIOS, SCRIPTS, SEED};
 use std::process::ExitCode;
 
 const USAGE: &str = "compare: plays cases through pairs of programs and compares what they write to standard output
 
-  compare all PARTS BUSRUN SECOND DRIVE REPLAY FILE..     the tables, the files, and one of so many parts of seeded cases
-  compare differs BUSRUN SECOND DRIVE REPLAY FILE..       the same, all of them, until the first that differs
-  compare seeded SEED COUNT BUSRUN SECOND DRIVE REPLAY    so many seeded scenarios and so many seeded scripts
+  compare all PARTS PROGRAMS FILE..     the tables, the files, and one of so many parts of seeded cases
+  compare differs PROGRAMS FILE..       the same, all of them, until the first that differs
+  compare seeded SEED COUNT PROGRAMS    so many seeded cases of each kind
 
-BUSRUN and SECOND are paths of programs that take a scenario on standard input, DRIVE and REPLAY take a script; a FILE
-that ends in '.script' is a script, any other a scenario. The last line of 'all' and 'seeded' is 'N passed, M failed'.
+PROGRAMS are eight paths: BUSRUN SECOND DRIVE REPLAY BUSSHEET REPORT BATCH TALLY. BUSRUN and SECOND take a scenario on
+standard input, DRIVE and REPLAY a script, BATCH and TALLY a batch of runs; BUSSHEET and REPORT take scenario files as
+arguments. With 'differs' two programs may be '-', and the cases for them are passed over. A FILE that ends in '.script'
+is a script, any other a scenario. The last line of 'all' and 'seeded' is 'N passed, M failed'.
 Exit status: 0 no case failed, or with 'differs' one did; 1 the opposite, or a file cannot be read; 2 bad usage.
 ";
 
@@ -44,7 +46,7 @@ fn done(words: &[&str]) -> Option<Result<bool, String>> {
         }
         ["seeded", seed, count, programs @ ..] => {
             let count = count.parse().ok()?;
-            Ok(play(&seeded(seed.parse().ok()?, count, count), &taken(programs)?.0))
+            Ok(play(&seeded(seed.parse().ok()?, [count; 4]), &taken(programs)?.0))
         }
         _ => return None,
     })
@@ -52,12 +54,13 @@ fn done(words: &[&str]) -> Option<Result<bool, String>> {
 
 /// What the gate plays, with one of so many parts of the seeded cases.
 fn all(parts: usize, paths: &[&str]) -> Result<Vec<Set>, String> {
-    Ok([tables(), files(paths)?, seeded(SEED, SCENARIOS / parts, SCRIPTS / parts)].into_iter().flatten().collect())
+    let counts = [SCENARIOS, SCRIPTS, FILES, RUNS].map(|count| count / parts);
+    Ok([tables(), files(paths)?, seeded(SEED, counts)].into_iter().flatten().collect())
 }
 
-/// The four programs, and the words after them.
+/// The programs, two of each kind, and the words after them.
 fn taken<'a, 'b>(words: &'a [&'b str]) -> Option<(Programs, &'a [&'b str])> {
-    let [busrun, second, drive, replay, rest @ ..] = words else { return None };
-    let pair = |first: &str, second: &str| Pair { first: first.to_string(), second: second.to_string() };
-    Some(([pair(busrun, second), pair(drive, replay)], rest))
+    let (programs, rest) = words.split_at_checked(8)?;
+    let pair = |at: usize| Pair { first: programs[at].to_string(), second: programs[at + 1].to_string() };
+    Some(([0, 2, 4, 6].map(pair), rest))
 }

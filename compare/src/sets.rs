@@ -1,6 +1,7 @@
 //! All cases, in sets: the tables, the seeded ones, and files.
 
-use crate::case::{Case, Kind, Shows};
+use crate::batch::{self, MOST_RUNS};
+use crate::case::{Case, File, Holds, Kind, Shows};
 use crate::{scenario, script};
 use std::borrow::Cow;
 use std::collections::BTreeSet;
@@ -10,6 +11,8 @@ use std::fs;
 pub const SEED: u64 = 1;
 pub const SCENARIOS: usize = 4_000;
 pub const SCRIPTS: usize = 1_160;
+pub const FILES: usize = 40;
+pub const RUNS: usize = 420;
 
 /// Some cases of one kind. Scripts that end with whole commands can be joined to one.
 pub struct Set {
@@ -32,7 +35,7 @@ impl Set {
     /// Cases of which no two have the same input.
     fn listed(name: &'static str, kind: Kind, mut cases: Vec<Case>) -> Set {
         let mut inputs = BTreeSet::new();
-        cases.retain(|case| inputs.insert(case.input.clone()));
+        cases.retain(|case| inputs.insert((case.input.clone(), case.files.clone())));
         Set::new(name, kind, Cases::Listed(cases))
     }
 
@@ -75,18 +78,29 @@ pub fn tables() -> Vec<Set> {
         Set::listed("contenders as a contention begins", Kind::Script, script::contenders()),
         Set::listed("steps, and begins and probes", Kind::Script, script::pairs()),
         Set { joins: false, ..Set::listed("odd texts", Kind::Script, script::odd_texts()) },
+        Set::listed("losses of runs", Kind::Runs, batch::losses()),
+        Set::listed("how many runs there are", Kind::Runs, batch::counts()),
+        Set::listed("runs that do not balance", Kind::Runs, batch::unbalanced()),
+        Set::listed("numbers of a sheet", Kind::Runs, batch::numbers()),
+        Set::listed("cuts of a batch", Kind::Runs, batch::cuts()),
+        Set::listed("sheets of files", Kind::Files, batch::sheets()),
+        Set::listed("names of files", Kind::Files, batch::names()),
     ]
 }
 
-/// So many seeded scenarios and so many seeded scripts.
-pub fn seeded(seed: u64, scenarios: usize, scripts: usize) -> Vec<Set> {
+/// So many seeded cases of each kind.
+pub fn seeded(seed: u64, counts: [usize; 4]) -> Vec<Set> {
+    let [scenarios, scripts, files, runs] = counts;
+    let set = |name, kind, count, draw| Set::new(name, kind, Cases::Drawn { seed, count, draw });
     vec![
-        Set::new("seeded scenarios", Kind::Scenario, Cases::Drawn { seed, count: scenarios, draw: scenario::drawn }),
-        Set::new("seeded scripts", Kind::Script, Cases::Drawn { seed, count: scripts, draw: script::drawn }),
+        set("seeded scenarios", Kind::Scenario, scenarios, scenario::drawn),
+        set("seeded scripts", Kind::Script, scripts, script::drawn),
+        set("seeded batches of files", Kind::Files, files, batch::drawn_files),
+        set("seeded batches of runs", Kind::Runs, runs, batch::drawn_runs),
     ]
 }
 
-/// Files, of which those that end in '.script' are scripts and the others scenarios.
+/// Files, of which those that end in '.script' are scripts and the others scenarios; and the scenarios as one batch.
 pub fn files(paths: &[&str]) -> Result<Vec<Set>, String> {
     let case = |path: &str| {
         let input = fs::read(path).map_err(|fault| format!("{path}: {fault}"))?;
@@ -97,7 +111,21 @@ pub fn files(paths: &[&str]) -> Result<Vec<Set>, String> {
         let paths = paths.iter().filter(|path| path.ends_with(".script") == are_scripts);
         paths.map(|path| case(path)).collect::<Result<_, String>>().map(|cases| Set::listed(name, kind, cases))
     };
-    Ok(vec![set("files of scenarios", Kind::Scenario, false)?, set("files of scripts", Kind::Script, true)?])
+    let (scenarios, scripts) =
+        (set("files of scenarios", Kind::Scenario, false)?, set("files of scripts", Kind::Script, true)?);
+    let one_batch = Set::listed("files of scenarios as one batch", Kind::Files, vec![together(&scenarios)]);
+    Ok(vec![scenarios, scripts, one_batch])
+}
+
+/// The batch of some scenarios, by the last parts of their names.
+fn together(scenarios: &Set) -> Case {
+    let file = |number: usize| {
+        let case = scenarios.case(number);
+        let name = case.name.rsplit('/').next().unwrap_or_default();
+        File { name: name.into(), holds: Holds::Bytes(case.input.clone()) }
+    };
+    let files: Vec<File> = (0..scenarios.count().min(MOST_RUNS)).map(file).collect();
+    Case::of(format!("{} files", files.len()), files, vec![Shows::Begins("highest loss")])
 }
 
 /// A script may say what it writes, in lines that begin with '#> '.
@@ -133,7 +161,7 @@ mod tests {
 
     #[test]
     fn scripts_are_read_to_their_end() {
-        let sets = [tables(), seeded(SEED, 0, 200)].into_iter().flatten();
+        let sets = [tables(), seeded(SEED, [0, 200, 0, 0])].into_iter().flatten();
         for set in sets.filter(|set| set.joins) {
             assert!((0..set.count()).all(|number| set.case(number).input.len() < LONGEST), "{}", set.name);
         }

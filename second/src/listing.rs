@@ -1,18 +1,21 @@
-//! The listing: runs a scenario and writes its lines.
+//! The listing: plays a scenario and writes its lines.
 
 use std::io::Write;
 
-use crate::admission::admit_standing;
 use crate::lines::Lines;
-use crate::scenario::{read, Arrival, Scenario};
-use crate::state::State;
-use crate::step::{step_standing, Answer, Event};
-use crate::totals::totals_standing;
+use crate::play::{play, Told};
+use crate::refusal::Refusal;
+use crate::scenario::{read, Arrival};
+use crate::step::{Answer, Event};
+use crate::totals::Totals;
 
 /// Writes the listing of an input; "A refused scenario prints only `REFUSED number offset`".
 pub fn list<W: Write>(input: &[u8], lines: &mut Lines<W>) {
     match read(input) {
-        Ok(scenario) => run(scenario, lines),
+        Ok(scenario) => {
+            let totals = play(scenario, |told| list_told(&told, lines));
+            list_end(&totals, lines);
+        }
         Err(refused) => lines
             .word("REFUSED")
             .number(refused.refusal.number())
@@ -21,52 +24,25 @@ pub fn list<W: Write>(input: &[u8], lines: &mut Lines<W>) {
     }
 }
 
-/// Runs a scenario's steps; its state comes from a set-up, so it stands throughout.
-fn run<W: Write>(scenario: Scenario, lines: &mut Lines<W>) {
-    let Scenario {
-        mut state,
-        arrivals,
-        steps,
-    } = scenario;
-    let mut ahead = arrivals.as_slice();
-    for _ in 0..steps {
-        ahead = admit_due(&mut state, ahead, lines);
-        let Ok(answer) = step_standing(&mut state) else {
-            break;
-        };
-        list_answer(&answer, lines);
+fn list_told<W: Write>(told: &Told, lines: &mut Lines<W>) {
+    match *told {
+        Told::Refused {
+            clock,
+            arrival,
+            refusal,
+        } => list_refused(clock, arrival, refusal, lines),
+        Told::Answered(answer) => list_answer(answer, lines),
     }
-    list_end(&state, lines);
-}
-
-/// "admits, in file order, the arrivals whose time is not above the clock"; hands back the others.
-fn admit_due<'a, W: Write>(
-    state: &mut State,
-    ahead: &'a [Arrival],
-    lines: &mut Lines<W>,
-) -> &'a [Arrival] {
-    let due = ahead
-        .iter()
-        .take_while(|arrival| arrival.time <= state.clock)
-        .count();
-    let (due, later) = ahead.split_at(due);
-    for arrival in due {
-        admit_arrival(state, arrival, lines);
-    }
-    later
 }
 
 /// "`R slot address number` (the clock, the refusal) for a refused arrival".
-fn admit_arrival<W: Write>(state: &mut State, arrival: &Arrival, lines: &mut Lines<W>) {
-    let admitted = admit_standing(state, arrival.address, arrival.value, arrival.length);
-    if let Err(refusal) = admitted {
-        lines
-            .word("R")
-            .number(state.clock)
-            .number(arrival.address)
-            .number(refusal.number())
-            .close();
-    }
+fn list_refused<W: Write>(clock: u32, arrival: &Arrival, refusal: Refusal, lines: &mut Lines<W>) {
+    lines
+        .word("R")
+        .number(clock)
+        .number(arrival.address)
+        .number(refusal.number())
+        .close();
 }
 
 /// "`D count` if packets were dropped, then `slot phase start size event`".
@@ -103,8 +79,7 @@ fn list_event<W: Write>(event: &Event, lines: &mut Lines<W>) {
 }
 
 /// "Last: `END clock admitted sent lost waiting`."
-fn list_end<W: Write>(state: &State, lines: &mut Lines<W>) {
-    let totals = totals_standing(state);
+fn list_end<W: Write>(totals: &Totals, lines: &mut Lines<W>) {
     lines
         .word("END")
         .number(totals.clock)

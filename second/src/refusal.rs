@@ -25,6 +25,8 @@ pub enum Refusal {
     OutOfPlace = 20,
     ArrivalTime = 21,
     ScenarioTooLong = 22,
+    TooManyRuns = 23,
+    UnbalancedRun = 24,
     ContentionUnderWay = 25,
     NoContention = 26,
 }

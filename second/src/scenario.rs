@@ -178,8 +178,8 @@ fn record_of(kind: u16, body: &[u8]) -> Record {
     }
 }
 
-/// The number in a few bytes of a body, "all little-endian".
-fn little_endian(body: &[u8], from: usize, bytes: usize) -> u32 {
+/// The number in a few bytes, "all little-endian"; those past the end are zero.
+pub(crate) fn little_endian(body: &[u8], from: usize, bytes: usize) -> u32 {
     body.iter()
         .skip(from)
         .take(bytes)

@@ -72,6 +72,11 @@ pub fn pairs() -> Vec<Case> {
     alone_and_with(FAULTS).into_iter().map(|(fault, later)| fault.case(later)).collect()
 }
 
+/// Each fault alone.
+pub fn alone() -> Vec<Case> {
+    FAULTS.iter().map(|fault| fault.case(None)).collect()
+}
+
 impl Fault {
     fn case(&self, later: Option<&Fault>) -> Case {
         let mut records = plain(RTVC).records();

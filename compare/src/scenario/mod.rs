@@ -8,14 +8,14 @@ use crate::case::{Case, Shows};
 use crate::records::{Arrival, Scenario, SetUp, Station, RTDG, RTVC};
 
 pub use drawn::{bus, drawn, value, LARGE, LAXITY_STEPS, SMALL};
-pub use faults::{cuts, far_stations, pairs, sizes};
+pub use faults::{alone, cuts, far_stations, pairs, sizes};
 pub use fields::{falling_times, fields};
 
 /// The slot in which the second arrival of the plain scenario is admitted, whatever the discipline.
 const SLOT: u32 = 3;
 
 /// The scenario that the tables change: D 5 and A 300 are no powers of two, addresses 7 and 263 have one low byte.
-fn plain(discipline: u8) -> Scenario {
+pub fn plain(discipline: u8) -> Scenario {
     let capabilities = if discipline == RTVC { [4, 0, 2] } else { [0; 3] };
     let value = [4, 40, 0][usize::from(discipline)];
     let arrival = |time, address, length| Arrival { time, address, value, length };
