@@ -1,9 +1,10 @@
 -- The examples measured, by computation. Assumes nothing.
 use mathlib.Core.Path.{_≡_, refl}
+use lib.ListN.{take}
 use Rattle.window.specs.Splitting.{exponentOf, isPower}
 use Rattle.listing.specs.Worked.{worked-input}
 use Rattle.measure.specs.Measured.{longer, measured}
-use Rattle.measure.specs.Examples.{finishedWith, later-input}
+use Rattle.measure.specs.Examples.{finishedWith, refusedWith, later-input}
 
 pub worked : measured worked-input ≡ finishedWith 3 3 0 0 14
 unfolding exponentOf isPower longer
@@ -12,3 +13,6 @@ worked = refl
 pub longest-before-the-last : measured later-input ≡ finishedWith 4 3 0 1 2
 unfolding exponentOf isPower longer
 longest-before-the-last = refl
+
+pub cut-short : measured (take 20 worked-input) ≡ refusedWith 18 16
+cut-short = refl

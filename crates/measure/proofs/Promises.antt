@@ -4,6 +4,7 @@
 use Prim.Native.Nat.{ℕ}
 use mathlib.Core.Path.{_≡_}
 use mathlib.Core.List.{List}
+use lib.ListN.{take}
 use Rattle.rules.specs.Lists.{count}
 use Rattle.rules.specs.SetUp.{Request, setUp}
 use Rattle.state.specs.declared.Arrival.{Arrival}
@@ -11,7 +12,7 @@ use Rattle.scenario.specs.Reading.{accepted, reading}
 use Rattle.listing.specs.Run.{answersOf}
 use Rattle.listing.specs.Worked.{worked-input}
 use Rattle.measure.specs.Measured.{succeeded, measured, Fits}
-use Rattle.measure.specs.Examples.{finishedWith, later-input}
+use Rattle.measure.specs.Examples.{finishedWith, refusedWith, later-input}
 use Rattle.measure.proofs.Counted as Counted
 use Rattle.measure.proofs.Examples as Examples
 
@@ -36,3 +37,7 @@ worked = Examples.worked
 -- a run whose longest wait is not that of its last success
 pub longest-before-the-last : measured later-input ≡ finishedWith 4 3 0 1 2
 longest-before-the-last = Examples.longest-before-the-last
+
+-- the worked example cut short inside its first station's record
+pub cut-short : measured (take 20 worked-input) ≡ refusedWith 18 16
+cut-short = Examples.cut-short

@@ -1,4 +1,5 @@
--- Two runs, measured: that of the worked example of paper 01, and one whose longest wait is not that of its last success. Assumes nothing.
+-- Scenarios, measured: the worked example of paper 01, the same cut short, and one whose longest wait is not that of its last success.
+-- Assumes nothing.
 use Prim.Native.Nat.{ℕ}
 use mathlib.Core.List.{List, [], _∷_}
 use Rattle.measure.specs.Measured.{Measured}
@@ -7,6 +8,11 @@ use Rattle.measure.specs.Measured.{Measured}
 abbrev pub finishedWith : ℕ → ℕ → ℕ → ℕ → ℕ → Measured
 finishedWith admitted sent lost waiting wait =
     record { refusal = 0; offset = 0; run = record { admitted = admitted; sent = sent; lost = lost; waiting = waiting; wait = wait } }
+
+-- a scenario that is refused: its number, the offset of what is refused, and no run
+abbrev pub refusedWith : ℕ → ℕ → Measured
+refusedWith number offset =
+    record { refusal = number; offset = offset; run = record { admitted = 0; sent = 0; lost = 0; waiting = 0; wait = 0 } }
 
 -- Its successes wait 1, 2 and 1 slots:
 --     0 P 0 2 C
