@@ -6,12 +6,10 @@ use libc::STDOUT_FILENO;
 use page::Entry;
 use page::Refusal;
 use sheet::Highest;
+use sheet::MOST_RUNS;
 use sheet::Run;
 use sheet::Sheet;
 use sheet::Sums;
-
-// The files that a sheet has lines for at the most.
-const MOST_RUNS: usize = 256;
 
 // What became of a file: whether it could be read, and what was measured; the run of one that could not be read, or that is refused, is zero.
 struct File {

@@ -11,6 +11,7 @@ ghost use Rattle.sheet.specs.declared.Highest.the-variants.{NoFigure};
 ghost use Rattle.page.specs.Page.{aligned, column as columnText, all-places, countsText, name-bytes, shown as shownText, named as namedText, headingText, runCells, refusedText, cells as cellsText, sumsText, lossText, highestText, rowsText, nameOf};
 use crate::Entry;
 use sheet::Highest;
+use sheet::MOST_RUNS;
 use sheet::Run;
 use sheet::Sums;
 
@@ -22,9 +23,6 @@ const WAIT: usize = 12;
 const ALL: usize = 57;
 
 const NAME: usize = 4096;
-
-// The runs that a sheet has at the most.
-const MOST_RUNS: usize = 256;
 
 // How many places a text of this length leaves free.
 fn free(places: usize, size: usize) -> usize
@@ -151,6 +149,7 @@ fn numbered(room: &mut [u8; 65536], at: usize, n: u64) -> usize
     text::put(room, written, b'\n')
 }
 
+// The words over the columns.
 pub fn heading(room: &mut [u8; 65536], at: usize) -> usize
     requires { ⌜ roomy at 63 ⌝ }
     ensures { λ r. ⌜ Told (now (room .entry)) (now (room .exit)) at r headingText 63 ⌝ }
@@ -207,7 +206,7 @@ fn counted(place: usize) -> u64
     ensures { λ r. ⌜ r ≡ min (suc place) most-runs ⌝ }
 {
     if MOST_RUNS <= place {
-        return 256;
+        return MOST_RUNS as u64;
     }
     place as u64 + 1
 }

@@ -6,7 +6,7 @@ mod losses;
 mod rows;
 
 // '23, over 256 runs'
-const MOST_RUNS: usize = 256;
+pub const MOST_RUNS: usize = 256;
 
 // A finished run: the packets admitted, sent, lost and waiting, and the longest wait of a packet that was sent.
 pub struct Run {
