@@ -24,7 +24,7 @@ pub fn measure(input: &[u8]) -> Result<Run, Refused> {
     })
 }
 
-/// "the number of slots from a packet's admission to the slot in which it won", of a success.
+/// "number of slots from a packet's admission to the slot in which it won", of a success.
 fn wait_of(told: &Told) -> Option<u32> {
     match told {
         Told::Answered(answer) => match answer.event {

@@ -2,6 +2,7 @@
 ghost use Prim.Native.Nat.{_≤_};
 ghost use mathlib.Core.Path.{_≡_};
 ghost use lib.ListN.{length};
+ghost use Rattle.sheet.specs.Sheet.{most-runs};
 use libc::STDOUT_FILENO;
 use page::Entry;
 use page::Refusal;
@@ -10,6 +11,9 @@ use sheet::MOST_RUNS;
 use sheet::Run;
 use sheet::Sheet;
 use sheet::Sums;
+
+// The bytes that there is space for: one more than a scenario may have, which is enough to see that it is too long.
+const SPACE: usize = 65_537;
 
 // What became of a file: whether it could be read, and what was measured; the run of one that could not be read, or that is refused, is zero.
 struct File {
@@ -27,24 +31,27 @@ const UNREAD: File = File {
     run: sheet::NO_RUN,
 };
 
-// Space for one byte more than a scenario may have, which is enough to see that it is too long.
+// Space for the bytes of a file.
 fn space() -> [u8; 65537]
     ensures { λ r. ⌜ 65537 ≡ length r ⌝ }
 {
     [0; 65537]
 }
 
-// Whether a file that was read to its end, or as far as there was space, was read without a failure: a further read does not fail.
-fn is_read(fd: i32) -> bool {
+// Whether a file of which so many bytes were read was read without a failure: they fill the space, or a further read finds the end there.
+fn is_read(fd: i32, got: usize) -> bool {
+    if got == SPACE {
+        return true;
+    }
     let mut more = [0u8; 1];
-    libc::read(fd, &mut more) >= 0
+    libc::read(fd, &mut more) == 0
 }
 
 // What becomes of an open file.
 fn measured(fd: i32) -> File {
     let mut input = space();
     let got = io::read_full(fd, &mut input);
-    if !is_read(fd) {
+    if !is_read(fd, got) {
         return UNREAD;
     }
     let m = measure::measure(&input[..got]);
@@ -127,7 +134,7 @@ fn argument_of(highest: Highest) -> usize {
     if p.place < MOST_RUNS { p.place + 1 } else { 0 }
 }
 
-// The same with the name taken from the arguments.
+// Writes the lines that close the sheet, with the name that the arguments have for the highest.
 fn close(sums: Sums, highest: Highest) {
     let mut name = io::buffer();
     let length = os::arg(argument_of(highest), &mut name);
@@ -136,7 +143,7 @@ fn close(sums: Sums, highest: Highest) {
 
 // Writes a sheet and what became of its files, as long as it can be written.
 fn write(sheet: Sheet, files: [File; 256], count: usize)
-    requires { ⌜ count ≤ 256 ⌝ }
+    requires { ⌜ count ≤ most-runs ⌝ }
 {
     if !write_heading() {
         return;

@@ -14,7 +14,8 @@ use Rattle.bus.specs.Stretch.{row-places, noArrival}
 use Rattle.scenario.specs.declared.Record.the-variants as Is
 use Rattle.scenario.specs.Format.{Said, readRecord, said}
 use Rattle.scenario.specs.Reading.{arrival-bytes, arrivalFrom}
-use Rattle.scenario.proofs.Arrivals.{ArrivalsAt, arrivals-here, arrivals-none}
+use Rattle.scenario.specs.Parts.{ArrivalsAt}
+use Rattle.scenario.proofs.Arrivals.{arrivals-here, arrivals-none}
 use Rattle.scenario.proofs.ReadingLaws.{arrival-within}
 use Rattle.listing.specs.Turns.{arrivalsIn, nextArrivals, arrivalsForm}
 

@@ -22,7 +22,7 @@ use Rattle.bus.specs.Coded.{totalsOf}
 use Rattle.bus.specs.Stretch.{row-places, Course, most-calls, course}
 use Rattle.state.proofs.Form.{standing-fits, meaning-form, padded-form}
 use Rattle.scenario.specs.Reading.{arrival-bytes, Reading, refused, accepted, reading, stationOffset, scenarioForm}
-use Rattle.scenario.proofs.Arrivals.{ArrivalsAt}
+use Rattle.scenario.specs.Parts.{ArrivalsAt}
 use Rattle.scenario.proofs.Sound.{Sound, sound}
 use Rattle.listing.specs.Text.{refusedText}
 use Rattle.listing.specs.Run.{closingText, runText, listingOf, listing}

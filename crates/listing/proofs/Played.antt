@@ -26,7 +26,7 @@ use Rattle.state.proofs.Form.{standing-fits}
 use Rattle.bus.proofs.Coded.{coded-admit, coded-step}
 use Rattle.bus.proofs.Promises.{answer-read}
 use Rattle.listing.specs.Text.{refusalText, droppedText, probedText}
-use Rattle.listing.specs.Run.{Left, admitDue, runText, answersOf, endOf}
+use Rattle.listing.specs.Run.{Left, admitDue, closingText, runText, answersOf, endOf}
 use Rattle.listing.specs.Turns.{Play, reportText, reportsText, answersIn, courseOf}
 
 -- ---- what a stretch takes and leaves
@@ -152,6 +152,23 @@ end-steps :
     (steps : ℕ) (b : Bus) (arrivals : List Arrival) → None-due b arrivals
     → endOf (suc steps) b arrivals ≡ endOf steps (step b .1) arrivals
 end-steps steps b arrivals h = ap (λ (x : Left). endOf steps (step (x .bus) .1) (x .arrivals)) (none-admitted b arrivals h)
+
+-- a run's text ends with the line that tells the counts of the bus at its end
+pub run-ends : (steps : ℕ) (b : Bus) (arrivals : List Arrival) → (text : List ℕ) × (runText steps b arrivals ≡ text ++ closingText (endOf steps b arrivals))
+run-ends zero b arrivals = ([], refl)
+run-ends (suc steps) b arrivals =
+    let x = admitDue b arrivals in
+    let r = step (x .bus) in
+    let drops = droppedText (r .0) in
+    let probe = probedText (r .0) in
+    let rest = run-ends steps (r .1) (x .arrivals) in
+    let end = closingText (endOf steps (r .1) (x .arrivals)) in (
+      x .text ++ (drops ++ (probe ++ rest .0)),
+      ap (λ (l : List ℕ). x .text ++ (drops ++ (probe ++ l))) (rest .1)
+          ∙ ap (λ (l : List ℕ). x .text ++ (drops ++ l)) (sym (append-assoc probe (rest .0) end))
+          ∙ ap (λ (l : List ℕ). x .text ++ l) (sym (append-assoc drops (probe ++ rest .0) end))
+          ∙ sym (append-assoc (x .text) (drops ++ (probe ++ rest .0)) end),
+    )
 
 -- ---- a stretch of the run
 

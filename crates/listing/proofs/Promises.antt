@@ -4,16 +4,18 @@
 use Prim.Native.Nat.{ℕ, _≤_, _<_}
 use mathlib.Core.Path.{_≡_}
 use mathlib.Core.Bool.{true, false}
-use mathlib.Core.List.{List}
+use mathlib.Core.List.{List, _++_}
 use Rattle.rules.specs.Lists.{All}
+use Rattle.rules.specs.Bus.{Bus}
 use Rattle.rules.specs.SetUp.{Request, setUp}
 use Rattle.state.specs.declared.Arrival.{Arrival}
 use Rattle.scenario.specs.Reading.{accepted, reading}
 use Rattle.scenario.specs.Writing.{Bytes, written, Good}
-use Rattle.listing.specs.Run.{listing, answersOf}
+use Rattle.listing.specs.Run.{closingText, runText, listing, answersOf, endOf}
 use Rattle.listing.specs.Turns.{Play, opened, turn, handed, turnsLeft, played}
 use Rattle.listing.specs.Worked.{worked-input, worked-output, worked-request, worked-arrivals, timed-input, timed-output, waited-input, waited-output}
 use Rattle.listing.proofs.Handed as Handed
+use Rattle.listing.proofs.Played as Played
 use Rattle.listing.proofs.NeverRefused as NeverRefused
 use Rattle.listing.proofs.Worked as Worked
 
@@ -35,6 +37,10 @@ pub never-refused :
     (input : List ℕ) (r : Request) (arrivals : List Arrival) (steps : ℕ) → reading input ≡ accepted r arrivals steps → Bytes input
     → All (λ a. a .refusal ≡ 0) (answersOf steps (setUp r .1) arrivals)
 never-refused = NeverRefused.never-refused-bytes
+
+-- a run's text ends with the line that tells the counts of the bus at its end
+pub run-ends : (steps : ℕ) (b : Bus) (arrivals : List Arrival) → (text : List ℕ) × (runText steps b arrivals ≡ text ++ closingText (endOf steps b arrivals))
+run-ends = Played.run-ends
 
 -- the worked example of paper 01
 pub worked : listing worked-input ≡ worked-output

@@ -24,7 +24,7 @@ use Rattle.bus.specs.Coded.{totalsOf}
 use Rattle.bus.specs.Stretch.{Course, most-calls, noReport, stretchForm}
 use Rattle.scenario.specs.declared.Scenario.{Scenario}
 use Rattle.scenario.specs.Reading.{arrival-bytes, Reading, refused, accepted, reading, scenarioForm}
-use Rattle.scenario.proofs.Arrivals.{ArrivalsAt}
+use Rattle.scenario.specs.Parts.{ArrivalsAt}
 use Rattle.scenario.proofs.Sound.{Sound, sound}
 use Rattle.listing.specs.Run.{answersOf, endOf}
 use Rattle.listing.specs.declared.Play.{Play}

@@ -1,7 +1,6 @@
 -- A run measured (P2): from the bytes of a scenario to its finished run, or to the number and the offset of what refuses it. The counts are those
 -- of the rules' machine at the run's end, and the longest wait is over its answers. Assumes nothing.
-use Prim.Native.Nat.{ℕ, _+_, _<_, max}
-use mathlib.Core.Path.{_≡_}
+use Prim.Native.Nat.{ℕ, _<_, max}
 use mathlib.Core.Bool.{Bool, cond}
 use mathlib.Core.List.{List, [], _∷_}
 use lib.Dec.{eqb}

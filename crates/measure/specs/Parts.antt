@@ -10,7 +10,7 @@ use Rattle.state.specs.declared.Arrival.{Arrival}
 use Rattle.state.specs.State.{form}
 use Rattle.bus.specs.declared.Report.{Report}
 use Rattle.bus.specs.Coded.{answerOf}
-use Rattle.scenario.proofs.Arrivals.{ArrivalsAt}
+use Rattle.scenario.specs.Parts.{ArrivalsAt}
 use Rattle.listing.specs.Run.{answersOf, endOf}
 use Rattle.sheet.specs.declared.Run.{Run}
 use Rattle.measure.specs.Measured.{waitIn, longer, longestWait, runOf}

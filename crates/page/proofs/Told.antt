@@ -20,7 +20,7 @@ use Rattle.sheet.proofs.Sheet as sheet-row
 use Rattle.sheet.specs.declared.Run.{Run}
 use Rattle.sheet.specs.declared.Sheet.{Sheet}
 use Rattle.sheet.specs.Sheet.{most-runs, noRun}
-use Rattle.page.specs.Page.{name-bytes, shown, refusedText, lineText, placeText, rowsText}
+use Rattle.page.specs.Page.{name-bytes, shown, refusalWords, lineText, placeText, rowsText}
 use Rattle.page.specs.declared.Entry.the-variants as Has
 
 -- a call stored its text, which fits
@@ -29,7 +29,7 @@ pub told-here :
     → (next ≡ past at text) × (after ≡ stored room at text) → Told room after at next text (length text)
 told-here room at text h said = told-stored room at text (length text) h (omega arith) said
 
--- a text that was told is no longer than it is
+-- a text that was told, with another bound on its length
 pub told-few : {a b : List ℕ} {at n : ℕ} {x : List ℕ} {p q : ℕ} → Told a b at n x p → length x ≤ q → Told a b at n x q
 told-few told h = record { room = told .room; past = told .past; few = h }
 
@@ -53,7 +53,7 @@ unfolding shown
 number-shown n few = take-all name-bytes (decimal n) (omega arith)
 
 -- how long 'REFUSED number offset' is
-pub refused-length : (n o : ℕ) → length (refusedText n o) ≡ 9 + length (decimal n) + length (decimal o)
+pub refused-length : (n o : ℕ) → length (refusalWords n o) ≡ 9 + length (decimal n) + length (decimal o)
 refused-length n o = omega (arith, length-append (decimal n) (space ∷ decimal o))
 
 -- ---- the lines of the runs
@@ -92,5 +92,5 @@ rows-within runs count full = go (leb count most-runs) refl
         ap (λ n. take n runs) (min-eq-right under) ∙ take-all most-runs runs (omega arith) ∙ sym (take-all count runs (omega arith))
 
 -- the array of rows in the code has as many places as a sheet has runs at the most
-pub rows-array : (s : Sheet) (vs : List Val) → Is sheet-row.the-row s vs → length (s .rows) ≡ 256
+pub rows-array : (s : Sheet) (vs : List Val) → Is sheet-row.the-row s vs → length (s .rows) ≡ most-runs
 rows-array s vs owned = sym (length-map (s .rows) _) ∙ owned .1 .1 .0 .1 .0 .1

@@ -101,13 +101,13 @@ runCells r =
     countsText (decimal (r .admitted)) (decimal (r .sent)) (decimal (r .lost)) (decimal (r .waiting)) ++ column wait-places (decimal (r .wait))
 
 -- 'REFUSED number offset'
-abbrev pub refusedText : ℕ → ℕ → List ℕ
-refusedText number offset = REFUSED ++ (space ∷ (decimal number ++ (space ∷ decimal offset)))
+abbrev pub refusalWords : ℕ → ℕ → List ℕ
+refusalWords number offset = REFUSED ++ (space ∷ (decimal number ++ (space ∷ decimal offset)))
 
 -- what stands in the columns of an entry: a run's numbers, that a scenario was refused, or that a file could not be read
 abbrev pub cells : Entry → List ℕ
 cells (Has.Run r) = runCells r
-cells (Has.Refused x) = aligned all-places (refusedText (x .number) (x .offset))
+cells (Has.Refused x) = aligned all-places (refusalWords (x .number) (x .offset))
 cells Has.Unread = aligned all-places UNREADABLE
 
 abbrev pub lineText : Entry → List ℕ → List ℕ

@@ -8,7 +8,7 @@ ghost use Rattle.text.specs.Text.{decimal};
 ghost use Rattle.text.specs.Parts.{Told, roomy};
 ghost use Rattle.sheet.specs.Sheet.{most-runs};
 ghost use Rattle.sheet.specs.declared.Highest.the-variants.{NoFigure};
-ghost use Rattle.page.specs.Page.{aligned, column as columnText, all-places, countsText, name-bytes, shown as shownText, named as namedText, headingText, runCells, refusedText, cells as cellsText, sumsText, lossText, highestText, rowsText, nameOf};
+ghost use Rattle.page.specs.Page.{aligned, column as columnText, all-places, countsText, name-bytes, shown as shownText, named as namedText, headingText, runCells, refusalWords, cells as cellsText, sumsText, lossText, highestText, rowsText, nameOf};
 use crate::Entry;
 use sheet::Highest;
 use sheet::MOST_RUNS;
@@ -82,7 +82,7 @@ fn run_cells(room: &mut [u8; 65536], at: usize, run: Run) -> usize
 // 'REFUSED number offset'
 fn refused(room: &mut [u8; 65536], at: usize, number: u32, offset: usize) -> usize
     requires { ⌜ roomy at 39 ⌝ }
-    ensures { λ r. ⌜ Told (now (room .entry)) (now (room .exit)) at r (refusedText number offset) 39 ⌝ }
+    ensures { λ r. ⌜ Told (now (room .entry)) (now (room .exit)) at r (refusalWords number offset) 39 ⌝ }
 {
     let word = text::letters(room, at, b"REFUSED ");
     let first = text::number(room, word, number as u64);
@@ -93,7 +93,7 @@ fn refused(room: &mut [u8; 65536], at: usize, number: u32, offset: usize) -> usi
 // The same right-aligned in the columns' places.
 fn refused_cells(room: &mut [u8; 65536], at: usize, number: u32, offset: usize) -> usize
     requires { ⌜ roomy at 105 ⌝ }
-    ensures { λ r. ⌜ Told (now (room .entry)) (now (room .exit)) at r (aligned all-places (refusedText number offset)) 105 ⌝ }
+    ensures { λ r. ⌜ Told (now (room .entry)) (now (room .exit)) at r (aligned all-places (refusalWords number offset)) 105 ⌝ }
 {
     let size = 9 + text::digits_of(number as u64) + text::digits_of(offset as u64);
     let aligned = text::spaces(room, at, free(ALL, size));
@@ -211,7 +211,7 @@ fn counted(place: usize) -> u64
     place as u64 + 1
 }
 
-// The same with the run's place for a name.
+// The line of the highest loss, with the run's place for a name.
 pub fn highest_placed(room: &mut [u8; 65536], at: usize, highest: Highest) -> usize
     requires { ⌜ roomy at 77 ⌝ }
     ensures { λ r. ⌜ Told (now (room .entry)) (now (room .exit)) at r (highestText highest (nameOf highest)) 77 ⌝ }
@@ -223,7 +223,7 @@ pub fn highest_placed(room: &mut [u8; 65536], at: usize, highest: Highest) -> us
     numbered(room, written, counted(p.place))
 }
 
-// 'A count above 256 counts as 256'
+// A count above 256 counts as 256.
 pub fn at_most(count: usize) -> usize
     ensures { λ r. ⌜ r ≡ min count most-runs ⌝ }
 {
@@ -235,7 +235,7 @@ pub fn at_most(count: usize) -> usize
 
 // The lines of the first so many runs, each with its place, counted from 1, for a name.
 pub fn rows(room: &mut [u8; 65536], at: usize, runs: [Run; 256], count: usize) -> usize
-    requires { ⌜ count ≤ 256 ⌝ }
+    requires { ⌜ count ≤ most-runs ⌝ }
     requires { ⌜ roomy at 32768 ⌝ }
     ensures { λ r. ⌜ Told (now (room .entry)) (now (room .exit)) at r (rowsText 0 (take count runs)) 32768 ⌝ }
 {

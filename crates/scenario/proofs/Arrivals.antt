@@ -13,15 +13,8 @@ use Rattle.state.specs.declared.Arrival.{Arrival}
 use Rattle.scenario.specs.Format.{Said, readRecord, outOfPlace}
 use Rattle.scenario.specs.Reading.{arrival-bytes, run-bytes, arrivalFrom, stepsFrom}
 use Rattle.scenario.specs.Reading.{EndingRead, refusedEnding, withArrival, runFrom, arrivalsFrom}
+use Rattle.scenario.specs.Parts.{ArrivalsAt}
 use Rattle.scenario.proofs.ReadingLaws.{arrivalsBy}
-
--- From an offset of the input on there stand these arrivals, none of a time below the one before it, and then the run: they are what some
--- number of turns collects, after some previous time, with no refusal.
-pub record ArrivalsAt (input : List ℕ) (at : ℕ) (arrivals : List Arrival) : Type 0 where
-  pub turns : ℕ
-  pub previous : ℕ
-  pub fine : arrivalsFrom turns previous at (drop at input) .refusal ≡ 0
-  pub collected : arrivalsFrom turns previous at (drop at input) .arrivals ≡ arrivals
 
 -- what no turn refuses is, where the record says an arrival, that arrival and those after it
 taken :

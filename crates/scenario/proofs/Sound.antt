@@ -17,7 +17,7 @@ use Rattle.scenario.specs.Reading.{Reading, refused, accepted, stationOf
 use Rattle.scenario.specs.Reading.{readSettings, reading}
 use Rattle.scenario.specs.Parts.{endingAt}
 use Rattle.scenario.proofs.WrittenRecords.{told, place-refused}
-use Rattle.scenario.proofs.Arrivals.{ArrivalsAt}
+use Rattle.scenario.specs.Parts.{ArrivalsAt}
 
 -- 'REFUSED number' bears a number; what is accepted is set up, and its arrivals stand from past its stations on
 abbrev pub Sound : List ℕ → Reading → Type 0

@@ -1,10 +1,12 @@
 -- What the private functions of src/ are held to; for readers of those alone. Assumes nothing.
 use Prim.Native.Nat.{ℕ, suc}
+use mathlib.Core.Path.{_≡_}
 use mathlib.Core.Bool.{Bool, true, false, cond}
 use mathlib.Core.Option.{Option, none, some}
 use mathlib.Core.List.{List}
 use lib.Dec.{eqb}
 use lib.ListN.{length, drop}
+use Rattle.state.specs.declared.Arrival.{Arrival}
 use Rattle.scenario.specs.declared.Passed.{Passed}
 use Rattle.scenario.specs.declared.Ending.{Ending}
 use Rattle.scenario.specs.Format.{Kind, Said, kinds, rowOf, setUpKind, stationKind, arrivalKind, runKind, saidBy, readRecord}
@@ -46,3 +48,13 @@ endingAt input at = arrivalsFrom (suc (length input)) 0 at (drop at input)
 abbrev pub afterPassed : List ℕ → Passed → Ending
 afterPassed input p =
     cond (eqb (p .refusal) 0) (endingForm (runAt input (p .at))) (record { refusal = p .refusal; offset = p .at; steps = 0 })
+
+-- ---- for callers that take the arrivals one by one
+
+-- From an offset of the input on there stand these arrivals, none of a time below the one before it, and then the run: they are what some
+-- number of turns collects, after some previous time, with no refusal.
+pub record ArrivalsAt (input : List ℕ) (at : ℕ) (arrivals : List Arrival) : Type 0 where
+  pub turns : ℕ
+  pub previous : ℕ
+  pub fine : arrivalsFrom turns previous at (drop at input) .refusal ≡ 0
+  pub collected : arrivalsFrom turns previous at (drop at input) .arrivals ≡ arrivals

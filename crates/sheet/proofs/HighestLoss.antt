@@ -1,8 +1,7 @@
 -- The highest loss of a batch is what its case says, and only one case says it. Assumes nothing.
-use Prim.Native.Nat.{ℕ, zero, suc, _+_, _*_, _≤_, _<_}
+use Prim.Native.Nat.{ℕ, zero, suc, _*_, _<_}
 use native.Mathlib.Nat.{zero-mul}
 use mathlib.Core.Path.{_≡_, refl, sym, ap, _∙_, subst}
-use mathlib.Core.Logic.{_⊎_, inl, inr, ⊎-elim}
 use mathlib.Core.Bool.{Bool, true, false, cond}
 use mathlib.Core.List.{List, [], _∷_, _++_, append-nil}
 use native.Mathlib.Numerals.{add-one}
@@ -14,7 +13,7 @@ use lib.Seq.{append-snoc, getD-append-seam}
 use Rattle.sheet.specs.Losses.{Loss, Figure, AtMost, Below, above}
 use Rattle.sheet.specs.Sheet.{Run, Highest, Placed, noRun, lossOf, hasFigure, placed, lossAt, further, highestFrom, highestOf, IsHighest, Says}
 use Rattle.sheet.specs.declared.Highest.the-variants as Is
-use Rattle.sheet.proofs.Order.{at-most-itself, above-is, above-not, at-most-then, at-most-below, below-at-most-itself, not-both, either}
+use Rattle.sheet.proofs.Order.{at-most-itself, above-is, above-not, at-most-below, below-at-most-itself, not-both}
 
 -- the loss of the run at a place
 abbrev lossIn : List Run → ℕ → Loss

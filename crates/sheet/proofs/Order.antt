@@ -1,5 +1,5 @@
 -- The order of losses by cross products: it is an order wherever there are figures, for numbers of any size. Assumes nothing.
-use Prim.Native.Nat.{ℕ, _*_, _≤_, _<_}
+use Prim.Native.Nat.{_*_}
 use mathlib.Core.Path.{_≡_, refl}
 use mathlib.Core.Logic.{_⊎_, inl, inr}
 use mathlib.Core.Bool.{Bool, true, false}
@@ -39,7 +39,7 @@ module _ (a b c : Loss) where
   right : (c .lost * b .ended) * a .ended ≡ (c .lost * a .ended) * b .ended
   right = mul-right-comm (c .lost) (b .ended) (a .ended)
 
-  -- 'transitive where denominators are not 0': the middle one's is enough
+  -- transitive where the middle one has a figure
   pub at-most-then : Figure b → AtMost a b → AtMost b c → AtMost a c
   at-most-then figure h k =
       let first = mul-le-mul-right (c .ended) h in

@@ -3,7 +3,7 @@ use Prim.Native.Nat.{ℕ, _+_, _*_, _≤_, _<_}
 use mathlib.Core.Bool.{Bool, cond}
 use lib.Dec.{ltb}
 use Rattle.sheet.specs.Losses.{Loss, above}
-use Rattle.sheet.specs.Sheet.{Run, Sums, Highest, Placed}
+use Rattle.sheet.specs.Sheet.{Run, Sums, Highest}
 use Rattle.sheet.specs.declared.Highest.the-variants as Is
 
 -- a number that 32 bits hold

@@ -1,5 +1,4 @@
 -- `lines::counts` meets its contract: four columns, one after the other. Assumes nothing.
-use native.Mathlib.Omega.{arith}
 use borrow.Author.Needs.{needs}
 use Rattle.text.proofs.Stores.{told-then}
 use Rattle.page.proofs.lines.counts.Statement.{statement}

@@ -1,10 +1,10 @@
 -- `lines::named` meets its contract: two spaces, the name as far as it is shown, and the newline. Assumes nothing.
 use Prim.Native.Nat.{ℕ}
-use mathlib.Core.Path.{_≡_, sym, subst}
+use mathlib.Core.Path.{sym, subst}
 use mathlib.Core.List.{List, [], _∷_, _++_}
 use native.Mathlib.Omega.{arith}
 use borrow.Author.Needs.{needs}
-use lib.ListN.{length, take}
+use lib.ListN.{take}
 use lib.Seq.{length-take-le}
 use Rattle.text.specs.Text.{space, newline}
 use Rattle.text.specs.Parts.{Told}

@@ -8,7 +8,7 @@ use Rattle.text.specs.Text.{space}
 use Rattle.text.specs.Parts.{Told}
 use Rattle.text.proofs.Decimals.{decimal-short, decimal-long}
 use Rattle.text.proofs.Stores.{told-then, told-within, told-stored}
-use Rattle.page.specs.Page.{all-places, refusedText}
+use Rattle.page.specs.Page.{all-places, refusalWords}
 use Rattle.page.proofs.Told.{refused-length}
 use Rattle.page.proofs.lines.refused_cells.Statement.{statement}
 use Rattle.page.proofs.lines.refused_cells.Tie as tie
@@ -17,12 +17,12 @@ use Rattle.page.proofs.lines.refused_cells.Tie as tie
 gap :
     (c : tie.After-spaces)
     → let args = c .before .before .before .before .before .args in
-    let free = all-places - length (refusedText (args .number) (args .offset)) in
+    let free = all-places - length (refusalWords (args .number) (args .offset)) in
     Told (args .room .now) (c .spaces .last .0) (args .at) (c .spaces .result) (replicate free space) 57
 gap c =
     let offsets = c .before .before .before in
     let args = offsets .before .before .args in
-    let free = all-places - length (refusedText (args .number) (args .offset)) in
+    let free = all-places - length (refusalWords (args .number) (args .offset)) in
     let left : c .before .free .result ≡ free =
     c .before .free .ensures
     ∙ ap

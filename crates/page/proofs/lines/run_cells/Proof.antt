@@ -1,5 +1,4 @@
 -- `lines::run_cells` meets its contract: four counts and the longest wait. Assumes nothing.
-use native.Mathlib.Omega.{arith}
 use borrow.Author.Needs.{needs}
 use Rattle.text.proofs.Stores.{told-then}
 use Rattle.page.proofs.lines.run_cells.Statement.{statement}

@@ -2,7 +2,6 @@
 use mathlib.Core.Path.{sym, _∙_}
 use native.Mathlib.Omega.{arith}
 use borrow.Author.Needs.{needs}
-use lib.ListN.{length}
 use lib.Seq.{take-all, take-length}
 use Rattle.page.specs.Page.{shown}
 use Rattle.page.proofs.lines.shown.Statement.{statement}

@@ -1,14 +1,11 @@
 -- `losses::takes_place` meets its contract: by whether one was found, and two products of numbers of 32 bits. Assumes nothing.
 use Prim.Native.Nat.{ℕ, _*_, _<_}
-use mathlib.Core.Path.{_≡_, sym, ap, _∙_}
-use mathlib.Core.Bool.{Bool, cond}
+use mathlib.Core.Path.{sym, ap}
 use native.Mathlib.Nat.{mul-le-mul}
 use native.Mathlib.Omega.{arith}
 use borrow.Author.Needs.{needs}
 use borrow.Author.Tests.{not-true, not-false}
-use lib.Dec.{ltb}
-use Rattle.sheet.specs.Losses.{above}
-use Rattle.sheet.specs.Parts.{short, loss}
+use Rattle.sheet.specs.Parts.{short, loss, takesPlace}
 use Rattle.sheet.proofs.losses.takes_place.Statement.{statement}
 use Rattle.sheet.proofs.losses.takes_place.Tie as tie
 
@@ -20,7 +17,7 @@ product-fits m n h k =
 returns : tie.Need-returns
 returns c =
     let args = c .before .args in
-    sym (ap (λ t. cond t (above (loss (args .lost) (args .ended)) (loss (args .most) (args .over))) (ltb 0 (args .ended))) (not-true (args .found) (c .if1 .taken)))
+    sym (ap (λ t. takesPlace t (loss (args .most) (args .over)) (loss (args .lost) (args .ended))) (not-true (args .found) (c .if1 .taken)))
 
 mul-result : tie.Need-mul-result
 mul-result c =
@@ -37,7 +34,7 @@ mul-result-2 c =
 returns-2 : tie.Need-returns-2
 returns-2 c =
     let args = c .before .args in
-    sym (ap (λ t. cond t (above (loss (args .lost) (args .ended)) (loss (args .most) (args .over))) (ltb 0 (args .ended))) (not-false (args .found) (c .if1 .left)))
+    sym (ap (λ t. takesPlace t (loss (args .most) (args .over)) (loss (args .lost) (args .ended))) (not-false (args .found) (c .if1 .left)))
 
 pub takes-place-spec : {M : Type 1} → statement M
 takes-place-spec = tie.close (tie.spec returns mul-result mul-result-2 returns-2)
