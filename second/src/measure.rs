@@ -40,23 +40,12 @@ mod tests {
     use super::measure;
     use crate::refusal::Refusal;
     use crate::scenario::Refused;
-    use crate::sheet::Run;
+    use crate::sheet::tests::run;
 
     const WORKED: &[u8] = include_bytes!("../../examples/worked.scenario");
     const RTDG: &[u8] = include_bytes!("../../examples/rtdg.scenario");
     const TURNED_AWAY: &[u8] = include_bytes!("../../examples/turned-away.scenario");
     const CUT: &[u8] = include_bytes!("../../examples/cut.scenario");
-
-    fn run(counts: [u32; 4], longest_wait: u32) -> Run {
-        let [admitted, sent, lost, waiting] = counts;
-        Run {
-            admitted,
-            sent,
-            lost,
-            waiting,
-            longest_wait,
-        }
-    }
 
     /// One PRI station: its arrivals, by time, priority and length, and the steps.
     fn one_station(arrivals: &[(u8, u8, u8)], steps: u8) -> Vec<u8> {

@@ -260,10 +260,11 @@ fn name_of(entries: &[Entry], place: usize) -> &[u8] {
 }
 
 #[cfg(test)]
-mod tests {
+pub(crate) mod tests {
     use super::*;
 
-    fn run(counts: [u32; 4], longest_wait: u32) -> Run {
+    /// A run of these counts: admitted, sent, lost, waiting.
+    pub(crate) fn run(counts: [u32; 4], longest_wait: u32) -> Run {
         let [admitted, sent, lost, waiting] = counts;
         Run {
             admitted,

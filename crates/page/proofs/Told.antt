@@ -12,7 +12,7 @@ use native.Mathlib.Numerals.{add-one}
 use native.Mathlib.Omega.{arith}
 use lib.ListN.{length, getD, take, length-map, length-append}
 use lib.Seq.{take-all, take-suc, length-take-le}
-use Rattle.text.specs.Text.{space, decimal}
+use Rattle.text.specs.Text.{decimal, fields}
 use Rattle.text.specs.Room.{room-bytes, stored, past, roomWith}
 use Rattle.text.specs.Parts.{Told}
 use Rattle.text.proofs.Stores.{told-stored, sets-start, room-kept}
@@ -54,7 +54,7 @@ number-shown n few = take-all name-bytes (decimal n) (omega arith)
 
 -- how long 'REFUSED number offset' is
 pub refused-length : (n o : ℕ) → length (refusalWords n o) ≡ 9 + length (decimal n) + length (decimal o)
-refused-length n o = omega (arith, length-append (decimal n) (space ∷ decimal o))
+refused-length n o = omega (arith, length-append (decimal n) (fields (o ∷ [])), length-append (decimal o) [])
 
 -- ---- the lines of the runs
 

@@ -2,7 +2,7 @@
 use Prim.Native.Nat.{ℕ, suc, _-_, min}
 use mathlib.Core.List.{List, [], _∷_, _++_}
 use lib.ListN.{length, take, replicate}
-use Rattle.text.specs.Text.{space, newline, decimal, REFUSED}
+use Rattle.text.specs.Text.{space, newline, decimal, fields, REFUSED}
 pub use Rattle.page.specs.declared.Entry.{Entry}
 use Rattle.page.specs.declared.Entry.the-variants as Has
 use Rattle.sheet.specs.declared.Highest.the-variants as Is
@@ -102,7 +102,7 @@ runCells r =
 
 -- 'REFUSED number offset'
 abbrev pub refusalWords : ℕ → ℕ → List ℕ
-refusalWords number offset = REFUSED ++ (space ∷ (decimal number ++ (space ∷ decimal offset)))
+refusalWords number offset = REFUSED ++ fields (number ∷ offset ∷ [])
 
 -- what stands in the columns of an entry: a run's numbers, that a scenario was refused, or that a file could not be read
 abbrev pub cells : Entry → List ℕ

@@ -4,7 +4,7 @@ use native.Mathlib.Omega.{arith}
 use borrow.Author.Needs.{needs}
 use Rattle.text.specs.Text.{space, decimal, REFUSED}
 use Rattle.text.proofs.Decimals.{decimal-short, decimal-long}
-use Rattle.text.proofs.Stores.{told-then, told-within}
+use Rattle.text.proofs.Stores.{told-none, told-then, told-within}
 use Rattle.page.proofs.Told.{told-here}
 use Rattle.page.proofs.lines.refused.Statement.{statement}
 use Rattle.page.proofs.lines.refused.Tie as tie
@@ -36,7 +36,7 @@ returns c =
     let b = told-here (word .letters .last .0) (word .letters .result) (decimal (args .number)) (omega (arith, a .past)) (first .number .ensures) in
     let d = told-here (first .number .last .0) (first .number .result) (space ∷ []) (omega (arith, a .past, b .past)) (apart .put .ensures) in
     let e = told-here (apart .put .last .0) (apart .put .result) (decimal (args .offset)) (omega (arith, a .past, b .past, d .past)) (c .number2 .ensures) in
-    told-within (told-then a (told-then b (told-then d e))) (omega arith)
+    told-within (told-then a (told-then b (told-then d (told-then e (told-none _ _ 0))))) (omega arith)
 
 pub refused-spec : {M : Type 1} → statement M
 refused-spec =
