@@ -15,7 +15,7 @@ use Rattle.rules.specs.Lists.{keep, Among, at-head, All, Some}
 use Rattle.rules.specs.Bus.{late, Discipline, RTDG, RTVC, code, Packet, Station, Contention, Bus}
 use Rattle.rules.specs.SetUp.{Asked}
 use Rattle.rules.specs.Standing.{asked, Rising, Standing}
-use Rattle.rules.specs.Admission.{Arrival, named, newPacket, queued, joined, withPacket}
+use Rattle.rules.specs.Admission.{Arrival, named, newPacket, queued, joined, withPacket, turnedAway}
 use Rattle.rules.specs.Begin.{chosen, choice, sits-out, offers, inTime, entered, begin, parameterOf}
 use Rattle.rules.specs.Probe.{Answer, Contender, contenderOf, able, transmits, transmitters, goesOn, withdrawn, unwon, left, lastWinner, won, split, unheard, heard, probe, success, idle}
 use Rattle.rules.specs.Step.{openedBy, opened}
@@ -105,6 +105,21 @@ module _ (row : List Asked) (D : ℕ) (s : Station) (p : Packet) where
       (f : Station → Station) (stations : List Station) → ((t : Station) → asked (f t) ≡ asked t) → map asked stations ≡ row
       → map asked (map f stations) ≡ row
   same-row f stations h e = map-map asked f stations ∙ map-same stations (λ t i. h t) ∙ e
+
+  pub waits-turned : {ahead : List Packet} (b : Bus) → Waits row D s p ahead b → Waits row D s p ahead (turnedAway b)
+  waits-turned b w =
+      record {
+        by-circuit = w .by-circuit;
+        space = w .space;
+        all-asked = w .all-asked;
+        station = w .station;
+        listed = w .listed;
+        address = w .address;
+        capability = w .capability;
+        rest = w .rest;
+        queue = w .queue;
+        contends = w .contends;
+      }
 
   pub waits-admission : {ahead : List Packet} (b : Bus) (a : Arrival) → Waits row D s p ahead b → Waits row D s p ahead (withPacket b a)
   waits-admission {ahead} b a w =

@@ -63,10 +63,11 @@ abbrev pub bus : Brings Bus
 bus b k =
     discipline (b .discipline) λ d. number (b .D) λ D. number (b .A) λ A. number (b .q) λ q. list station (b .stations) λ ss.
     number (b .clock) λ clock. number (b .admitted) λ admitted. number (b .sent) λ sent. number (b .lost) λ lost.
+    number (b .turned) λ turned.
     perhaps number (b .last) λ last. perhaps contention (b .contention) λ c.
     k
     (record
-    { discipline = d; D = D; A = A; q = q; stations = ss; clock = clock; admitted = admitted; sent = sent; lost = lost; last = last; contention = c })
+    { discipline = d; D = D; A = A; q = q; stations = ss; clock = clock; admitted = admitted; sent = sent; lost = lost; turned = turned; last = last; contention = c })
 
 -- a pair, for an engine that keeps something beside its bus
 abbrev pub pair : {X Y : Type 0} → Brings X → Brings Y → Brings (X × Y)

@@ -59,6 +59,7 @@ enabled-keeps =
     record {
       at-set-up = λ r z. no-contender (freshBus r .discipline) none (freshBus r .stations) (none-contends freshStation (take (r .N) (r .row)) (λ s. refl));
       at-admission = λ b a h p z x i. p x (subst (Among x) (contenders-admitted b a) i);
+      at-turned = λ b h p. p;
       at-begin = λ b h p e. opened-enabled b none p;
       at-probe = λ b h p z. heard-enabled (opened b) (transmitters (opened b .bus) (opened b .contention)) (opened-enabled b (b .contention) p);
     }

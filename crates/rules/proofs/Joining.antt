@@ -12,15 +12,16 @@ use Rattle.window.specs.declared.Side.the-variants.{Left, Right}
 use Rattle.rules.specs.Lists.{keep, firstOf}
 use Rattle.rules.specs.Bus.{last-slot, Contention, Bus}
 use Rattle.rules.specs.Standing.{stands, Standing}
-use Rattle.rules.specs.Admission.{Arrival, Admitted, admissionRefusal, withPacket, admit}
+use Rattle.rules.specs.Admission.{Arrival, Admitted, admissionRefusal, withPacket, admit, turnedAway, handedBack}
 use Rattle.rules.specs.Probe.{Answer, Contender, contenders, able, lies-in, transmitters, Open, refusedAnswer, unheard, heard, probe}
 use Rattle.rules.specs.Step.{is-under-way, probeRefusal, underWay, probedIn, probeCall}
 use Rattle.rules.specs.Engine.{Engine, machine, Call, admission, one-probe, after, reach, answers}
 use Rattle.rules.specs.Demands.{Demand2, ofContention, NobodyJoins}
+use Rattle.rules.proofs.TurnedAway.{turned-standing, back-cases}
 use Rattle.rules.proofs.Tests.{told}
 use Rattle.rules.proofs.Standing.{stands-exactly, admission-accepted, admit-is, probe-accepted}
 use Rattle.rules.proofs.Refusals.{probed-number}
-use Rattle.rules.proofs.Keeps.{keepsStanding}
+use Rattle.rules.proofs.Keeps.{turned-stands, keepsStanding}
 use Rattle.rules.proofs.Reach.{answers-agree}
 use Rattle.rules.proofs.Contenders.{contenders-admitted}
 
@@ -47,12 +48,28 @@ alike-both h k =
       contend = h .contend ∙ k .contend;
     }
 
+-- a packet turned away
+turned-alike : (b : Bus) → Standing b → Alike b (turnedAway b)
+turned-alike b h =
+    record {
+      standing = told (stands-exactly b) h ∙ sym (told (stands-exactly (turnedAway b)) (turned-stands b h));
+      discipline = refl;
+      A = refl;
+      clock = refl;
+      contention = refl;
+      contend = refl;
+    }
+
 -- an admission, refused or not
 admitted-alike : (b : Bus) (a : Arrival) → Alike b (admit b a .1)
 admitted-alike b a = go (eqb (admissionRefusal b a) 0) refl
   where
     result : Bool → Admitted × Bus
-    result t = cond t (record { refusal = 0; number = suc (b .admitted) }, withPacket b a) (record { refusal = admissionRefusal b a; number = 0 }, b)
+    result t =
+        cond
+        t
+        (record { refusal = 0; number = suc (b .admitted) }, withPacket b a)
+        (record { refusal = admissionRefusal b a; number = 0 }, handedBack b (admissionRefusal b a))
 
     go : (t : Bool) → eqb (admissionRefusal b a) 0 ≡ t → Alike b (result t .1)
     go true e =
@@ -66,7 +83,7 @@ admitted-alike b a = go (eqb (admissionRefusal b a) 0) refl
           contention = refl;
           contend = sym (contenders-admitted b a);
         }
-    go false e = alike-same b
+    go false e = back-cases (Alike b) b (admissionRefusal b a) (λ f. alike-same b) (λ f. turned-alike b (turned-standing b a f))
 
 admissions-alike : (b : Bus) (arrivals : List Arrival) → Alike b (after machine b (map admission arrivals))
 admissions-alike b [] = alike-same b

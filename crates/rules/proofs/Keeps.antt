@@ -21,11 +21,12 @@ use Rattle.rules.specs.Lists.{bit, keep, count, Among, at-head, in-tail,
 use Rattle.rules.specs.Bus.{late, most-stations, least-space, most-space, clock-end, last-slot, Discipline, PRI, RTDG, RTVC, code, Packet, Offer, Station, Contention, Bus, amended, waiting, numbers}
 use Rattle.rules.specs.SetUp.{Asked, Request, Verdict, fault, step-outside, stationTests, rowTests, setUpVerdict, disciplineOf, freshStation, freshBus}
 use Rattle.rules.specs.Standing.{asked, askedFor, ValueFits, PacketStands, ParameterFits, OfferStands, StationStands, LastStands, WindowStands, ContentionStands, Standing}
-use Rattle.rules.specs.Admission.{Arrival, named, newPacket, queued, joined, withPacket}
+use Rattle.rules.specs.Admission.{Arrival, named, newPacket, queued, joined, withPacket, turnedAway}
 use Rattle.rules.specs.Begin.{choice, chosen, goes-before, parameterOf, sits-out, offers, inTime, entered, dropsOf, opening, begin}
 use Rattle.rules.specs.Probe.{Contender, contenders, lies-in, transmits, transmitters, Open, goesOn, withdrawn, left, lastWinner, won, tiedAt, split, unheard, heard, probe}
 use Rattle.rules.specs.Step.{openedBy, opened, stepRefusal, step}
 use Rattle.rules.specs.Demands.{KeepsStanding}
+use Rattle.rules.proofs.TurnedAway.{within}
 use Rattle.rules.proofs.Laws.{and-true, or-false, among-left, among-append, all-cons, all-nil, keep-from, all-map, map-into, map-same, map-map, total-map, total-parts, count-some, kept-failed, total-none, total-count}
 use Rattle.rules.proofs.Numbers.{one-apart, same-apart, held, times, times-once, none-twice-kept, rising-suc, rising-append, rising-none, Fewer, fewer-all, fewer-keep, joined-waiting, joined-none-twice}
 use Rattle.rules.proofs.Standing.{SetUpStands, set-up-stands, accepted-set-up, AdmissionAccepted, accepted-admission, admission-accepted, admit-is, accepted-begin, begin-accepted, begin-is, accepted-probe, probe-accepted, probe-step, accepted-step, step-accepted, step-is}
@@ -87,7 +88,7 @@ offer-kept b b′ d D s s′ same more (some c) (some c′) still (some o) h = (
     fits RTDG k = k
     fits RTVC k = k ∙ sym same
 
--- ---- the moves of a step: the settings and the count of packets admitted are the same, and no queue has more than before
+-- ---- the moves of a step: the settings and the counts of packets admitted and turned away are the same, and no queue has more than before
 
 abbrev moved : Bus → (Station → Station) → ℕ → ℕ → ℕ → Option ℕ → Option Contention → Bus
 moved b f clock sent lost last contention =
@@ -101,6 +102,7 @@ moved b f clock sent lost last contention =
       admitted = b .admitted;
       sent = sent;
       lost = lost;
+      turned = b .turned;
       last = last;
       contention = contention;
     }
@@ -117,6 +119,7 @@ module _ (b : Bus) (f : Station → Station) (clock sent lost : ℕ) (last : Opt
         passes = passes-kept b f same h;
         clock-in = t;
         admitted-in = h .admitted-in;
+        turned-in = h .turned-in;
         counts = omega (arith, h .counts);
         each-station =
             all-map (StationStands (moved b f clock sent lost last c)) f (b .stations) (λ s i.
@@ -402,6 +405,7 @@ module _ (b : Bus) (a : Arrival) (k : AdmissionAccepted b a) where
         passes = passes-kept b (joined b a) same h;
         clock-in = h .clock-in;
         admitted-in = k .count-left;
+        turned-in = h .turned-in;
         counts = omega (arith, h .counts, joined-waiting b a (b .stations));
         each-station = all-map (StationStands (withPacket b a)) (joined b a) (b .stations) (λ s i. joined-stands s i (named a s) refl);
         none-twice = joined-none-twice b a (b .stations) most new (h .none-twice);
@@ -415,6 +419,31 @@ module _ (b : Bus) (a : Arrival) (k : AdmissionAccepted b a) where
           go : (t : Bool) → asked (cond t (queued (newPacket b a) s) s) ≡ asked s
           go true = refl
           go false = refl
+
+-- ---- a packet turned away
+
+-- all is as it was but for the count
+pub turned-stands : (b : Bus) → Standing b → Standing (turnedAway b)
+turned-stands b h =
+    record {
+      passes = h .passes;
+      clock-in = h .clock-in;
+      admitted-in = h .admitted-in;
+      turned-in = within (b .turned) (h .turned-in);
+      counts = h .counts;
+      each-station = λ s i.
+          let was = h .each-station s i in
+          record {
+            room = was .room;
+            rises = was .rises;
+            packets = λ p j. packet-kept b (turnedAway b) refl refl (le-refl _) p (was .packets p j);
+            offered =
+                offer-kept b (turnedAway b) refl refl s s refl (λ p j. j) (b .contention) (b .contention) (λ z. z) (s .offer) (was .offered);
+          };
+      none-twice = h .none-twice;
+      last-winner = h .last-winner;
+      window = contention-kept b (turnedAway b) refl refl (b .contention) (h .window);
+    }
 
 -- ---- set-up
 
@@ -473,6 +502,7 @@ fresh-stands r e =
       passes = fresh-passes r e;
       clock-in = omega arith;
       admitted-in = omega arith;
+      turned-in = omega arith;
       counts = omega (arith, total-map held freshStation (take (r .N) (r .row)), total-none {f = λ s. 0} (take (r .N) (r .row)) (λ s i. refl));
       each-station =
           all-map (StationStands (freshBus r)) freshStation (take (r .N) (r .row)) (λ s i.

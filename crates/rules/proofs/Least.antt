@@ -19,7 +19,7 @@ use Rattle.rules.specs.Lists.{Among, at-head, All, Distinct}
 use Rattle.rules.specs.Bus.{Discipline, PRI, RTDG, RTVC, Contention, Bus, nothing}
 use Rattle.rules.specs.SetUp.{Request}
 use Rattle.rules.specs.Standing.{Standing}
-use Rattle.rules.specs.Admission.{Arrival, withPacket}
+use Rattle.rules.specs.Admission.{Arrival, withPacket, turnedAway}
 use Rattle.rules.specs.Probe.{Contender, Open, able, contenders, lies-in, transmits, transmitters, tiedAt, split, idle, success, sentBy, unheard, heard, probe}
 use Rattle.rules.specs.Step.{openedBy, opened}
 use Rattle.rules.specs.Engine.{Engine, machine, Call, reach}
@@ -139,11 +139,16 @@ admission-clears : (b : Bus) (a : Arrival) (c : Option Contention) → ClearedBy
 admission-clears b a none k = tt
 admission-clears b a (some c) k = λ x i. k x (subst (Among x) (contenders-admitted b a) i)
 
+turned-clears : (b : Bus) (c : Option Contention) → ClearedBy b c → ClearedBy (turnedAway b) c
+turned-clears b none k = tt
+turned-clears b (some c) k = k
+
 pub cleared-keeps : Keeps Cleared
 cleared-keeps =
     record {
       at-set-up = λ r e. tt;
       at-admission = λ b a h k e. admission-clears b a (b .contention) k;
+      at-turned = λ b h k. turned-clears b (b .contention) k;
       at-begin = λ b h k e. opened-clears b none tt;
       at-probe = λ b h k e. probe-clears (opened b) (opened-clears b (b .contention) k);
     }

@@ -2,6 +2,7 @@
 pub mod Laws
 pub mod Tests
 pub mod Standing
+pub mod TurnedAway
 pub mod Refusals
 pub mod Numbers
 pub mod Offers

@@ -38,7 +38,8 @@ call-counted : (b : Bus) (c : Call) (rs : List Reply) → Counting (next machine
 call-counted b c rs =
     outcome b (λ r b′. Counting (b′ .admitted) rs → Counting (b .admitted) (r ∷ rs))
     (record {
-      refuses = λ n z. not-counted (admitted (record { refusal = n; number = 0 })) rs (rw (ne-eqb n 0 z)) (rw (ne-eqb n 0 z)) refl;
+      refuses = λ n z e. not-counted (admitted (record { refusal = n; number = 0 })) rs (rw (ne-eqb n 0 z)) (rw (ne-eqb n 0 z)) refl;
+      turns = λ n z e. not-counted (admitted (record { refusal = n; number = 0 })) rs (rw (ne-eqb n 0 z)) (rw (ne-eqb n 0 z)) refl;
       admits = λ a z. counted-on (b .admitted) rs;
       refuses-begin = λ n z. not-counted (begun (refusedBegun n)) rs refl refl refl;
       begins = λ z. not-counted (begun (begunAnswer b)) rs refl refl refl;

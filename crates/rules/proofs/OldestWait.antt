@@ -11,7 +11,7 @@ use Rattle.rules.specs.Lists.{total, Among, at-head}
 use Rattle.rules.specs.Bus.{Packet, Station, Bus, nothing}
 use Rattle.rules.specs.SetUp.{Request, setUp}
 use Rattle.rules.specs.Standing.{Standing}
-use Rattle.rules.specs.Admission.{withPacket}
+use Rattle.rules.specs.Admission.{withPacket, turnedAway}
 use Rattle.rules.specs.Begin.{begin}
 use Rattle.rules.specs.Probe.{Answer, refusedAnswer, Contender, Open, transmitters, success, heard, probe}
 use Rattle.rules.specs.Step.{opened, stepRefusal}
@@ -92,7 +92,8 @@ module _ (s : Station) (p : Packet) where
       Known b′ → Among a (upTo (sends s p) (probeIn r (answers machine b′ later)))
       → Ended (b .clock) (slotsIn (upTo (sends s p) (probeIn r (answers machine b′ later)))) a)
       (record {
-        refuses = λ n z k′. sent-ended b later k′ a says;
+        refuses = λ n z e k′. sent-ended b later k′ a says;
+        turns = λ n z e k′. sent-ended (turnedAway b) later k′ a says;
         admits = λ x z k′. sent-ended (withPacket b x) later k′ a says;
         refuses-begin = λ n z k′. sent-ended b later k′ a says;
         begins = λ z k′. sent-ended (begin b) later k′ a says;

@@ -14,7 +14,7 @@ use Rattle.rules.specs.Lists.{bit, keep, Distinct}
 use Rattle.rules.specs.Bus.{RTVC, code, Packet, Station, Bus, nothing}
 use Rattle.rules.specs.SetUp.{Asked, Request, disciplineOf, freshStation, freshBus, setUp}
 use Rattle.rules.specs.Standing.{asked}
-use Rattle.rules.specs.Admission.{joined, withPacket}
+use Rattle.rules.specs.Admission.{joined, withPacket, turnedAway}
 use Rattle.rules.specs.Begin.{sits-out}
 use Rattle.rules.specs.Probe.{Answer, refusedAnswer, success, idle, probe}
 use Rattle.rules.specs.Step.{is-under-way, refusedBegun, opened}
@@ -254,7 +254,13 @@ module _ (over : Bus → Bool) (top : TopOnly over) where
         → waits-throughout address t ((c, rep) ∷ beside later (replies E (roundOver (call .test) b′) later)) ≡ true
         → PassedOnce address (upTo (wins address) (probeIn rep (answers E (roundOver (call .test) b′) later))))
         (record {
-          refuses = λ n z h′ k w. goes-on-with b between h k w;
+          refuses = λ n z e h′ k w. goes-on-with b between h k w;
+          turns = λ n z e h′ k w.
+              goes-on-with (turnedAway b)
+              (record { station = between .station; listed = between .listed; here = between .here; ended = between .ended })
+              h′
+              k
+              w;
           admits = λ a z h′ k w.
               let alike = joined-alike b a (between .station) in
               goes-on-with (withPacket b a)

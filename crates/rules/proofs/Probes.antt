@@ -20,7 +20,7 @@ use Rattle.rules.specs.Lists.{bit, keep, count, at-head, in-tail, All, S
 use Rattle.rules.specs.Bus.{Discipline, PRI, RTDG, RTVC, code, Contention, Bus}
 use Rattle.rules.specs.SetUp.{Request}
 use Rattle.rules.specs.Standing.{OfferStands, WindowStands, ContentionStands, Standing}
-use Rattle.rules.specs.Admission.{Arrival, withPacket}
+use Rattle.rules.specs.Admission.{Arrival, withPacket, turnedAway}
 use Rattle.rules.specs.Begin.{begin, opening}
 use Rattle.rules.specs.Probe.{Contender, contenders, able, lies-in, transmits, transmitters, idle, collision, Answer, Open, unsent, sentBy, goesOn, unwon, won, tiedAt, unheard, heard, probe}
 use Rattle.rules.specs.Step.{opened, openedBy}
@@ -332,7 +332,11 @@ left-at-opening b c f = ap (λ (x : Contention). leftBy (b .discipline) (exponen
 step-fewer : (b : Bus) → Standing b → Fewer (probesLeft b) (probe (opened b))
 step-fewer b h = rw (opened-left b (b .contention)) at (probe-fewer (opened b) (opened-stands b h) (opened-contention b))
 
--- a probe, and an admission, leave a crowded bus crowded
+-- a probe, an admission, and a packet turned away leave a crowded bus crowded
+turned-crowded : (b : Bus) (c : Option Contention) → CrowdedBy b c → CrowdedBy (turnedAway b) c
+turned-crowded b none k = tt
+turned-crowded b (some c) k = k
+
 step-crowded : (b : Bus) → Standing b → Crowded b → Crowded (probe (opened b) .1)
 step-crowded b h k = go (b .contention) k (opened-stands b h) (opened-contention b)
   where
@@ -362,6 +366,7 @@ crowded-keeps =
     record {
       at-set-up = λ r e. tt;
       at-admission = λ b a h k e. admission-crowded b a k;
+      at-turned = λ b h k. turned-crowded b (b .contention) k;
       at-begin = λ b h k e. inl refl;
       at-probe = λ b h k e. step-crowded b h k;
     }
@@ -518,7 +523,8 @@ probes-bounded [] b k = omega arith
 probes-bounded (c ∷ later) b k =
     outcome b (λ r b′. probes (probeIn r (answers machine b′ later)) ≤ probesLeft b)
     (record {
-      refuses = λ n z. probes-bounded later b k;
+      refuses = λ n z e. probes-bounded later b k;
+      turns = λ n z e. probes-bounded later (turnedAway b) (turned-crowded b (b .contention) k);
       admits = λ a z. probes-bounded later (withPacket b a) (admission-crowded b a k);
       refuses-begin = λ n z. probes-bounded later b k;
       begins = λ z.

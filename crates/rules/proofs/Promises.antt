@@ -94,6 +94,7 @@ promised E meets =
       emptyEnds = Probes.emptyEnds E meets;
       nobodyJoins = Joining.nobodyJoins E meets;
       countsAreTrue = Counts.countsAreTrue E meets;
+      closesAsCounted = Counts.closesAsCounted E meets;
       numbersAreAnswers = Numbering.numbersAreAnswers E meets;
       waitsAreTrue = Waits.waitsAreTrue E meets;
       demand3 = Demand3.demand3 E meets;

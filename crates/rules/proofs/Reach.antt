@@ -14,16 +14,18 @@ use Rattle.rules.specs.Lists.{All}
 use Rattle.rules.specs.Bus.{Bus, nothing}
 use Rattle.rules.specs.SetUp.{Request, setUp, setUpVerdict, freshBus}
 use Rattle.rules.specs.Standing.{Standing}
-use Rattle.rules.specs.Admission.{Arrival, Admitted, admissionRefusal, withPacket}
+use Rattle.rules.specs.Admission.{Arrival, Admitted, admissionRefusal, withPacket, turns-away, turnedAway, handedBack}
 use Rattle.rules.specs.Begin.{begin}
 use Rattle.rules.specs.Probe.{Answer, refusedAnswer, probe}
 use Rattle.rules.specs.Step.{Begun, refusedBegun, begunAnswer, beginRefusal, beginCall, probeRefusal, probeCall, opened, stepRefusal, step}
+use Rattle.rules.specs.Closing.{closingCall}
 use Rattle.rules.specs.Engine.{Engine, machine, stepOf, Call, OwnCall, admission, one-begin, one-probe, one-step, Reply, admitted, begun, probed, reply, next, after, replies, reach, probeIn, probesIn, beginsIn, answers}
 use Rattle.rules.specs.Demands.{Demand2, StepsAgree, ReachedStands}
 use Rattle.rules.proofs.Laws.{among-append, all-nil, all-cons}
 use Rattle.rules.proofs.Standing.{accepted-set-up, admit-is, begin-accepted, probe-accepted, probed-opened, step-is}
+use Rattle.rules.proofs.TurnedAway.{back-cases}
 use Rattle.rules.proofs.Refusals.{handsBack}
-use Rattle.rules.proofs.Keeps.{begin-stands, stepped-stands, keepsStanding}
+use Rattle.rules.proofs.Keeps.{begin-stands, turned-stands, stepped-stands, keepsStanding}
 use Rattle.rules.proofs.Step.{step-alike, step-made}
 
 -- ---- one call
@@ -38,10 +40,11 @@ call-cases P n taken refused h k = go (eqb n 0) refl
     go true e = k (eqb-true n 0 e)
     go false e = h (eqb-false n 0 e)
 
--- What a call on the machine comes to, of its reply and the state: it is refused, and the state stays; or an admission, a begin or a probe,
--- which may be that of a step, is accepted.
+-- What a call on the machine comes to, of its reply and the state: it is refused, and the state stays; or an admission is, and turns its packet away;
+-- or an admission, a begin or a probe, which may be that of a step, is accepted.
 pub record Outcomes (b : Bus) (P : Reply → Bus → Type 0) : Type 0 where
-  pub refuses : (n : ℕ) → ¬ (n ≡ 0) → P (admitted (record { refusal = n; number = 0 })) b
+  pub refuses : (n : ℕ) → ¬ (n ≡ 0) → turns-away n ≡ false → P (admitted (record { refusal = n; number = 0 })) b
+  pub turns : (n : ℕ) → ¬ (n ≡ 0) → turns-away n ≡ true → P (admitted (record { refusal = n; number = 0 })) (turnedAway b)
   pub admits : (a : Arrival) → admissionRefusal b a ≡ 0 → P (admitted (record { refusal = 0; number = suc (b .admitted) })) (withPacket b a)
   pub refuses-begin : (n : ℕ) → ¬ (n ≡ 0) → P (begun (refusedBegun n)) b
   pub begins : beginRefusal b ≡ 0 → P (begun (begunAnswer b)) (begin b)
@@ -50,8 +53,9 @@ pub record Outcomes (b : Bus) (P : Reply → Bus → Type 0) : Type 0 where
 
 pub outcome : (b : Bus) (P : Reply → Bus → Type 0) → Outcomes b P → (c : Call) → P (reply machine b c) (next machine b c)
 outcome b P o (admission a) =
-    call-cases (λ (x : Admitted × Bus). P (admitted (x .0)) (x .1)) (admissionRefusal b a) _ (λ n. (record { refusal = n; number = 0 }, b))
-    (o .refuses (admissionRefusal b a))
+    call-cases (λ (x : Admitted × Bus). P (admitted (x .0)) (x .1)) (admissionRefusal b a) _
+    (λ n. (record { refusal = n; number = 0 }, handedBack b n))
+    (λ z. back-cases (P (admitted _)) b (admissionRefusal b a) (o .refuses _ z) (o .turns _ z))
     (o .admits a)
 outcome b P o one-begin =
     call-cases (λ (x : Begun × Bus). P (begun (x .0)) (x .1)) (beginRefusal b) _ (λ n. (refusedBegun n, b))
@@ -76,7 +80,8 @@ pub answer-cases :
 answer-cases b P refused taken =
     outcome b (λ r b′. All P (probeIn r []))
     (record {
-      refuses = λ n z. all-nil P;
+      refuses = λ n z e. all-nil P;
+      turns = λ n z e. all-nil P;
       admits = λ a z. all-nil P;
       refuses-begin = λ n z. all-nil P;
       begins = λ z. all-nil P;
@@ -86,10 +91,11 @@ answer-cases b P refused taken =
 
 -- ---- reached states
 
--- an accepted call keeps P, as in the premises of `reach-holds`
+-- an accepted call keeps P, and so does a packet turned away, as in the premises of `reach-holds`
 pub record Keeps (P : Bus → Type 0) : Type 0 where
   pub at-set-up : (r : Request) → setUp r .0 .refusal ≡ 0 → P (freshBus r)
   pub at-admission : (b : Bus) (a : Arrival) → Standing b → P b → admissionRefusal b a ≡ 0 → P (withPacket b a)
+  pub at-turned : (b : Bus) → Standing b → P b → P (turnedAway b)
   pub at-begin : (b : Bus) → Standing b → P b → b .contention ≡ none → P (begin b)
   pub at-probe : (b : Bus) → Standing b → P b → stepRefusal b ≡ 0 → P (probe (opened b) .1)
 
@@ -99,7 +105,8 @@ module _ (P : Bus → Type 0) (keeps : Keeps P) where
   next-keeps b c h p =
       outcome b (λ r b′. Standing b′ × P b′)
       (record {
-        refuses = λ n z. (h, p);
+        refuses = λ n z e. (h, p);
+        turns = λ n z e. (turned-stands b h, keeps .at-turned b h p);
         admits = λ a z. (subst (λ (x : Admitted × Bus). Standing (x .1)) (admit-is b a z) (keepsStanding .admission b a (ap (λ (x : Admitted × Bus). x .0 .refusal) (admit-is b a z))), keeps .at-admission b a h p z);
         refuses-begin = λ n z. (h, p);
         begins = λ z. (begin-stands b h, keeps .at-begin b h p (begin-accepted b z .1));
@@ -114,7 +121,7 @@ module _ (P : Bus → Type 0) (keeps : Keeps P) where
 
 -- whatever is called, a bus that stands goes on standing
 anything : Keeps (λ b. Unit {0})
-anything = record { at-set-up = λ r z. tt; at-admission = λ b a h p z. tt; at-begin = λ b h p e. tt; at-probe = λ b h p z. tt }
+anything = record { at-set-up = λ r z. tt; at-admission = λ b a h p z. tt; at-turned = λ b h p. tt; at-begin = λ b h p e. tt; at-probe = λ b h p z. tt }
 
 pub next-stands : (b : Bus) → Standing b → (c : Call) → Standing (next machine b c)
 next-stands b h c = next-keeps (λ b. Unit {0}) anything b c h tt .0
@@ -142,14 +149,17 @@ accepted-keeps :
 accepted-keeps P keeps r calls z =
     after-keeps P keeps (setUp r .1) calls (keepsStanding .set-up r z) (subst P (sym (accepted-set-up r z)) (keeps .at-set-up r z))
 
+-- what is reached from a refused set-up is what it handed back
+pub refused-nothing : (r : Request) (calls : List Call) → ¬ (setUp r .0 .refusal ≡ 0) → reach machine r calls ≡ nothing
+refused-nothing r calls n = ap (λ b. after machine b calls) (handsBack .set-up r n) ∙ stays-so machine nothing nothing-next calls
+
 -- a set-up was accepted, or what is reached from it is what it handed back
 pub accepted-or-nothing : (r : Request) (calls : List Call) → (setUp r .0 .refusal ≡ 0) ⊎ (reach machine r calls ≡ nothing)
 accepted-or-nothing r calls = go (eqb (setUpVerdict r .refusal) 0) refl
   where
     go : (t : Bool) → eqb (setUpVerdict r .refusal) 0 ≡ t → (setUp r .0 .refusal ≡ 0) ⊎ (reach machine r calls ≡ nothing)
     go true e = inl (eqb-true (setUpVerdict r .refusal) 0 e)
-    go false e =
-        inr (ap (λ b. after machine b calls) (handsBack .set-up r (eqb-false (setUpVerdict r .refusal) 0 e)) ∙ stays-so machine nothing nothing-next calls)
+    go false e = inr (refused-nothing r calls (eqb-false (setUpVerdict r .refusal) 0 e))
 
 pub reachedStands : ReachedStands
 reachedStands r calls z = accepted-keeps (λ b. Unit {0}) anything r calls z .0
@@ -173,7 +183,7 @@ reach-holds P empty keeps r calls = go (accepted-or-nothing r calls)
 
 -- the machine is one of them
 pub demand2-machine : Demand2 machine
-demand2-machine = record { setUps = λ r. refl; calls = λ r calls own. refl }
+demand2-machine = record { setUps = λ r. refl; calls = λ r calls own. refl; closes = λ r calls own. refl }
 
 -- calls after calls
 pub after-more : (E : Engine) (s : E .State) (calls later : List Call) → after E s (calls ++ later) ≡ after E (after E s calls) later
@@ -255,6 +265,9 @@ module _ (E : Engine) (meets : Demand2 E) (r : Request) where
   abreast-after h [] = h
   abreast-after h (c ∷ calls) = abreast-after (call-same h c .1) calls
 
+  closing-same : {s : E .State} {b : Bus} → Abreast s b → E .closing s ≡ closingCall b
+  closing-same h = ap (E .closing) (sym (h .engine)) ∙ meets .closes r (h .calls) (h .own) ∙ ap closingCall (h .bus)
+
   at-set-up : Abreast (E .setUp r .1) (setUp r .1)
   at-set-up = record { calls = []; own = all-nil OwnCall; engine = refl; bus = refl }
 
@@ -269,3 +282,8 @@ replies-agree E meets r calls later = calls-same E meets r (abreast-after E meet
 pub answers-agree :
     (E : Engine) → Demand2 E → (r : Request) (calls later : List Call) → answers E (reach E r calls) later ≡ answers machine (reach machine r calls) later
 answers-agree E d r calls later = ap probesIn (replies-agree E d r calls later)
+
+-- what it closes with
+pub closing-agrees :
+    (E : Engine) → Demand2 E → (r : Request) (calls : List Call) → E .closing (reach E r calls) ≡ closingCall (reach machine r calls)
+closing-agrees E meets r calls = closing-same E meets r (abreast-after E meets r (at-set-up E meets r) calls)

@@ -9,11 +9,12 @@ use lib.Dec.{eqb}
 use Rattle.window.specs.declared.Side.{Side}
 use Rattle.window.specs.declared.Side.the-variants.{Left, Right}
 use Rattle.rules.specs.Bus.{Offer, Station, Contention, Bus}
-use Rattle.rules.specs.Admission.{Arrival, Admitted, admissionRefusal, withPacket, admit}
+use Rattle.rules.specs.Admission.{Arrival, Admitted, admissionRefusal, withPacket, admit, handedBack}
 use Rattle.rules.specs.Begin.{begin}
 use Rattle.rules.specs.Probe.{Answer, Contender, contenderOf, contending, contenders, transmitters, Open, withdrawn, left, unheard, heard}
 use Rattle.rules.specs.Step.{Contends, contendsWith, Begun, beginCall, probeCall, opened, openedBy}
 use Rattle.rules.specs.Demands.{contendersAt, present, shownAs, ContendersStay}
+use Rattle.rules.proofs.TurnedAway.{back-cases}
 use Rattle.rules.proofs.Standing.{begun-as, accepted-probe, probe-accepted, probe-step, step-is}
 use Rattle.rules.proofs.Contenders.{contenders-admitted, none-contends}
 
@@ -62,11 +63,15 @@ admission-recorded : (b : Bus) (a : Arrival) → contenders (admit b a .1 .stati
 admission-recorded b a = go (eqb (admissionRefusal b a) 0)
   where
     result : Bool → Admitted × Bus
-    result t = cond t (record { refusal = 0; number = suc (b .admitted) }, withPacket b a) (record { refusal = admissionRefusal b a; number = 0 }, b)
+    result t =
+        cond
+        t
+        (record { refusal = 0; number = suc (b .admitted) }, withPacket b a)
+        (record { refusal = admissionRefusal b a; number = 0 }, handedBack b (admissionRefusal b a))
 
     go : (t : Bool) → contenders (result t .1 .stations) ≡ contenders (b .stations)
     go true = contenders-admitted b a
-    go false = refl
+    go false = back-cases (λ x. contenders (x .stations) ≡ contenders (b .stations)) b (admissionRefusal b a) (λ e. refl) (λ e. refl)
 
 pub contendersStay : ContendersStay
 contendersStay =

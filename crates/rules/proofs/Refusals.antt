@@ -1,7 +1,7 @@
 -- Each refusal number is given exactly when its condition holds and none tried earlier does, and what a refusal hands back.
 -- Assumes nothing.
 use Prim.Native.Nat.{ℕ}
-use mathlib.Core.Path.{_≡_, refl, sym, ap}
+use mathlib.Core.Path.{_≡_, refl, sym, ap, _∙_}
 use mathlib.Core.Bool.{Bool, true, false, cond}
 use mathlib.Core.Option.{Option, none, some}
 use mathlib.Core.List.{List, [], _∷_}
@@ -12,12 +12,13 @@ use Rattle.window.specs.declared.Side.{Side}
 use Rattle.window.specs.declared.Side.the-variants.{Left, Right}
 use Rattle.rules.specs.Bus.{Contention, Bus, nothing}
 use Rattle.rules.specs.SetUp.{fine, setUpVerdict, freshBus}
-use Rattle.rules.specs.Admission.{Admitted, admissionRefusal}
+use Rattle.rules.specs.Admission.{Arrival, Admitted, admissionRefusal, handedBack, admit}
 use Rattle.rules.specs.Probe.{Answer, Contender, Open, refusedAnswer, transmitters, unheard, heard, probe}
 use Rattle.rules.specs.Step.{Begun, refusedBegun, beginRefusal, probeRefusal, underWay, probedIn, opened, stepRefusal}
 use Rattle.rules.specs.Conditions.{RefusalsExact}
 use Rattle.rules.specs.Demands.{HandsBack}
 use Rattle.rules.proofs.Tests.{given}
+use Rattle.rules.proofs.TurnedAway.{as-lent, but-for-the-count, turned-refused}
 use Rattle.rules.proofs.Standing.{set-up-tried, admission-tried, begin-tried, probe-tried, probe-accepted, step-tried}
 
 pub refusalsExact : RefusalsExact
@@ -62,13 +63,22 @@ handed number n own refused zero-own bears = go (eqb n 0) refl
     go true e h = absurd (h (zero-own (eqb-true n 0 e)))
     go false e h = ap refused (sym (bears n))
 
+handed-admission :
+    (b : Bus) (a : Arrival) → ¬ (admit b a .0 .refusal ≡ 0)
+    → admit b a ≡ (record { refusal = admit b a .0 .refusal; number = 0 }, handedBack b (admit b a .0 .refusal))
+handed-admission b a =
+    handed (λ (x : Admitted × Bus). x .0 .refusal) (admissionRefusal b a) _ (λ k. (record { refusal = k; number = 0 }, handedBack b k)) (λ z. refl)
+    (λ k. refl)
+
 pub handsBack : HandsBack
 handsBack =
     record {
       set-up = λ r h. ap (λ t. cond t (freshBus r) nothing) (ne-eqb (setUpVerdict r .refusal) 0 h);
-      admission =
-          λ b a.
-          handed (λ (x : Admitted × Bus). x .0 .refusal) (admissionRefusal b a) _ (λ k. (record { refusal = k; number = 0 }, b)) (λ z. refl) (λ k. refl);
+      admission = λ b a h other. handed-admission b a h ∙ ap (λ (x : Bus). (record { refusal = admit b a .0 .refusal; number = 0 }, x)) (as-lent b _ other);
+      turned-away =
+          λ b a t.
+          handed-admission b a (turned-refused _ t)
+          ∙ ap (λ (x : Bus). (record { refusal = admit b a .0 .refusal; number = 0 }, x)) (but-for-the-count b _ t);
       begin = λ b. handed (λ (x : Begun × Bus). x .0 .refusal) (beginRefusal b) _ (λ k. (refusedBegun k, b)) (λ z. refl) (λ k. refl);
       probe = λ b. handed (λ (x : Answer × Bus). x .0 .refusal) (probeRefusal b) _ (λ k. (refusedAnswer k, b)) (probed-number b) (λ k. refl);
       step =

@@ -14,10 +14,10 @@ use borrow.Author.Tests.{eqb-true, eq-eqb, le-ltb}
 use Rattle.window.specs.declared.Window.{Window}
 use Rattle.window.specs.Splitting.{placed}
 use Rattle.rules.specs.Lists.{each-of, Among, at-head, All, Some, has, Distinct, firstOf}
-use Rattle.rules.specs.Bus.{late, most-stations, least-space, most-space, places, most-step, longest-packet, clock-end, last-slot, most-admitted, Discipline, PRI, RTDG, RTVC, code, Packet, Offer, Station, Contention, Bus, nothing, waiting, numbers}
+use Rattle.rules.specs.Bus.{late, most-stations, least-space, most-space, places, most-step, longest-packet, clock-end, last-slot, most-admitted, most-turned, Discipline, PRI, RTDG, RTVC, code, Packet, Offer, Station, Contention, Bus, nothing, waiting, numbers}
 use Rattle.rules.specs.SetUp.{Asked, Request, fine, rowTests, setUpTests, setUpVerdict, freshBus, setUp}
 use Rattle.rules.specs.Standing.{askedFor, value-fits, length-fits, packet-fits, rising, same-packet, parameter-fits, offer-stands, station-stands, last-stands, window-stands, contention-stands, stands, ValueFits, PacketStands, Rising, ParameterFits, OfferStands, StationStands, LastStands, WindowStands, ContentionStands, Standing}
-use Rattle.rules.specs.Admission.{Arrival, Admitted, admissionTests, admissionRefusal, withPacket, admit}
+use Rattle.rules.specs.Admission.{Arrival, Admitted, admissionTests, admissionRefusal, withPacket, handedBack, admit}
 use Rattle.rules.specs.Begin.{begin}
 use Rattle.rules.specs.Probe.{Answer, probe, refusedAnswer}
 use Rattle.rules.specs.Step.{is-under-way, Begun, refusedBegun, begunAnswer, beginTests, beginRefusal, beginCall, probeTests, probeRefusal, probedIn, probeCall, openedBy, opened, stepTests, stepRefusal, step}
@@ -102,16 +102,18 @@ pub stands-exactly : (b : Bus) → Whether (Standing b) (stands b)
 stands-exactly b =
     in-words
     (λ h. record {
-      passes = h .0 .0 .0 .0 .0 .0 .0;
-      clock-in = h .0 .0 .0 .0 .0 .0 .1;
-      admitted-in = h .0 .0 .0 .0 .0 .1;
+      passes = h .0 .0 .0 .0 .0 .0 .0 .0;
+      clock-in = h .0 .0 .0 .0 .0 .0 .0 .1;
+      admitted-in = h .0 .0 .0 .0 .0 .0 .1;
+      turned-in = h .0 .0 .0 .0 .0 .1;
       counts = h .0 .0 .0 .0 .1;
       each-station = h .0 .0 .0 .1;
       none-twice = h .0 .0 .1;
       last-winner = h .0 .1;
       window = h .1;
     })
-    (λ h. (((((((h .passes, h .clock-in), h .admitted-in), h .counts), h .each-station), h .none-twice), h .last-winner), h .window))
+    (λ h. ((((((((h .passes, h .clock-in), h .admitted-in), h .turned-in), h .counts), h .each-station), h .none-twice), h .last-winner), h .window))
+    (both
     (both
     (both
     (both
@@ -120,6 +122,7 @@ stands-exactly b =
     (both
     (both (equal (setUpVerdict (askedFor b) .refusal) 0) (at-most (b .clock) clock-end))
     (at-most (b .admitted) most-admitted))
+    (at-most (b .turned) most-turned))
     (equal (b .admitted) (b .sent + b .lost + waiting (b .stations))))
     (for-each (station-whether b) (b .stations)))
     (none-twice (numbers (b .stations))))
@@ -332,7 +335,11 @@ admission-accepted b a e =
 pub admit-is : (b : Bus) (a : Arrival) → admissionRefusal b a ≡ 0 → admit b a ≡ (record { refusal = 0; number = suc (b .admitted) }, withPacket b a)
 admit-is b a e =
     ap
-    (λ t. cond t (record { refusal = 0; number = suc (b .admitted) }, withPacket b a) (record { refusal = admissionRefusal b a; number = 0 }, b))
+    (λ t.
+    cond
+    t
+    (record { refusal = 0; number = suc (b .admitted) }, withPacket b a)
+    (record { refusal = admissionRefusal b a; number = 0 }, handedBack b (admissionRefusal b a)))
     (eq-eqb (admissionRefusal b a) 0 e)
 
 pub accepted-begin : (b : Bus) → beginCall b .0 .refusal ≡ 0 → beginRefusal b ≡ 0

@@ -14,12 +14,13 @@ use Rattle.window.specs.declared.Side.the-variants.{Left, Right}
 use Rattle.rules.specs.Lists.{bit, Among, at-head, All}
 use Rattle.rules.specs.Bus.{RTVC, Station, Contention, Bus}
 use Rattle.rules.specs.Standing.{Standing}
-use Rattle.rules.specs.Admission.{Arrival, Admitted, named, admissionRefusal, joined, withPacket}
+use Rattle.rules.specs.Admission.{Arrival, Admitted, named, admissionRefusal, joined, withPacket, turnedAway, handedBack}
 use Rattle.rules.specs.Begin.{entered, begin}
 use Rattle.rules.specs.Probe.{Contender, Open, transmitters, withdrawn, left, unheard, heard}
 use Rattle.rules.specs.Step.{is-under-way, openedBy, opened}
 use Rattle.rules.specs.Engine.{machine, Call, admission, one-begin, one-probe, one-step, admitted, probed, reply, next}
 use Rattle.rules.specs.Demands.{adds-admitted, wins, succeeds, Tally, tallied}
+use Rattle.rules.proofs.TurnedAway.{back-cases}
 use Rattle.rules.proofs.Laws.{clash, all-map, map-into}
 use Rattle.rules.proofs.Numbers.{held, joined-held}
 use Rattle.rules.proofs.Contenders.{joined-alike}
@@ -126,7 +127,8 @@ module _ (address : ℕ) where
     sent-next =
         outcome b (λ r b′. succeeds address r ≡ true → Between address b′)
         (record {
-          refuses = λ n z won. clash won refl;
+          refuses = λ n z e won. clash won refl;
+          turns = λ n z e won. clash won refl;
           admits = λ a z won. clash won refl;
           refuses-begin = λ n z won. clash won refl;
           begins = λ z won. clash won refl;
@@ -141,12 +143,17 @@ module _ (address : ℕ) where
       tells-refused n z c =
           record { by-circuit = d; under-way = tells .under-way; waiting = rw (ne-eqb n 0 z) (λ s i e. omega (arith, tells .waiting s i e)) }
 
+      -- whose packet is turned away
+      tells-turned : {t′ : Tally} → Tells address b t′ → Tells address (turnedAway b) t′
+      tells-turned k = record { by-circuit = k .by-circuit; under-way = k .under-way; waiting = k .waiting }
+
       -- any call but an accepted admission
       tells-other : (c : Call) → adds-admitted (reply machine b c) ≡ 0 → Tells address (next machine b c) (tallied address t c (reply machine b c))
       tells-other c =
           outcome b (λ r b′. adds-admitted r ≡ 0 → Tells address b′ (tallied address t c r))
           (record {
-            refuses = λ n z e. tells-refused n z c;
+            refuses = λ n z e k. tells-refused n z c;
+            turns = λ n z e k. tells-turned (tells-refused n z c);
             admits = λ a z e. absurd (omega arith);
             refuses-begin = λ n z e.
                 record { by-circuit = d; under-way = rw (ne-eqb n 0 z) (tells .under-way); waiting = tells .waiting };
@@ -167,8 +174,10 @@ module _ (address : ℕ) where
       pub tells-next : (c : Call) → Tells address (next machine b c) (tallied address t c (reply machine b c))
       tells-next (admission a) =
           call-cases (λ (x : Admitted × Bus). Tells address (x .1) (tallied address t (admission a) (admitted (x .0)))) (admissionRefusal b a) _
-          (λ n. (record { refusal = n; number = 0 }, b))
-          (λ z. tells-refused (admissionRefusal b a) z (admission a))
+          (λ n. (record { refusal = n; number = 0 }, handedBack b n))
+          (λ z.
+          let told = tells-refused (admissionRefusal b a) z (admission a) in
+          back-cases (λ x. Tells address x (tallied address t (admission a) (admitted (record { refusal = admissionRefusal b a; number = 0 })))) b (admissionRefusal b a) (λ e. told) (λ e. tells-turned told))
           (λ z. tells-admission b t a tells)
       tells-next one-begin = tells-other one-begin refl
       tells-next one-probe = tells-other one-probe refl

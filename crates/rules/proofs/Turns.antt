@@ -9,7 +9,7 @@ use Rattle.window.specs.Splitting.{exponentOf}
 use Rattle.rules.specs.Bus.{Discipline, RTVC, code, Packet, Station, Bus, nothing}
 use Rattle.rules.specs.SetUp.{Asked, Request}
 use Rattle.rules.specs.Standing.{asked, Standing}
-use Rattle.rules.specs.Admission.{withPacket}
+use Rattle.rules.specs.Admission.{withPacket, turnedAway}
 use Rattle.rules.specs.Begin.{begin, opening}
 use Rattle.rules.specs.Probe.{Answer, refusedAnswer, probe}
 use Rattle.rules.specs.Step.{opened}
@@ -20,7 +20,7 @@ use Rattle.rules.proofs.Reach.{outcome, next-keeps, next-stands, standi
 use Rattle.rules.proofs.Least.{Cleared, cleared-keeps, cleared-reached}
 use Rattle.rules.proofs.Probes.{Crowded, crowded-keeps, crowded-reached, probesLeft, probes-at-begin, left-at-opening}
 use Rattle.rules.proofs.Enabled.{Enabled, enabled-keeps, enabled-reached}
-use Rattle.rules.proofs.Circuit.{Waits, waits-admission, waits-begin, Turn, turn}
+use Rattle.rules.proofs.Circuit.{Waits, waits-admission, waits-turned, waits-begin, Turn, turn}
 
 -- ---- sound states
 
@@ -101,7 +101,8 @@ module _ (row : List Asked) (D : ℕ) (s : Station) (p : Packet) (K : List Packe
     one-call c following more ahead b h w =
         outcome b (λ rep b′. Sound b′ → K ahead (b .last) (probesLeft b) (probeIn rep (following b′)))
         (record {
-          refuses = λ n z h′. more ahead b h w;
+          refuses = λ n z e h′. more ahead b h w;
+          turns = λ n z e h′. more ahead (turnedAway b) h′ (waits-turned row D s p b w);
           admits = λ a z h′. more ahead (withPacket b a) h′ (waits-admission row D s p b a w);
           refuses-begin = λ n z h′. more ahead b h w;
           begins = λ z h′.

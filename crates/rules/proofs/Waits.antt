@@ -104,7 +104,8 @@ since-later :
 since-later p b c calls =
     outcome b (λ r b′. Since (b′ .clock) (replies machine b′ calls) p → Since (b .clock) (r ∷ replies machine b′ calls) p)
     (record {
-      refuses = λ n z. rw (ne-eqb n 0 z) (λ h. h);
+      refuses = λ n z e. rw (ne-eqb n 0 z) (λ h. h);
+      turns = λ n z e. rw (ne-eqb n 0 z) (λ h. h);
       admits = λ a z h.
           let later = above-admitted (withPacket b a) calls (h .0) in
           let other = ne-eqb (suc (b .admitted)) (p .number) (λ (e : suc (b .admitted) ≡ p .number). omega arith) in
@@ -123,7 +124,8 @@ pub held-next :
 held-next {p} b c calls =
     outcome b (λ r b′. Held p (b′ .stations) → Held p (b .stations) ⊎ Since (b .clock) (r ∷ replies machine b′ calls) p)
     (record {
-      refuses = λ n z h. inl h;
+      refuses = λ n z e h. inl h;
+      turns = λ n z e h. inl h;
       admits = λ a z h.
           elim (joined-held b a h) [
             | inl old ↦ inl old

@@ -1,12 +1,14 @@
--- Admission (paper 01, 'Admission' and refusals 11 to 16). 'Admission tries 1, then 11 to 16.' Assumes nothing.
+-- Admission (paper 01, 'Admission' and refusals 11 to 16; P4). 'Admission tries 1, then 11 to 16.' Assumes nothing.
 use Prim.Native.Nat.{ℕ, suc, _+_}
-use mathlib.Core.Bool.{Bool, not, _&&_, cond}
+use mathlib.Core.Path.{_≡_}
+use mathlib.Core.Logic.{_⊎_}
+use mathlib.Core.Bool.{Bool, not, _&&_, _||_, cond}
 use mathlib.Core.List.{List, [], _∷_, _++_, map}
-use lib.Dec.{leb, eqb}
+use lib.Dec.{leb, ltb, eqb}
 use lib.ListN.{length}
 pub use Rattle.rules.specs.declared.Admitted.{Admitted}
 use Rattle.rules.specs.Lists.{some-of, firstOf}
-use Rattle.rules.specs.Bus.{places, most-admitted, Packet, late, Station, Bus}
+use Rattle.rules.specs.Bus.{places, most-admitted, most-turned, Packet, late, Station, Bus, withTurned}
 use Rattle.rules.specs.Standing.{value-fits, length-fits, stands}
 
 -- 'An admission names an address, a value and a length.'
@@ -64,14 +66,40 @@ withPacket b a =
       admitted = suc (b .admitted);
       sent = b .sent;
       lost = b .lost;
+      turned = b .turned;
       last = b .last;
       contention = b .contention;
     }
 
--- 'Any other refusal hands back the number, zero in the answer's other fields, and the state exactly as lent.'
+-- ---- packets turned away (P4)
+
+-- 'a reading refused as late or for want of a place': 14 or 15; and the same as a statement
+abbrev pub turns-away : ℕ → Bool
+turns-away refusal = eqb refusal 14 || eqb refusal 15
+
+abbrev pub TurnsAway : ℕ → Type 0
+TurnsAway refusal = (refusal ≡ 14) ⊎ (refusal ≡ 15)
+
+-- the count with one packet more: 'The count stops at 4,294,967,295.'
+abbrev pub oneMore : ℕ → ℕ
+oneMore count = cond (ltb count most-turned) (suc count) count
+
+-- 'raised by exactly the admissions refused with 14 or 15': the count after an admission that is refused so, or accepted with 0
+abbrev pub turnedAfter : ℕ → ℕ → ℕ
+turnedAfter refusal count = cond (turns-away refusal) (oneMore count) count
+
+-- 'These two refusals now leave the state as it was but for that count'
+abbrev pub turnedAway : Bus → Bus
+turnedAway b = withTurned (oneMore (b .turned)) b
+
+-- the state that an admission refused with this number hands back; any other than these two 'exactly as lent'
+abbrev pub handedBack : Bus → ℕ → Bus
+handedBack b refusal = cond (turns-away refusal) (turnedAway b) b
+
+-- 'Any other refusal hands back the number, zero in the answer's other fields, and the state ..'
 abbrev pub admit : Bus → Arrival → Admitted × Bus
 admit b a =
     cond
     (eqb (admissionRefusal b a) 0)
     (record { refusal = 0; number = suc (b .admitted) }, withPacket b a)
-    (record { refusal = admissionRefusal b a; number = 0 }, b)
+    (record { refusal = admissionRefusal b a; number = 0 }, handedBack b (admissionRefusal b a))

@@ -87,6 +87,7 @@ begin b =
       admitted = b .admitted;
       sent = b .sent;
       lost = b .lost + dropsOf b;
+      turned = b .turned;
       last = b .last;
       contention = some (opening b);
     }

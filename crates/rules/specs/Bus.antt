@@ -48,6 +48,10 @@ last-slot = 1_073_737_728
 abbrev pub most-admitted : ℕ
 most-admitted = 4_294_967_295
 
+-- packets turned away (P4): 'The count stops at 4,294,967,295.'
+abbrev pub most-turned : ℕ
+most-turned = 4_294_967_295
+
 -- 'by priority', 'by laxity', 'by virtual circuit'
 pub data Discipline : Type 0 where
   PRI RTDG RTVC : Discipline
@@ -82,7 +86,8 @@ pub record Contention : Type 0 where
   pub window : Window
   pub tie : Option ℕ
 
--- the machine's state: the set-up, the stations in listed order, clock and counts, the round and the contention
+-- the machine's state: the set-up, the stations in listed order, clock and counts, the round and the contention; `turned` is P4's count of packets
+-- turned away
 pub record Bus : Type 0 where
   pub discipline : Discipline
   pub D : ℕ
@@ -93,6 +98,7 @@ pub record Bus : Type 0 where
   pub admitted : ℕ
   pub sent : ℕ
   pub lost : ℕ
+  pub turned : ℕ
   pub last : Option ℕ
   pub contention : Option Contention
 
@@ -109,8 +115,27 @@ amended clock last contention b =
       admitted = b .admitted;
       sent = b .sent;
       lost = b .lost;
+      turned = b .turned;
       last = last;
       contention = contention;
+    }
+
+-- a bus with another count of packets turned away, all else as it is
+abbrev pub withTurned : ℕ → Bus → Bus
+withTurned turned b =
+    record {
+      discipline = b .discipline;
+      D = b .D;
+      A = b .A;
+      q = b .q;
+      stations = b .stations;
+      clock = b .clock;
+      admitted = b .admitted;
+      sent = b .sent;
+      lost = b .lost;
+      turned = turned;
+      last = b .last;
+      contention = b .contention;
     }
 
 -- 'waiting is the number of packets in the queues'
@@ -129,4 +154,4 @@ numbers (s ∷ stations) = numbersIn (s .queue) ++ numbers stations
 abbrev pub nothing : Bus
 nothing =
     record
-    { discipline = PRI; D = 0; A = 0; q = 0; stations = []; clock = 0; admitted = 0; sent = 0; lost = 0; last = none; contention = none }
+    { discipline = PRI; D = 0; A = 0; q = 0; stations = []; clock = 0; admitted = 0; sent = 0; lost = 0; turned = 0; last = none; contention = none }

@@ -1,7 +1,7 @@
 -- The demands, and what else paper 01 promises of its machine, as statements. The theorems that prove them bear the same names
 -- in small letters, in proofs/. `r` is a set-up as asked for, `calls` are the calls after it, `later` are the calls after those.
 -- Assumes nothing.
-use Prim.Native.Nat.{ℕ, suc, _+_, _-_, _*_, _≤_, _<_, max}
+use Prim.Native.Nat.{ℕ, suc, _+_, _-_, _*_, _≤_, _<_, max, min}
 use mathlib.Core.Path.{_≡_}
 use mathlib.Core.Logic.{_⊎_, _↔_}
 use mathlib.Core.Bool.{Bool, true, false, not, _&&_, _||_, cond}
@@ -11,23 +11,25 @@ use lib.Dec.{leb, eqb}
 use lib.ListN.{length, replicate}
 use Rattle.window.specs.Splitting.{exponentOf, firstWindow}
 use Rattle.rules.specs.Lists.{bit, keep, count, some-of, total, countUp, Among, All, Distinct}
-use Rattle.rules.specs.Bus.{Discipline, PRI, RTDG, RTVC, code, Packet, Offer, Station, Bus, nothing, waiting}
+use Rattle.rules.specs.Bus.{most-turned, Discipline, PRI, RTDG, RTVC, code, Packet, Offer, Station, Bus, nothing, waiting}
 use Rattle.rules.specs.SetUp.{Request, setUp}
 use Rattle.rules.specs.Standing.{stands, Standing}
-use Rattle.rules.specs.Admission.{Arrival, Admitted, numbered, queued, admit}
+use Rattle.rules.specs.Admission.{Arrival, Admitted, numbered, queued, turns-away, TurnsAway, turnedAway, admit}
 use Rattle.rules.specs.Begin.{parameterOf, entered}
 use Rattle.rules.specs.Conditions.{Late}
 use Rattle.rules.specs.Probe.{Answer, Contender, able, contenders, transmitters, idle, collision, success, refusedAnswer, dropping, waitOf}
 use Rattle.rules.specs.Step.{is-under-way, Contends, refusedBegun, beginCall, probeCall, opened, step}
+use Rattle.rules.specs.Closing.{Totals, refusedTotals}
 use Rattle.rules.specs.Engine.{Engine, machine, stepOf, Call, OwnCall, admission, one-begin, one-probe, one-step, Reply, admitted, begun, probed, reply, replies, reach, probesIn, admissionsIn, answers}
 
 -- ---- demand 2
 
 -- 'Each slot's event, winner, drops and clock are those of the window procedure': after any set-up and any admissions, begins and probes, the
--- replies are the machine's.
+-- replies are the machine's, and so is what a listing closes with.
 pub record Demand2 (E : Engine) : Type 0 where
   pub setUps : (r : Request) → E .setUp r .0 ≡ setUp r .0
   pub calls : (r : Request) (calls : List Call) → All OwnCall calls → replies E (E .setUp r .1) calls ≡ replies machine (setUp r .1) calls
+  pub closes : (r : Request) (calls : List Call) → All OwnCall calls → E .closing (reach E r calls) ≡ machine .closing (reach machine r calls)
 
 -- and so they are with steps among the calls, since steps are made of begins and probes
 abbrev pub StepsAgree : Engine → Type 0
@@ -107,10 +109,16 @@ abbrev pub ReachedStands : Type 0
 ReachedStands = (r : Request) (calls : List Call) → setUp r .0 .refusal ≡ 0 → Standing (reach machine r calls)
 
 -- 'A refused set-up hands back its number and an all-zero state, which refusal 1 catches. Any other refusal hands back the number, zero
--- in the answer's other fields, and the state exactly as lent.'
+-- in the answer's other fields, and the state exactly as lent.' But for two, 14 and 15 (P4): 'These two refusals now leave the state as it was but
+-- for that count'.
 pub record HandsBack : Type 0 where
   pub set-up : (r : Request) → ¬ (setUp r .0 .refusal ≡ 0) → setUp r .1 ≡ nothing
-  pub admission : (b : Bus) (a : Arrival) → ¬ (admit b a .0 .refusal ≡ 0) → admit b a ≡ (record { refusal = admit b a .0 .refusal; number = 0 }, b)
+  pub admission :
+      (b : Bus) (a : Arrival) → ¬ (admit b a .0 .refusal ≡ 0) → ¬ TurnsAway (admit b a .0 .refusal)
+      → admit b a ≡ (record { refusal = admit b a .0 .refusal; number = 0 }, b)
+  pub turned-away :
+      (b : Bus) (a : Arrival) → TurnsAway (admit b a .0 .refusal)
+      → admit b a ≡ (record { refusal = admit b a .0 .refusal; number = 0 }, turnedAway b)
   pub begin : (b : Bus) → ¬ (beginCall b .0 .refusal ≡ 0) → beginCall b ≡ (refusedBegun (beginCall b .0 .refusal), b)
   pub probe : (b : Bus) → ¬ (probeCall b .0 .refusal ≡ 0) → probeCall b ≡ (refusedAnswer (probeCall b .0 .refusal), b)
   pub step : (b : Bus) → ¬ (step b .0 .refusal ≡ 0) → step b ≡ (refusedAnswer (step b .0 .refusal), b)
@@ -256,7 +264,7 @@ NobodyJoins E =
 abbrev pub slotsOf : Answer → ℕ
 slotsOf a = cond (eqb (a .refusal) 0) (cond (eqb (a .event) success) (a .length) 1) 0
 
--- what one reply adds to the packets admitted, sent and lost, and to the clock; drops come with begins, and in a step with its begin
+-- what one reply adds to the packets admitted, sent, lost and turned away, and to the clock; drops come with begins, and in a step with its begin
 abbrev pub adds-admitted : Reply → ℕ
 adds-admitted (admitted a) = bit (eqb (a .refusal) 0)
 adds-admitted (begun o) = 0
@@ -272,10 +280,20 @@ adds-lost (admitted a) = 0
 adds-lost (begun o) = o .drops
 adds-lost (probed a) = a .drops
 
+-- P4: 'raised by exactly the admissions refused with 14 or 15'
+abbrev pub adds-turned : Reply → ℕ
+adds-turned (admitted a) = bit (turns-away (a .refusal))
+adds-turned (begun o) = 0
+adds-turned (probed a) = 0
+
 abbrev pub adds-slots : Reply → ℕ
 adds-slots (admitted a) = 0
 adds-slots (begun o) = 0
 adds-slots (probed a) = slotsOf a
+
+-- the packets turned away by so many: 'The count stops at 4,294,967,295.'
+abbrev pub upToTheStop : ℕ → ℕ
+upToTheStop n = min n most-turned
 
 -- 'Counted over all answers since set-up, admitted = sent + lost + waiting', and the machine's own counts are those, its clock too
 pub record Counted (b : Bus) (rs : List Reply) : Type 0 where
@@ -283,11 +301,32 @@ pub record Counted (b : Bus) (rs : List Reply) : Type 0 where
   pub admitted : b .admitted ≡ total adds-admitted rs
   pub sent : b .sent ≡ total adds-sent rs
   pub lost : b .lost ≡ total adds-lost rs
+  pub turned : b .turned ≡ upToTheStop (total adds-turned rs)
   pub clock : b .clock ≡ total adds-slots rs
 
 -- after any set-up and any calls
 abbrev pub CountsAreTrue : Engine → Type 0
 CountsAreTrue E = (r : Request) (calls : List Call) → Counted (reach machine r calls) (replies E (E .setUp r .1) calls)
+
+-- what a listing closes with, counted from the replies since set-up alone: 'END clock admitted sent lost waiting', and the packets turned away
+abbrev pub totalsFrom : List Reply → Totals
+totalsFrom rs =
+    record {
+      refusal = 0;
+      clock = total adds-slots rs;
+      admitted = total adds-admitted rs;
+      sent = total adds-sent rs;
+      lost = total adds-lost rs;
+      waiting = total adds-admitted rs - (total adds-sent rs + total adds-lost rs);
+      turned = upToTheStop (total adds-turned rs);
+    }
+
+-- after an accepted set-up and any calls an engine closes with what its own replies come to; after a refused one it refuses to close
+pub record ClosesAsCounted (E : Engine) : Type 0 where
+  pub accepted :
+      (r : Request) (calls : List Call) → E .setUp r .0 .refusal ≡ 0
+      → E .closing (reach E r calls) ≡ totalsFrom (replies E (E .setUp r .1) calls)
+  pub refused : (r : Request) (calls : List Call) → ¬ (E .setUp r .0 .refusal ≡ 0) → E .closing (reach E r calls) ≡ refusedTotals 1
 
 -- ---- numbers
 
@@ -592,6 +631,7 @@ pub record Promised (E : Engine) : Type 0 where
   pub emptyEnds : EmptyEnds E
   pub nobodyJoins : NobodyJoins E
   pub countsAreTrue : CountsAreTrue E
+  pub closesAsCounted : ClosesAsCounted E
   pub numbersAreAnswers : NumbersAreAnswers E
   pub waitsAreTrue : WaitsAreTrue E
   pub demand3 : Demand3 E

@@ -1,5 +1,5 @@
--- Engines: anything that takes the four calls set-up, admission, begin and probe; the step that is made of them; and the states and replies that
--- calls lead to. Assumes nothing.
+-- Engines: anything that takes the four calls set-up, admission, begin and probe, and closes; the step that is made of them; and the states and
+-- replies that calls lead to. Assumes nothing.
 use Prim.Native.Nat.{ℕ}
 use mathlib.Core.Path.{_≡_}
 use mathlib.Core.Bool.{cond}
@@ -10,18 +10,20 @@ use Rattle.rules.specs.SetUp.{Request, Verdict, setUp}
 use Rattle.rules.specs.Admission.{Arrival, Admitted, admit}
 use Rattle.rules.specs.Probe.{Answer, refusedAnswer, dropping}
 use Rattle.rules.specs.Step.{Begun, beginCall, probeCall}
+use Rattle.rules.specs.Closing.{Totals, closingCall}
 
--- A state goes in and comes back, beside the answer.
+-- A state goes in and comes back, beside the answer; closing reads it.
 pub record Engine : Type 1 where
   pub State : Type 0
   pub setUp : Request → Verdict × State
   pub admit : State → Arrival → Admitted × State
   pub begin : State → Begun × State
   pub probe : State → Answer × State
+  pub closing : State → Totals
 
 -- paper 01 itself
 abbrev pub machine : Engine
-machine = record { State = Bus; setUp = setUp; admit = admit; begin = beginCall; probe = probeCall }
+machine = record { State = Bus; setUp = setUp; admit = admit; begin = beginCall; probe = probeCall; closing = closingCall }
 
 -- ---- a step of any engine is made of its begin and probe
 

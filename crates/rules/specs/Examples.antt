@@ -261,6 +261,7 @@ slot100 =
       admitted = 0;
       sent = 0;
       lost = 0;
+      turned = 0;
       last = none;
       contention = none;
     }
@@ -305,6 +306,7 @@ busAt slot contention stations =
       admitted = length stations;
       sent = 0;
       lost = 0;
+      turned = 0;
       last = none;
       contention = contention;
     }
@@ -370,6 +372,7 @@ sentAll n =
       admitted = n;
       sent = n;
       lost = 0;
+      turned = 0;
       last = none;
       contention = none;
     }

@@ -7,6 +7,7 @@ pub mod Admission
 pub mod Begin
 pub mod Probe
 pub mod Step
+pub mod Closing
 pub mod Conditions
 pub mod Engine
 pub mod Demands

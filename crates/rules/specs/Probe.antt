@@ -171,6 +171,7 @@ unwon b =
       admitted = b .admitted;
       sent = b .sent;
       lost = b .lost;
+      turned = b .turned;
       last = none;
       contention = none;
     }
@@ -204,6 +205,7 @@ won b x =
       admitted = b .admitted;
       sent = suc (b .sent);
       lost = b .lost;
+      turned = b .turned;
       last = lastWinner (b .discipline) x;
       contention = none;
     }

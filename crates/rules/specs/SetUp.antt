@@ -83,7 +83,7 @@ disciplineOf (suc (suc n)) = RTVC
 abbrev pub freshStation : Asked → Station
 freshStation s = record { address = s .address; capability = s .capability; queue = []; offer = none }
 
--- the state that an accepted set-up gives: slot 0, empty queues, no contention, no circuit has won
+-- the state that an accepted set-up gives: slot 0, empty queues, nothing counted, no contention, no circuit has won
 abbrev pub freshBus : Request → Bus
 freshBus r =
     record {
@@ -96,6 +96,7 @@ freshBus r =
       admitted = 0;
       sent = 0;
       lost = 0;
+      turned = 0;
       last = none;
       contention = none;
     }

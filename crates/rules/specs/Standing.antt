@@ -10,7 +10,7 @@ use lib.Dec.{leb, ltb, eqb}
 use lib.ListN.{length}
 use Rattle.window.specs.Splitting.{placed}
 use Rattle.rules.specs.Lists.{some-of, each-of, distinct, outside, Among, All, Some, Distinct}
-use Rattle.rules.specs.Bus.{places, longest-packet, clock-end, most-admitted, Discipline, PRI, RTDG, RTVC, code, Packet, Offer, Station, Contention, Bus, waiting, numbers}
+use Rattle.rules.specs.Bus.{places, longest-packet, clock-end, most-admitted, most-turned, Discipline, PRI, RTDG, RTVC, code, Packet, Offer, Station, Contention, Bus, waiting, numbers}
 use Rattle.rules.specs.SetUp.{Asked, Request, setUpVerdict}
 
 -- the station as it would be asked for
@@ -100,6 +100,7 @@ stands b =
     eqb (setUpVerdict (askedFor b) .refusal) 0
     && leb (b .clock) clock-end
     && leb (b .admitted) most-admitted
+    && leb (b .turned) most-turned
     && eqb (b .admitted) (b .sent + b .lost + waiting (b .stations))
     && each-of (station-stands b) (b .stations)
     && distinct (numbers (b .stations))
@@ -172,6 +173,8 @@ pub record Standing (b : Bus) : Type 0 where
   -- 'clock and admitted count within range'
   pub clock-in : b .clock ≤ clock-end
   pub admitted-in : b .admitted ≤ most-admitted
+  -- P4: 'The count stops at 4,294,967,295'
+  pub turned-in : b .turned ≤ most-turned
   -- 'admitted = sent + lost + waiting'
   pub counts : b .admitted ≡ b .sent + b .lost + waiting (b .stations)
   -- 'in each queue at most 16 packets, ..'

@@ -8,12 +8,13 @@ use mathlib.Core.List.{List, [], _∷_, map}
 use lib.Dec.{leb, eqb}
 use Rattle.window.specs.Splitting.{firstWindow}
 use Rattle.rules.specs.Lists.{keep, each-of}
-use Rattle.rules.specs.Bus.{Packet, Station, Contention, Bus, amended, nothing}
+use Rattle.rules.specs.Bus.{Packet, Station, Contention, Bus, amended, withTurned, nothing}
 use Rattle.rules.specs.SetUp.{fault, setUp}
-use Rattle.rules.specs.Admission.{admit}
+use Rattle.rules.specs.Admission.{oneMore, turnedAfter, admit}
 use Rattle.rules.specs.Probe.{Contender, transmitters, Answer, idle, success, refusedAnswer, dropping, Open, sentBy, withdrawn, lastWinner, heard, probe}
 use Rattle.rules.specs.Begin.{begin}
 use Rattle.rules.specs.Step.{is-under-way, Begun, refusedBegun, beginCall, probeRefusal, probeCall, opened}
+use Rattle.rules.specs.Closing.{closingCall}
 use Rattle.rules.specs.Engine.{Engine}
 
 -- refuses every call, set-up too, with one and the same number
@@ -25,6 +26,7 @@ refusesAll n =
       admit = λ b a. (record { refusal = suc n; number = 0 }, b);
       begin = λ b. (refusedBegun (suc n), b);
       probe = λ b. (refusedAnswer (suc n), b);
+      closing = closingCall;
     }
 
 -- sets up as the machine does, and refuses every call after it
@@ -36,6 +38,7 @@ refusesCalls n =
       admit = λ b a. (record { refusal = suc n; number = 0 }, b);
       begin = λ b. (refusedBegun (suc n), b);
       probe = λ b. (refusedAnswer (suc n), b);
+      closing = closingCall;
     }
 
 -- gives the machine's answers, and hands the state back untouched
@@ -47,6 +50,7 @@ untouched =
       admit = λ b a. (admit b a .0, b);
       begin = λ b. (beginCall b .0, b);
       probe = λ b. (probeCall b .0, b);
+      closing = closingCall;
     }
 
 -- answers each admission with a number one too low, as if the first packet were 0
@@ -58,11 +62,12 @@ oneTooLow =
       admit = λ b a. (record { refusal = admit b a .0 .refusal; number = admit b a .0 .number - 1 }, admit b a .1);
       begin = beginCall;
       probe = probeCall;
+      closing = closingCall;
     }
 
 -- the machine with another probe
 abbrev pub probingBy : (Bus → Answer × Bus) → Engine
-probingBy other = record { State = Bus; setUp = setUp; admit = admit; begin = beginCall; probe = other }
+probingBy other = record { State = Bus; setUp = setUp; admit = admit; begin = beginCall; probe = other; closing = closingCall }
 
 -- the machine with another way to probe the contention under way
 abbrev pub probing : (Open → Answer × Bus) → Engine
@@ -89,6 +94,7 @@ stays b x =
       admitted = b .admitted;
       sent = b .sent;
       lost = b .lost;
+      turned = b .turned;
       last = lastWinner (b .discipline) x;
       contention = none;
     }
@@ -136,6 +142,7 @@ transmittersKept =
       probe = λ s.
           let said = heard (opened (s .0)) (transmitters (opened (s .1) .bus) (opened (s .1) .contention)) in
           cond (eqb (probeRefusal (s .0)) 0) (said .0, (said .1, s .0)) (refusedAnswer (probeRefusal (s .0)), s);
+      closing = λ s. closingCall (s .0);
     }
 
 -- makes up probes: plays the contention to its end in one call, in n probes more at the most, and answers its last probe alone
@@ -173,6 +180,7 @@ firstStation =
       admit = λ s a. (admit (s .0) a .0, (admit (s .0) a .1, s .1));
       begin = λ s. (beginCall (s .0) .0, (beginCall (s .0) .1, s .1));
       probe = λ s. arbitrates (s .0) (s .1);
+      closing = λ s. closingCall (s .0);
     }
 
 -- ---- waits
@@ -208,6 +216,7 @@ waitOfTheContention =
       admit = λ s a. (admit (s .0) a .0, (admit (s .0) a .1, s .1));
       begin = λ s. let o = beginCall (s .0) in (o .0, (o .1, cond (eqb (o .0 .refusal) 0) (s .0 .clock) (s .1)));
       probe = λ s. (withWait (probeCall (s .0) .0 .slot - s .1) (probeCall (s .0) .0), (probeCall (s .0) .1, s .1));
+      closing = λ s. closingCall (s .0);
     }
 
 -- counts the wait from the arrival's time, where that is earlier than the admission: in a run whose k-th accepted arrival has the time that
@@ -223,7 +232,7 @@ arrivalTimes k = k - 1
 
 -- the machine with another begin
 abbrev pub beginning : (Bus → Begun × Bus) → Engine
-beginning other = record { State = Bus; setUp = setUp; admit = admit; begin = other; probe = probeCall }
+beginning other = record { State = Bus; setUp = setUp; admit = admit; begin = other; probe = probeCall; closing = closingCall }
 
 -- a begin's answer with no drops
 abbrev pub withoutDrops : Begun → Begun
@@ -239,6 +248,7 @@ dropsLater =
       admit = λ s a. (admit (s .0) a .0, (admit (s .0) a .1, s .1));
       begin = λ s. let o = beginCall (s .0) in cond (eqb (o .0 .refusal) 0) (withoutDrops (o .0), (o .1, o .0 .drops)) (o .0, s);
       probe = λ s. let p = probeCall (s .0) in cond (eqb (p .0 .refusal) 0) (dropping (s .1) (p .0), (p .1, 0)) (p .0, s);
+      closing = λ s. closingCall (s .0);
     }
 
 -- offers anew at the first probe, that of the first window of D, so that a packet admitted after the begin joins
@@ -294,3 +304,33 @@ eachEndsRound = endingRound λ b. not (is-under-way (b .contention))
 -- goes on with the round after a contention without a winner
 abbrev pub roundGoesOn : Engine
 roundGoesOn = probingBy λ b. (probeCall b .0, cond (eqb (probeCall b .0 .event) idle) (withLast (b .last) (probeCall b .1)) (probeCall b .1))
+
+-- ---- packets turned away
+
+-- the machine, but that the count after an admission is another one, of its refusal and the count before it
+abbrev pub counting : (ℕ → ℕ → ℕ) → Engine
+counting after =
+    record {
+      State = Bus;
+      setUp = setUp;
+      admit = λ b a. (admit b a .0, withTurned (after (admit b a .0 .refusal) (b .turned)) (admit b a .1));
+      begin = beginCall;
+      probe = probeCall;
+      closing = closingCall;
+    }
+
+-- counts a 12 too
+abbrev pub counts12Too : Engine
+counts12Too = counting λ refusal count. cond (eqb refusal 12) (oneMore count) (turnedAfter refusal count)
+
+-- counts a 15 twice
+abbrev pub counts15Twice : Engine
+counts15Twice = counting λ refusal count. cond (eqb refusal 15) (oneMore (oneMore count)) (turnedAfter refusal count)
+
+-- counts 14 alone
+abbrev pub counts14Alone : Engine
+counts14Alone = counting λ refusal count. cond (eqb refusal 14) (oneMore count) count
+
+-- starts again at a contention
+abbrev pub startsAgain : Engine
+startsAgain = beginning λ b. (beginCall b .0, cond (eqb (beginCall b .0 .refusal) 0) (withTurned 0 (beginCall b .1)) b)
