@@ -117,7 +117,16 @@ calls-rise b [] = record { in-admitted = omega arith; in-sent = omega arith; in-
 calls-rise b (c ∷ calls) =
     let h = call-rise b c in
     let k = calls-rise (next machine b c) calls in
-    record { in-admitted = omega arith; in-sent = omega arith; in-lost = omega arith; in-turned = λ l. omega arith; in-clock = omega arith }
+    record {
+      in-admitted = omega arith;
+      in-sent = omega arith;
+      in-lost = omega arith;
+      in-turned = λ l. let first = h .in-turned l in k .in-turned (omega arith) ∙ stop-twice (b .turned) _ _ _ first;
+      in-clock = omega arith;
+    }
+  where
+    stop-twice : (count more later count′ : ℕ) → count′ ≡ upToTheStop (count + (more + 0)) → upToTheStop (count′ + later) ≡ upToTheStop (count + (more + later))
+    stop-twice count more later count′ e = omega arith
 
 -- all of them are 0 after set-up, accepted or refused
 pub fresh-zero : {X : Type 0} (f : Bus → X) (r : Request) → f (freshBus r) ≡ f nothing → f (setUp r .1) ≡ f nothing

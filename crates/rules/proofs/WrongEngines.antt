@@ -14,18 +14,19 @@ use Rattle.rules.specs.Bus.{RTVC, Packet, Station}
 use Rattle.rules.specs.SetUp.{Request, setUp}
 use Rattle.rules.specs.Admission.{Arrival}
 use Rattle.rules.specs.Probe.{Answer, idle, collision, success}
+use Rattle.rules.specs.Closing.{Totals}
 use Rattle.rules.specs.Engine.{Engine, machine, Call, one-begin, one-probe, one-step, Reply, replies, reach, probesIn, beginsIn, answers}
-use Rattle.rules.specs.Demands.{Demand2, adds-lost, numbersAnswered, NumbersAreAnswers, WaitsAreTrue, NobodyJoins, mostContentions, most-idle, mostSlots, fewerSlots, CircuitWaits, EndsWithin, Demand3, contentionsFor, idleFor, slotsFor, InTurn, WaitInTurn, TalliesAreTrue, NobodyPassesTwice}
-use Rattle.rules.specs.Examples.{arrives, steps, listing, rtdg, circuits, apart, packetSince, pair as twoStations, admittedLater, chatty, meanwhile}
-use Rattle.rules.specs.WrongEngines.{refusesAll, refusesCalls, untouched, oneTooLow, alwaysIdle, madeUpDrops, madeUpSent, lowByte, twoForOne, transmittersKept, madeUpProbes, firstStation, waitToTheEnd, waitOfTheContention, waitFromTheArrival, arrivalTimes, dropsLater, offersAnew, beginTakesASlot, topEndsRound, eachEndsRound, topSent, roundGoesOn}
+use Rattle.rules.specs.Demands.{Demand2, adds-lost, numbersAnswered, ClosesAsCounted, NumbersAreAnswers, WaitsAreTrue, NobodyJoins, mostContentions, most-idle, mostSlots, fewerSlots, CircuitWaits, EndsWithin, Demand3, contentionsFor, idleFor, slotsFor, InTurn, WaitInTurn, TalliesAreTrue, NobodyPassesTwice}
+use Rattle.rules.specs.Examples.{arrives, steps, listing, pri, rtdg, arrivals, circuits, apart, packetSince, pair as twoStations, admittedLater, chatty, meanwhile}
+use Rattle.rules.specs.WrongEngines.{refusesAll, refusesCalls, untouched, oneTooLow, alwaysIdle, madeUpDrops, madeUpSent, lowByte, twoForOne, transmittersKept, madeUpProbes, firstStation, waitToTheEnd, waitOfTheContention, waitFromTheArrival, arrivalTimes, dropsLater, offersAnew, beginTakesASlot, topEndsRound, eachEndsRound, topSent, roundGoesOn, counts12Too, counts15Twice, counts14Alone, startsAgain}
 use Rattle.rules.proofs.Laws.{clash}
-use Rattle.rules.proofs.Reach.{stepsAgree}
+use Rattle.rules.proofs.Reach.{stepsAgree, closing-agrees}
 use Rattle.rules.proofs.Ending.{top-only}
 use Rattle.rules.proofs.Passing.{passes-from-set-up}
-use Rattle.rules.proofs.Computing.{Brings, Same, number, bus, test, pair, computed, bus-same, test-same, number-same, pair-same, computed-replies}
+use Rattle.rules.proofs.Computing.{Brings, Same, number, bus, test, pair, computed, closed, bus-same, test-same, number-same, pair-same, computed-replies, closed-closing}
 
 -- A number read off the replies to a script is the machine's, both computed state by state.
-agrees : (E : Engine) (bring : Brings (E .State)) → Same bring → Demand2 E → (read : List Reply → ℕ) (r : Request) (calls : List Call)
+agrees : (E : Engine) (bring : Brings (List Reply) (E .State)) → Same bring → Demand2 E → (read : List Reply → ℕ) (r : Request) (calls : List Call)
     → read (computed E bring (E .setUp r .1) calls) ≡ read (computed machine bus (setUp r .1) calls)
 agrees E bring same demand read r calls =
     ap
@@ -33,6 +34,16 @@ agrees E bring same demand read r calls =
     (computed-replies E bring same (E .setUp r .1) calls
     ∙ stepsAgree E demand r calls
     ∙ sym (computed-replies machine bus bus-same (setUp r .1) calls))
+
+-- So is the count of packets turned away that it closes with.
+closes-agree : (E : Engine) (bring : Brings Totals (E .State)) → Same bring → Demand2 E → (r : Request) (calls : List Call)
+    → closed E bring (E .setUp r .1) calls .turned ≡ closed machine bus (setUp r .1) calls .turned
+closes-agree E bring same demand r calls =
+    ap
+    (λ t. t .turned)
+    (closed-closing E bring same (E .setUp r .1) calls
+    ∙ closing-agrees E demand r calls
+    ∙ sym (closed-closing machine bus bus-same (setUp r .1) calls))
 
 -- read off replies, each summed: the events (0 idle, 1 collision, 2 success), the winners' addresses, the drops, the numbers that admissions
 -- answer, the refusals of probes, the waits, the drops that begins answer, the slots probed
@@ -342,3 +353,32 @@ pub roundGoesOn-idles : NobodyPassesTwice roundGoesOn → ⊥
 unfolding exponentOf isPower
 roundGoesOn-idles holds =
     let z : 2 ≤ 1 = holds circuits (arrives 6 0 1 ∷ []) one-step (arrives 6 0 1 ∷ steps 2) 6 refl refl refl .idle-ones in omega arith
+
+-- ---- packets turned away
+
+-- a priority at D is refused with 12, and turns no packet away
+pub counts12Too-wrong : Demand2 counts12Too → ⊥
+unfolding exponentOf isPower
+counts12Too-wrong demand = let z : _≡_ {A = ℕ} 1 0 = closes-agree counts12Too bus bus-same demand (pri 2) (arrives 0 2 1 ∷ []) in omega arith
+
+-- the 17th packet at a station is one
+pub counts15Twice-wrong : Demand2 counts15Twice → ⊥
+unfolding exponentOf isPower
+counts15Twice-wrong demand = let z : _≡_ {A = ℕ} 2 1 = closes-agree counts15Twice bus bus-same demand (pri 2) (arrivals 17) in omega arith
+
+pub counts14Alone-wrong : Demand2 counts14Alone → ⊥
+unfolding exponentOf isPower
+counts14Alone-wrong demand = let z : _≡_ {A = ℕ} 0 1 = closes-agree counts14Alone bus bus-same demand (pri 2) (arrivals 17) in omega arith
+
+-- a packet that was late before a contention began stays counted
+pub startsAgain-wrong : Demand2 startsAgain → ⊥
+unfolding exponentOf isPower
+startsAgain-wrong demand =
+    let calls : List Call = one-begin ∷ one-probe ∷ arrives 0 0 1 ∷ one-begin ∷ [] in
+    let z : _≡_ {A = ℕ} 0 1 = closes-agree startsAgain bus bus-same demand (rtdg 2 1) calls in
+    omega arith
+
+-- and none of them closes as its own replies say: of each by the same calls
+pub counts12Too-miscounts : ClosesAsCounted counts12Too → ⊥
+unfolding exponentOf isPower
+counts12Too-miscounts holds = let z : _≡_ {A = ℕ} 1 0 = ap (λ t. t .turned) (holds .accepted (pri 2) (arrives 0 2 1 ∷ []) refl) in omega arith
