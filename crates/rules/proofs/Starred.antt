@@ -11,18 +11,20 @@ use lib.ListN.{length}
 use Rattle.window.specs.Splitting.{exponentOf, isPower}
 use Rattle.rules.specs.SetUp.{setUp}
 use Rattle.rules.specs.Engine.{machine}
-use Rattle.rules.specs.Examples.{Row, fact, script, holds, failingFrom, settled, orders, edges, bounds, waits, beginnings, passes, table, firstFailing}
-use Rattle.rules.proofs.Computing.{bus, computed, bus-same, computed-replies}
+use Rattle.rules.specs.Examples.{Row, fact, script, closed, holds, failingFrom, settled, orders, edges, bounds, waits, beginnings, passes, turnedAways, table, firstFailing}
+use Rattle.rules.proofs.Computing.{bus, computed, closed as closing, bus-same, computed-replies, closed-closing}
 
 -- whether a row holds, its script computed state by state
 computes : Row → Bool
 computes (fact test) = test
 computes (script r calls test) = test (computed machine bus (setUp r .1) calls)
+computes (closed r calls test) = test (closing machine bus (setUp r .1) calls)
 
 rewritten : (row : Row) → holds row ≡ computes row
 unfolding computes
 rewritten (fact test) = refl
 rewritten (script r calls test) = ap test (sym (computed-replies machine bus bus-same (setUp r .1) calls))
+rewritten (closed r calls test) = ap test (sym (closed-closing machine bus bus-same (setUp r .1) calls))
 
 -- where no row of a list fails, and none of another, none of the two together does
 both-hold :
@@ -67,12 +69,17 @@ passes-hold : failingFrom computes 70 passes ≡ none
 unfolding computes exponentOf isPower
 passes-hold = refl
 
+turned-hold : failingFrom computes 78 turnedAways ≡ none
+unfolding computes exponentOf isPower
+turned-hold = refl
+
 -- no row fails
 pub starred : firstFailing ≡ none
 starred =
     ap (λ holding. failingFrom holding 1 table) (fun-ext rewritten)
-    ∙ both-hold 1 29 settled (orders ++ (edges ++ (bounds ++ (waits ++ (beginnings ++ passes))))) refl settled-hold
-    (both-hold 29 33 orders (edges ++ (bounds ++ (waits ++ (beginnings ++ passes)))) refl orders-hold
-    (both-hold 33 51 edges (bounds ++ (waits ++ (beginnings ++ passes))) refl edges-hold
-    (both-hold 51 56 bounds (waits ++ (beginnings ++ passes)) refl bounds-hold
-    (both-hold 56 62 waits (beginnings ++ passes) refl waits-hold (both-hold 62 70 beginnings passes refl beginnings-hold passes-hold)))))
+    ∙ both-hold 1 29 settled (orders ++ (edges ++ (bounds ++ (waits ++ (beginnings ++ (passes ++ turnedAways)))))) refl settled-hold
+    (both-hold 29 33 orders (edges ++ (bounds ++ (waits ++ (beginnings ++ (passes ++ turnedAways))))) refl orders-hold
+    (both-hold 33 51 edges (bounds ++ (waits ++ (beginnings ++ (passes ++ turnedAways)))) refl edges-hold
+    (both-hold 51 56 bounds (waits ++ (beginnings ++ (passes ++ turnedAways))) refl bounds-hold
+    (both-hold 56 62 waits (beginnings ++ (passes ++ turnedAways)) refl waits-hold
+    (both-hold 62 70 beginnings (passes ++ turnedAways) refl beginnings-hold (both-hold 70 78 passes turnedAways refl passes-hold turned-hold))))))

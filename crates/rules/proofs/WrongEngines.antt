@@ -361,6 +361,11 @@ pub counts12Too-wrong : Demand2 counts12Too → ⊥
 unfolding exponentOf isPower
 counts12Too-wrong demand = let z : _≡_ {A = ℕ} 1 0 = closes-agree counts12Too bus bus-same demand (pri 2) (arrives 0 2 1 ∷ []) in omega arith
 
+-- and it does not close as its own replies say
+pub counts12Too-miscounts : ClosesAsCounted counts12Too → ⊥
+unfolding exponentOf isPower
+counts12Too-miscounts holds = let z : _≡_ {A = ℕ} 1 0 = ap (λ t. t .turned) (holds .accepted (pri 2) (arrives 0 2 1 ∷ []) refl) in omega arith
+
 -- the 17th packet at a station is one
 pub counts15Twice-wrong : Demand2 counts15Twice → ⊥
 unfolding exponentOf isPower
@@ -377,8 +382,3 @@ startsAgain-wrong demand =
     let calls : List Call = one-begin ∷ one-probe ∷ arrives 0 0 1 ∷ one-begin ∷ [] in
     let z : _≡_ {A = ℕ} 0 1 = closes-agree startsAgain bus bus-same demand (rtdg 2 1) calls in
     omega arith
-
--- and none of them closes as its own replies say: of each by the same calls
-pub counts12Too-miscounts : ClosesAsCounted counts12Too → ⊥
-unfolding exponentOf isPower
-counts12Too-miscounts holds = let z : _≡_ {A = ℕ} 1 0 = ap (λ t. t .turned) (holds .accepted (pri 2) (arrives 0 2 1 ∷ []) refl) in omega arith

@@ -1,6 +1,6 @@
 -- The starred examples of paper 01 ('Settled examples') as one table over the definitions, with rows on its traps, on open points that
--- docs/DECISIONS.md settles, on the order of offers, at the edges of the ranges, where the bounds are met, on waits, on begin and probe, and on who
--- passes a waiting circuit. Each row quotes its line.
+-- docs/DECISIONS.md settles, on the order of offers, at the edges of the ranges, where the bounds are met, on waits, on begin and probe, on who
+-- passes a waiting circuit, and on packets turned away. Each row quotes its line.
 -- proofs/Starred.antt proves that no row fails. Assumes nothing.
 use Prim.Native.Nat.{ℕ, zero, suc, _+_, _-_}
 use mathlib.Core.Bool.{Bool, true, false, not, _&&_, cond}
@@ -18,19 +18,22 @@ use Rattle.rules.specs.Admission.{Admitted, admissionRefusal, admit}
 use Rattle.rules.specs.Begin.{parameterOf}
 use Rattle.rules.specs.Probe.{withdrawn, parameter-phase, tie-phase, idle, collision, success, Answer, waitOf, dropping}
 use Rattle.rules.specs.Step.{Contends, Begun, beginRefusal, beginCall, probeRefusal, stepRefusal, step}
-use Rattle.rules.specs.Engine.{machine, Call, admission, one-begin, one-probe, one-step, Reply, replies, probesIn, admissionsIn, beginsIn}
+use Rattle.rules.specs.Closing.{Totals}
+use Rattle.rules.specs.Engine.{machine, Call, admission, one-begin, one-probe, one-step, Reply, replies, reach, probesIn, admissionsIn, beginsIn}
 use Rattle.rules.specs.Demands.{probes, mostProbes, slotsBefore, contentionsIn, idleContentionsIn, slotsIn, sends, upTo, mostContentions, most-idle, mostSlots, fewerSlots, place, contentionsFor, idleFor, slotsFor, most-passes, most-idle-between, successesOf, untilSuccess, tallyOf, waits-after}
 
 -- ---- rows
 
--- a test of definitions; or a set-up, calls after it, and a test of the replies to them
+-- a test of definitions; or a set-up, calls after it, and a test of the replies to them, or of what the listing closes with
 pub data Row : Type 0 where
   fact : Bool → Row
   script : Request → List Call → (List Reply → Bool) → Row
+  closed : Request → List Call → (Totals → Bool) → Row
 
 abbrev pub holds : Row → Bool
 holds (fact test) = test
 holds (script r calls test) = test (replies machine (setUp r .1) calls)
+holds (closed r calls test) = test (machine .closing (reach machine r calls))
 
 -- the number of the first row that does not hold, the rows counted from n; none if all hold
 abbrev pub failingFrom : (Row → Bool) → ℕ → List Row → Option ℕ
@@ -500,7 +503,50 @@ offeringSince slot offered = offeringOf (packetSince slot 1 0 1) 0 (packetSince 
 abbrev pub betweenAt : ℕ → Bus
 betweenAt slot = busAt slot none (withdrawn (offering 0 1 0) ∷ [])
 
--- ---- the table, in seven parts
+-- ---- packets turned away
+
+-- 'END clock admitted sent lost waiting', and the packets turned away
+abbrev pub END : ℕ → ℕ → ℕ → ℕ → ℕ → ℕ → Totals → Bool
+END clock admitted sent lost waiting turned t =
+    eqb (t .refusal) 0
+    && eqb (t .clock) clock
+    && eqb (t .admitted) admitted
+    && eqb (t .sent) sent
+    && eqb (t .lost) lost
+    && eqb (t .waiting) waiting
+    && eqb (t .turned) turned
+
+-- PRI, D 4, A 8, station 0 with sixteen packets, when so many packets have been turned away
+abbrev pub crowded : ℕ → Bus
+crowded turned =
+    record {
+      discipline = PRI;
+      D = 4;
+      A = 8;
+      q = 1;
+      stations = record { address = 0; capability = 0; queue = map (λ number. packet number 0 1) (countUp 1 16); offer = none } ∷ [];
+      clock = 0;
+      admitted = 16;
+      sent = 0;
+      lost = 0;
+      turned = turned;
+      last = none;
+      contention = none;
+    }
+
+-- the refusal of a 17th packet there, and the count after it
+abbrev pub seventeenth : ℕ → ℕ × ℕ
+seventeenth turned =
+    let said = admit (crowded turned) (record { address = 0; value = 0; length = 1 }) in (said .0 .refusal, said .1 .turned)
+
+-- an admission that is refused with 16, and the count after it
+abbrev pub uncounted : ℕ × ℕ
+uncounted = let said = admit (sentAll 4_294_967_295) (record { address = 0; value = 0; length = 1 }) in (said .0 .refusal, said .1 .turned)
+
+abbrev pub same-pair : ℕ × ℕ → ℕ × ℕ → Bool
+same-pair x y = eqb (x .0) (y .0) && eqb (x .1) (y .1)
+
+-- ---- the table, in eight parts
 
 -- the settled examples, traps and open points
 abbrev pub settled : List Row
@@ -897,8 +943,40 @@ passes =
     && eqb (total (λ a. a .wait + a .length) (drop 8 (probesIn rs))) (waitOf (packetSince 0 5 0 1) 1 + slotsFor (placeAfter 7 1 meanwhile rs) fewerSlots 2 1 1))
     ∷ []
 
+-- packets turned away (P4)
+abbrev pub turnedAways : List Row
+turnedAways =
+    -- 78: 'raised by exactly the admissions refused with 14 or 15': a 14 and an accepted one
+    closed (rtdg 2 1) (one-step ∷ arrives 1 0 1 ∷ arrives 1 1 1 ∷ []) (END 1 1 0 0 1 1)
+    -- 79: the 17th packet at a station, twice, the queue as it was
+    ∷ closed (pri 2) (arrivals 17 ++ (one-step ∷ arrivals 2)) (END 1 17 1 0 16 2)
+    -- 80: 11, 12 and 13 are not counted, nor a begin that is refused with 25 and a probe with 26
+    ∷ closed
+    (rtdg 2 1)
+    (arrives 9 0 1 ∷ arrives 1 1_073_741_825 1 ∷ arrives 1 0 0 ∷ arrives 1 0 4_097 ∷ one-probe ∷ one-begin ∷ one-begin ∷ [])
+    (END 0 0 0 0 0 0)
+    -- 81: nor 16
+    ∷ fact (same-pair uncounted (16, 0))
+    -- 82: 14 before 15: late where no place is free, it is counted once
+    ∷ closed (rtdg 2 1) (one-step ∷ map (λ n. arrives 0 5 1) (countUp 1 16) ++ (arrives 0 0 1 ∷ [])) (END 1 16 0 0 16 1)
+    -- 83: between contentions, after a begin and midway, and through all that follows: latest starts 0 and 1 collide and are dropped
+    ∷ closed
+    (rtdg 2 1)
+    (arrives 0 0 1 ∷ arrives 1 1 1 ∷ one-begin ∷ one-probe ∷ arrives 2 0 1 ∷ steps 2 ++ (arrives 2 1 1 ∷ one-begin ∷ arrives 2 2 1 ∷ one-probe ∷ []))
+    (END 4 2 0 2 0 3)
+    -- 84: 'The count stops at 4,294,967,295', and the answer stays 15; a larger one is refused with 1, and stays as lent
+    ∷ fact
+    (same-pair (seventeenth 0) (15, 1)
+    && same-pair (seventeenth 4_294_967_293) (15, 4_294_967_294)
+    && same-pair (seventeenth 4_294_967_294) (15, 4_294_967_295)
+    && same-pair (seventeenth 4_294_967_295) (15, 4_294_967_295)
+    && same-pair (seventeenth 4_294_967_296) (1, 4_294_967_296))
+    -- 85: so that it stands within its range
+    ∷ fact (stands (crowded 4_294_967_295) && not (stands (crowded 4_294_967_296)))
+    ∷ []
+
 abbrev pub table : List Row
-table = settled ++ (orders ++ (edges ++ (bounds ++ (waits ++ (beginnings ++ passes)))))
+table = settled ++ (orders ++ (edges ++ (bounds ++ (waits ++ (beginnings ++ (passes ++ turnedAways))))))
 
 -- the number of the first row of the table that fails
 abbrev pub firstFailing : Option ℕ
