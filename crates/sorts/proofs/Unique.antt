@@ -16,6 +16,8 @@ use Rattle.sorts.proofs.wide.Reads as wide
 use Rattle.sorts.proofs.disciplines.late.Reads as late
 use Rattle.sorts.proofs.disciplines.value_fits.Reads as value_fits
 use Rattle.sorts.proofs.disciplines.length_fits.Reads as length_fits
+use Rattle.sorts.proofs.counts.one_more.Reads as one_more
+use Rattle.sorts.proofs.counts.turned_after.Reads as turned_after
 
 pub before-determined : Determines before.Learnt
 before-determined κs args r r′ end end′ = unique
@@ -58,3 +60,9 @@ value-fits-determined κs args r r′ end end′ = unique
 
 pub length-fits-determined : Determines length_fits.Learnt
 length-fits-determined κs args r r′ end end′ = unique
+
+pub one-more-determined : Determines one_more.Learnt
+one-more-determined κs args r r′ end end′ = unique
+
+pub turned-after-determined : Determines turned_after.Learnt
+turned-after-determined κs args r r′ end end′ = unique

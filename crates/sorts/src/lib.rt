@@ -1,10 +1,12 @@
-// The three sorts of numbers, each compared with its own sort and opened here; and what a discipline holds a packet's numbers to
-// (`disciplines`). A slot, which a packet holds, is declared in the crate rules. Every function takes any input.
+// The three sorts of numbers, each compared with its own sort and opened here; what a discipline holds a packet's numbers to (`disciplines`);
+// and the count of packets turned away (`counts`). A slot, which a packet holds, is declared in the crate rules. Every function takes any
+// input.
 ghost use Prim.Native.Nat.{_-_};
 ghost use mathlib.Core.Path.{_≡_};
 ghost use lib.Dec.{leb, ltb, eqb};
 use rules::Slot;
 
+pub mod counts;
 pub mod disciplines;
 
 // 'Slots, addresses and capabilities count three separate things.'

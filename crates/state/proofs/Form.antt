@@ -312,6 +312,7 @@ module _ (s : State) (h : Held s) (p : Padded s) where
               admitted = s .segment .admitted;
               sent = s .segment .sent;
               lost = s .segment .lost;
+              turned = s .segment .turned;
               round = round-form (s .segment .round) (p .round) i;
               contention = contention-form (s .segment .contention) (p .contention) i;
               contenders = contenders-is i .word;
@@ -489,6 +490,7 @@ module _ (b : Bus) (fits : Fits b) where
         admitted = b .admitted;
         sent = b .sent;
         lost = b .lost;
+        turned = b .turned;
         last = last-round (b .last) .0 i;
         contention = contention-of (b .contention) .0 i;
       }

@@ -327,6 +327,7 @@ fresh-form g stations count pass = λ j.
         admitted = 0;
         sent = 0;
         lost = 0;
+        turned = 0;
         round = noRound;
         contention = noContention;
         contenders = nobody-contends j .word;

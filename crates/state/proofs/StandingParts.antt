@@ -17,7 +17,7 @@ use borrow.Author.Tests.{eqb-true, leb-true, leb-false, ltb-true, ltb-false, le-
 use Rattle.window.specs.Splitting.{placed}
 use Rattle.rules.specs.Lists.{each-of, some-of, total, distinct}
 use Rattle.rules.specs.Bus as Machine
-use Rattle.rules.specs.Bus.{places, most-stations, clock-end, most-admitted, Discipline, PRI, RTDG, RTVC, waiting, numbers, numbersIn}
+use Rattle.rules.specs.Bus.{places, most-stations, clock-end, most-admitted, most-turned, Discipline, PRI, RTDG, RTVC, waiting, numbers, numbersIn}
 use Rattle.rules.specs.SetUp.{Request, disciplineOf, setUpVerdict}
 use Rattle.rules.specs.Standing.{packet-fits, rising, same-packet, parameter-fits, offer-stands, station-stands, last-stands, contention-stands, stands, askedFor, Standing}
 use Rattle.rules.proofs.Laws.{clash, and-true, true-and}
@@ -419,12 +419,12 @@ state-held s vs owned =
       listed = sym (length-map (s .segment .listed) _) ∙ segment .1 .0 .1 .0 .1;
       contenders =
           record {
-            word = segment .1 .1 .1 .1 .1 .1 .1 .1 .0 .1;
-            parameters = sym (length-map (s .segment .parameters) _) ∙ segment .1 .1 .1 .1 .1 .1 .1 .1 .1 .0 .1 .0 .1;
-            numbers = sym (length-map (s .segment .numbers) _) ∙ segment .1 .1 .1 .1 .1 .1 .1 .1 .1 .1 .0 .1 .0 .1;
-            values = sym (length-map (s .segment .values) _) ∙ segment .1 .1 .1 .1 .1 .1 .1 .1 .1 .1 .1 .0 .1 .0 .1;
-            lengths = sym (length-map (s .segment .lengths) _) ∙ segment .1 .1 .1 .1 .1 .1 .1 .1 .1 .1 .1 .1 .0 .1 .0 .1;
-            admissions = sym (length-map (s .segment .admissions) _) ∙ segment .1 .1 .1 .1 .1 .1 .1 .1 .1 .1 .1 .1 .1 .0 .1 .0 .1;
+            word = segment .1 .1 .1 .1 .1 .1 .1 .1 .1 .0 .1;
+            parameters = sym (length-map (s .segment .parameters) _) ∙ segment .1 .1 .1 .1 .1 .1 .1 .1 .1 .1 .0 .1 .0 .1;
+            numbers = sym (length-map (s .segment .numbers) _) ∙ segment .1 .1 .1 .1 .1 .1 .1 .1 .1 .1 .1 .0 .1 .0 .1;
+            values = sym (length-map (s .segment .values) _) ∙ segment .1 .1 .1 .1 .1 .1 .1 .1 .1 .1 .1 .1 .0 .1 .0 .1;
+            lengths = sym (length-map (s .segment .lengths) _) ∙ segment .1 .1 .1 .1 .1 .1 .1 .1 .1 .1 .1 .1 .1 .0 .1 .0 .1;
+            admissions = sym (length-map (s .segment .admissions) _) ∙ segment .1 .1 .1 .1 .1 .1 .1 .1 .1 .1 .1 .1 .1 .1 .0 .1 .0 .1;
           };
       lengths = queues .0;
       packets = queues .1;
@@ -435,25 +435,26 @@ state-held s vs owned =
 -- The parts in the order of `standing`, and as the code has them. `sound` is the test of the 64 places: the tests `zeros`, `past` and
 -- `stand`.
 parts-order :
-    (zeros past round contention clock admitted counts stand apart last window sound : Bool) → sound ≡ (zeros && past && stand)
-    → (zeros && past && round && contention && (clock && admitted && counts && stand && apart && last && window))
-    ≡ (clock && (admitted && ((round && last) && ((contention && window) && (sound && (counts && apart))))))
-parts-order zeros past round contention clock admitted counts stand apart last window sound same =
-    and-four (zeros && past && round) contention (clock && admitted && counts && stand && apart && last) window
-    ∙ ap (λ t. t && (contention && window)) (and-four (zeros && past) round (clock && admitted && counts && stand && apart) last)
-    ∙ ap (λ t. t && (round && last) && (contention && window)) (gather (zeros && past) (clock && admitted))
-    ∙ ap (λ t. clock && admitted && (t && (counts && apart)) && (round && last) && (contention && window)) (sym same)
-    ∙ queues-last clock admitted (round && last) (contention && window) (sound && (counts && apart))
+    (zeros past round contention clock admitted turned counts stand apart last window sound : Bool) → sound ≡ (zeros && past && stand)
+    → (zeros && past && round && contention && (clock && admitted && turned && counts && stand && apart && last && window))
+    ≡ (clock && (admitted && (turned && ((round && last) && ((contention && window) && (sound && (counts && apart)))))))
+parts-order zeros past round contention clock admitted turned counts stand apart last window sound same =
+    and-four (zeros && past && round) contention (clock && admitted && turned && counts && stand && apart && last) window
+    ∙ ap (λ t. t && (contention && window)) (and-four (zeros && past) round (clock && admitted && turned && counts && stand && apart) last)
+    ∙ ap (λ t. t && (round && last) && (contention && window)) (gather (zeros && past) (clock && admitted && turned))
+    ∙ ap (λ t. clock && admitted && turned && (t && (counts && apart)) && (round && last) && (contention && window)) (sym same)
+    ∙ queues-last clock admitted turned (round && last) (contention && window) (sound && (counts && apart))
   where
     gather : (a b : Bool) → (a && (b && counts && stand && apart)) ≡ (b && (a && stand && (counts && apart)))
     gather a false = and-false a
     gather false true = refl
     gather true true = ap (λ t. t && apart) (and-comm counts stand) ∙ and-assoc stand counts apart
 
-    queues-last : (a b c d e : Bool) → (a && b && e && c && d) ≡ (a && (b && (c && (d && e))))
-    queues-last false b c d e = refl
-    queues-last true false c d e = refl
-    queues-last true true c d e = and-assoc e c d ∙ and-comm e (c && d) ∙ and-assoc c d e
+    queues-last : (a b t c d e : Bool) → (a && b && t && e && c && d) ≡ (a && (b && (t && (c && (d && e)))))
+    queues-last false b t c d e = refl
+    queues-last true false t c d e = refl
+    queues-last true true false c d e = refl
+    queues-last true true true c d e = and-assoc e c d ∙ and-comm e (c && d) ∙ and-assoc c d e
 
 -- a state that a set-up would refuse does not stand
 pub not-set-up : (s : State) → Held s → ¬ (setUpVerdict (tried s) .refusal ≡ 0) → standing s ≡ false
@@ -532,15 +533,18 @@ module _ (g : Segment) (qs : Queues) where
     places-end few h same =
         rw (each-place-end (placeSound g qs) i most-stations h, rest-none i (g .settings .n) (omega arith), append-nil seen, same)
 
--- the tests of the code after the set-up: from the admitted count on, from the round on, from the contention on
+-- the tests of the code after the set-up: from the admitted count on, from that of packets turned away on, from the round on, from the contention on
 abbrev pub from-contention : State → Bool
 from-contention s = contentionSound (s .segment .settings) (s .segment .contention) && queuesSound (s .segment) (s .queues)
 
 abbrev pub from-round : State → Bool
 from-round s = roundSound (s .segment) && from-contention s
 
+abbrev pub from-turned : State → Bool
+from-turned s = leb (s .segment .turned) most-turned && from-round s
+
 abbrev pub from-admitted : State → Bool
-from-admitted s = leb (s .segment .admitted) most-admitted && from-round s
+from-admitted s = leb (s .segment .admitted) most-admitted && from-turned s
 
 -- a state that a set-up would not refuse stands as the code's other tests tell
 pub standing-parts :
@@ -552,6 +556,7 @@ standing-parts s h e =
     let n = s .segment .settings .n in
     let clock = leb (s .segment .clock .0) clock-end in
     let admitted = leb (s .segment .admitted) most-admitted in
+    let turned = leb (s .segment .turned) most-turned in
     let zeros = each-place (station-padded s) 0 most-stations in
     let past = each-place (no-station s) n (most-stations - n) in
     let stand = each-of (station-stands (meaning s)) (stationsOf s) in
@@ -566,7 +571,7 @@ standing-parts s h e =
     let begun = contentionSound (s .segment .settings) (s .segment .contention) in
     let same =
     ap (λ k. counted k && apart) (sym (numbers-count (stationsOf s))) ∙ ap (numbersSound (s .segment)) (numbers-same s 0 n) in
-    ap₂ (λ d v. d && zeros && past && round && contention && (v && clock && admitted && counts && stand && apart && last && window)) (both .0) (both .1)
-    ∙ parts-order zeros past round contention clock admitted counts stand apart last window sound (places-same s few)
-    ∙ ap₂ (λ r c. clock && (admitted && (r && (c && (sound && (counts && apart)))))) (sym (round-same s h few)) (sym (contention-same s))
-    ∙ ap (λ t. clock && (admitted && (roundSound (s .segment) && (begun && (sound && t))))) same
+    ap₂ (λ d v. d && zeros && past && round && contention && (v && clock && admitted && turned && counts && stand && apart && last && window)) (both .0) (both .1)
+    ∙ parts-order zeros past round contention clock admitted turned counts stand apart last window sound (places-same s few)
+    ∙ ap₂ (λ r c. clock && (admitted && (turned && (r && (c && (sound && (counts && apart))))))) (sym (round-same s h few)) (sym (contention-same s))
+    ∙ ap (λ t. clock && (admitted && (turned && (roundSound (s .segment) && (begun && (sound && t)))))) same

@@ -61,6 +61,7 @@ freshState g listed =
             admitted = 0;
             sent = 0;
             lost = 0;
+            turned = 0;
             round = noRound;
             contention = noContention;
             contenders = noContenders .word;

@@ -170,6 +170,7 @@ busWith g stations =
       admitted = g .admitted;
       sent = g .sent;
       lost = g .lost;
+      turned = g .turned;
       last = lastOf (g .round);
       contention = contentionOf (g .contention);
     }
@@ -242,6 +243,7 @@ segmentForm b =
       admitted = b .admitted;
       sent = b .sent;
       lost = b .lost;
+      turned = b .turned;
       round = roundForm (b .last);
       contention = contentionForm (b .contention);
       contenders = recorded (contenderIn b) .word;

@@ -58,9 +58,9 @@ pub struct Round {
     pub last: Capability,
 }
 
-// All of the state but the queues: what a probe reads and writes. Stations stand in listed order. The contenders are a word, 'station i in
-// listed order at bit i', and what each has beside its bit, in rows of plain numbers: its parameter, and the number, value, length and
-// admission slot of its packet.
+// All of the state but the queues: what a probe reads and writes. Stations stand in listed order. The counts are packets admitted, sent, lost
+// and turned away. The contenders are a word, 'station i in listed order at bit i', and what each has beside its bit, in rows of plain
+// numbers: its parameter, and the number, value, length and admission slot of its packet.
 pub struct Segment {
     pub settings: Settings,
     pub listed: [Listed; 64],
@@ -68,6 +68,7 @@ pub struct Segment {
     pub admitted: u64,
     pub sent: u64,
     pub lost: u64,
+    pub turned: u64,
     pub round: Round,
     pub contention: Contention,
     pub contenders: u64,

@@ -13,6 +13,7 @@ use crate::zeros;
 use rules::Packet;
 use rules::Slot;
 use sorts::Capability;
+use sorts::counts;
 use sorts::disciplines;
 use window::Side;
 use window::Window;
@@ -415,7 +416,7 @@ fn queues_stand(g: Segment, queues: Queues) -> bool
     numbers::none_twice(&numbers, waiting)
 }
 
-// The test that refusal 1 goes by: the set-up, 'clock and admitted count within range', the round, the contention, the queues.
+// The test that refusal 1 goes by: the set-up, 'clock and admitted count within range', P4's count too, the round, the contention, the queues.
 pub fn stands(s: State) -> bool
     ensures { λ r. ⌜ r ≡ standing s ⌝ }
 {
@@ -430,6 +431,9 @@ pub fn stands(s: State) -> bool
         return false;
     }
     if MOST_ADMITTED < g.admitted {
+        return false;
+    }
+    if counts::MOST_TURNED < g.turned {
         return false;
     }
     if !round_stands(g) {

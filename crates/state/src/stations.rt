@@ -219,6 +219,7 @@ pub fn fresh(settings: Settings, listed: [Listed; 64]) -> State
         admitted: 0,
         sent: 0,
         lost: 0,
+        turned: 0,
         round: zeros::NO_ROUND,
         contention: zeros::NO_CONTENTION,
         contenders: 0,

@@ -6,11 +6,11 @@ use mathlib.Core.Bool.{_&&_}
 use lib.Dec.{leb}
 use borrow.Author.Needs.{needs}
 use borrow.Author.Tests.{ltb-true, ltb-false, le-leb, lt-leb}
-use Rattle.rules.specs.Bus.{clock-end, most-admitted, most-stations}
+use Rattle.rules.specs.Bus.{clock-end, most-admitted, most-turned, most-stations}
 use Rattle.rules.specs.SetUp.{setUpVerdict}
 use Rattle.state.specs.State.{State, standing}
 use Rattle.state.proofs.Tested.{denied, granted, passed, failed}
-use Rattle.state.proofs.StandingParts.{tried, few-tried, state-held, not-set-up, from-contention, from-round, from-admitted, standing-parts}
+use Rattle.state.proofs.StandingParts.{tried, few-tried, state-held, not-set-up, from-contention, from-round, from-turned, from-admitted, standing-parts}
 use Rattle.state.proofs.standing.stands.Statement.{statement}
 use Rattle.state.proofs.standing.stands.Tie as tie
 
@@ -34,13 +34,18 @@ after-clock c =
     let in-time = ltb-false clock-end clock (sym (c .before .before2 .ensures) ∙ c .if2 .left) in
     passed (after-set-up (c .before .before)) (le-leb clock clock-end in-time)
 
-after-admitted : (c : tie.Else3) → let s = lent (c .before .before .before .before) in standing s ≡ from-round s
+after-admitted : (c : tie.Else3) → let s = lent (c .before .before .before .before) in standing s ≡ from-turned s
 after-admitted c =
     let s = lent (c .before .before .before .before) in
     passed (after-clock (c .before .before)) (le-leb (s .segment .admitted) most-admitted (c .if3 .left))
 
-after-round : (c : tie.Else4) → let s = lent (c .before .before .before .before .before .before) in standing s ≡ from-contention s
-after-round c = passed (after-admitted (c .before .before)) (granted (c .before .round-stands .ensures) (c .if4 .left))
+after-turned : (c : tie.Else4) → let s = lent (c .before .before .before .before .before .before) in standing s ≡ from-round s
+after-turned c =
+    let s = lent (c .before .before .before .before .before .before) in
+    passed (after-admitted (c .before .before)) (le-leb (s .segment .turned) most-turned (c .if4 .left))
+
+after-round : (c : tie.Else5) → let s = lent (c .before .before .before .before .before .before .before .before) in standing s ≡ from-contention s
+after-round c = passed (after-turned (c .before .before)) (granted (c .before .round-stands .ensures) (c .if5 .left))
 
 -- ---- the needs
 
@@ -68,28 +73,33 @@ returns-3 c =
     let s = lent (c .before .before .before .before) in
     sym (failed _ (after-clock (c .before .before)) (lt-leb (s .segment .admitted) most-admitted (c .if3 .taken)))
 
-round-stands-requires : tie.Need-round-stands-requires
-round-stands-requires c κs = few (c .before .before .before .before)
-
 returns-4 : tie.Need-returns-4
-returns-4 c = sym (failed _ (after-admitted (c .before .before)) (denied (c .before .round-stands .ensures) (c .if4 .taken)))
+returns-4 c =
+    let s = lent (c .before .before .before .before .before .before) in
+    sym (failed _ (after-admitted (c .before .before)) (lt-leb (s .segment .turned) most-turned (c .if4 .taken)))
+
+round-stands-requires : tie.Need-round-stands-requires
+round-stands-requires c κs = few (c .before .before .before .before .before .before)
+
+returns-5 : tie.Need-returns-5
+returns-5 c = sym (failed _ (after-turned (c .before .before)) (denied (c .before .round-stands .ensures) (c .if5 .taken)))
 
 contention-stands-requires : tie.Need-contention-stands-requires
 contention-stands-requires c κs = search needs
 
-returns-5 : tie.Need-returns-5
-returns-5 c = sym (failed _ (after-round (c .before .before .before)) (denied (c .before .contention-stands .ensures) (c .if5 .taken)))
+returns-6 : tie.Need-returns-6
+returns-6 c = sym (failed _ (after-round (c .before .before .before)) (denied (c .before .contention-stands .ensures) (c .if6 .taken)))
 
 queues-stand-requires : tie.Need-queues-stand-requires
 queues-stand-requires c κs =
-    let three = c .before .before .before .before .before .before in
-    few (three .before .before .before .before)
+    let four = c .before .before .before .before .before .before in
+    few (four .before .before .before .before .before .before)
 
-returns-6 : tie.Need-returns-6
-returns-6 c =
-    let five = c .before .before in
-    let sound = granted (five .before .contention-stands .ensures) (five .if5 .left) in
-    c .queues-stand .ensures ∙ sym (passed (after-round (five .before .before .before)) sound)
+returns-7 : tie.Need-returns-7
+returns-7 c =
+    let six = c .before .before in
+    let sound = granted (six .before .contention-stands .ensures) (six .if6 .left) in
+    c .queues-stand .ensures ∙ sym (passed (after-round (six .before .before .before)) sound)
 
 pub stands-spec : {M : Type 1} → statement M
 stands-spec =
@@ -100,9 +110,10 @@ stands-spec =
     before-requires
     returns-2
     returns-3
-    round-stands-requires
     returns-4
-    contention-stands-requires
+    round-stands-requires
     returns-5
+    contention-stands-requires
+    returns-6
     queues-stand-requires
-    returns-6)
+    returns-7)

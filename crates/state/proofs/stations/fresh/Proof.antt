@@ -15,6 +15,7 @@ returns c = λ i.
         admitted = 0;
         sent = 0;
         lost = 0;
+        turned = 0;
         round = noRound;
         contention = noContention;
         contenders = none-recorded i .word;
