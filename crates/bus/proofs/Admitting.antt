@@ -15,18 +15,18 @@ use Rattle.rules.specs.Lists.{some-of, firstOf}
 use Rattle.rules.specs.Bus.{places, Station, Bus}
 use Rattle.rules.specs.Standing.{Standing}
 use Rattle.rules.specs.declared.Admitted.{Admitted}
-use Rattle.rules.specs.Admission.{Arrival, named, admissionRefusal, newPacket, queued, joined, withPacket, admit}
+use Rattle.rules.specs.Admission.{Arrival, named, admissionRefusal, newPacket, queued, joined, withPacket, turnedAfter, admit}
 use Rattle.rules.proofs.Tests.{told}
 use Rattle.rules.proofs.Standing.{stands-exactly, admission-accepted, admit-is}
 use Rattle.bus.specs.Types.{Address, Packet, Queues, State, Queue}
 use Rattle.state.specs.State.{Held, recordedIn, queueAt, stationWith, stationAt, valuesFrom, stationsOf, meaning, form, standing, nobody}
-use Rattle.bus.specs.Coded.{Admission, arrivalOf, codedAdmit, admissionResult}
+use Rattle.bus.specs.Coded.{Admission, arrivalOf, codedAdmit, admissionResult, stateTurned}
 use Rattle.state.specs.Parts.{queueOf}
 use Rattle.bus.specs.Parts.{queueForm, firstPlace, refusalTests, refusalAt, segmentCounting}
 use Rattle.state.proofs.Rows.{among-values}
 use Rattle.bus.proofs.FirstPlace.{first-place-holds, first-place-before}
 use Rattle.state.proofs.Form.{parts-padded, queue-length, to-form}
-use Rattle.bus.proofs.Coded.{hands-back-admission, admit-bears, standing-exactly-admission}
+use Rattle.bus.proofs.Coded.{handed-admission, admit-bears, standing-exactly-admission}
 use Rattle.bus.proofs.QueueLaws.{form-joined, withQueue}
 use Rattle.state.proofs.Stands.{Lent}
 use Rattle.bus.proofs.Changed.{queue-formed, address-of, own-address, recounted, requeued, requeued-held, requeued-padded, stations-now}
@@ -257,18 +257,17 @@ accepted s a =
 
 -- ---- what a call gives back
 
--- a refused call: its number, and the state as lent
+-- a refused call's answer and state: its number, and the state as lent but for the count of packets turned away
+abbrev pub refusedIn : State → ℕ → Admission
+refusedIn s refusal = admissionResult (record { refusal = refusal; number = 0 }, stateTurned s (turnedAfter refusal (s .segment .turned)))
+
 handed-back :
     (s : State) → Held s → (a : Arrival) (refusal : ℕ) → codedAdmit s a .0 .refusal ≡ refusal → ¬ (refusal ≡ 0)
-    → admissionResult (record { refusal = refusal; number = 0 }, s) ≡ admissionResult (codedAdmit s a)
+    → refusedIn s refusal ≡ admissionResult (codedAdmit s a)
 handed-back s held a refusal e given =
-    sym
-    (ap admissionResult (hands-back-admission s held a (λ z. given (sym e ∙ z)))
-    ∙ ap (λ n. admissionResult (record { refusal = n; number = 0 }, s)) e)
+    sym (ap admissionResult (handed-admission s held a (λ z. given (sym e ∙ z))) ∙ ap (refusedIn s) e)
 
-pub gives-1 :
-    (s : State) → Held s → (a : Arrival) → standing s ≡ false
-    → admissionResult (record { refusal = 1; number = 0 }, s) ≡ admissionResult (codedAdmit s a)
+pub gives-1 : (s : State) → Held s → (a : Arrival) → standing s ≡ false → refusedIn s 1 ≡ admissionResult (codedAdmit s a)
 gives-1 s held a e = handed-back s held a 1 (standing-exactly-admission s a .1 e) (λ z. omega arith)
 
 module _ (s : State) (r : Lent s) (a : Arrival) where
@@ -280,8 +279,7 @@ module _ (s : State) (r : Lent s) (a : Arrival) where
       (parts-padded s (r .zeros))
 
   pub gives-refusal :
-      (refusal : ℕ) → refusal ≡ admissionRefusal (meaning s) a → ¬ (refusal ≡ 0)
-      → admissionResult (record { refusal = refusal; number = 0 }, s) ≡ admissionResult (codedAdmit s a)
+      (refusal : ℕ) → refusal ≡ admissionRefusal (meaning s) a → ¬ (refusal ≡ 0) → refusedIn s refusal ≡ admissionResult (codedAdmit s a)
   gives-refusal refusal e =
       handed-back s (r .held) a refusal (ap (λ (o : Admitted × State). o .0 .refusal) of-rules ∙ admit-bears (meaning s) a ∙ sym e)
 

@@ -84,6 +84,7 @@ recounted b stations admitted lost contention =
       admitted = admitted;
       sent = b .sent;
       lost = lost;
+      turned = b .turned;
       last = b .last;
       contention = contention;
     }

@@ -1,6 +1,6 @@
 -- The coded engine meets demand 2, and so has all that demand 2 promises: after any set-up and any calls its state is the form of the
--- machine's. A refused call hands back the state as lent, and refusal 1 is given exactly where the standing conditions fail; a call that
--- accepts keeps them. Assumes nothing.
+-- machine's. A refused call hands back the state as lent, 14 and 15 but for the count of packets turned away, and refusal 1 is given exactly
+-- where the standing conditions fail; a call that accepts keeps them. Assumes nothing.
 use Prim.Native.Nat.{ℕ, zero, suc, _≤_}
 use mathlib.Core.Path.{_≡_, refl, sym, ap, ap₂, _∙_, subst}
 use mathlib.Core.Logic.{_⊎_, inl, inr, _↔_}
@@ -16,17 +16,20 @@ use Rattle.rules.specs.Bus.{Contention, Bus, nothing}
 use Rattle.rules.specs.SetUp.{Request, setUp}
 use Rattle.rules.specs.Standing.{Standing, stands}
 use Rattle.rules.specs.declared.Admitted.{Admitted}
-use Rattle.rules.specs.Admission.{Arrival, admissionTests, admissionRefusal, admit}
+use Rattle.rules.specs.Admission.{Arrival, admissionTests, admissionRefusal, turns-away, TurnsAway, oneMore, turnedAfter, turnedAway, handedBack, admit}
 use Rattle.rules.specs.Begin.{begin}
 use Rattle.rules.specs.Probe.{Contender, Answer, refusedAnswer, dropping, Open, transmitters, unheard, heard}
 use Rattle.window.specs.declared.Side.{Side}
 use Rattle.window.specs.declared.Side.the-variants.{Left, Right}
 use Rattle.rules.specs.Step.{Begun, refusedBegun, begunAnswer, beginTests, beginRefusal, beginCall, probeTests, probeRefusal, underWay, probedIn, probeCall, opened, stepRefusal, step}
+use Rattle.rules.specs.Closing.{totals, refusedTotals, closingCall}
 use Rattle.rules.specs.Engine.{machine, probedAfter, begunThen, probedFirst, Call, admission, one-begin, one-probe, one-step, admitted, begun, probed, reply, next, after, replies, reach}
 use Rattle.rules.specs.Demands.{Demand2, Promised}
 use Rattle.rules.proofs.Laws.{clash, and-true}
 use Rattle.rules.proofs.Tests.{tells}
 use Rattle.rules.proofs.Standing as Rules
+use Rattle.rules.proofs.TurnedAway.{turned-refused, not-counted, is-counted}
+use Rattle.rules.proofs.Refusals as Refusals
 use Rattle.rules.proofs.Refusals.{probe-number, probed-number, handsBack}
 use Rattle.rules.proofs.Keeps.{begin-stands}
 use Rattle.rules.proofs.Step.{step-ways, step-made}
@@ -35,7 +38,7 @@ use Rattle.rules.proofs.Reach.{standing-reached}
 use Rattle.rules.proofs.Promises.{promised}
 use Rattle.bus.specs.Types.{State}
 use Rattle.state.specs.State.{Held, meaning, form, padded, standing}
-use Rattle.bus.specs.Coded.{onMeaning, codedAdmit, codedBegin, codedProbe, codedStep, coded, answerForm, answerOf}
+use Rattle.bus.specs.Coded.{onMeaning, codedAdmit, codedBegin, codedProbe, codedStep, codedClosing, coded, answerForm, answerOf, stateTurned, turnedIn}
 use Rattle.state.proofs.Form.{form-meaning, Fits, standing-fits, nothing-fits, meaning-form, padded-form}
 use Rattle.state.proofs.Stands.{form-stands}
 
@@ -135,6 +138,10 @@ coded-replies b (c ∷ calls) fits =
     (coded-reply b (fits []) c)
     (ap (λ s. replies coded s calls) (coded-next b (fits []) c) ∙ coded-replies (next machine b c) calls (λ earlier. fits (c ∷ earlier)))
 
+coded-closing : (b : Bus) → Fits b → codedClosing (form b) ≡ closingCall b
+coded-closing b fits =
+    ap₂ (λ (t : Bool) (m : Bus). cond (t && stands m) (totals m) (refusedTotals 1)) (padded-form b fits) (meaning-form b fits)
+
 -- every state that the machine reaches fits
 pub fits-reached : (r : Request) (calls : List Call) → Fits (reach machine r calls)
 fits-reached r calls = go (standing-reached r calls)
@@ -148,7 +155,12 @@ pub reached-coded : (r : Request) (calls : List Call) → reach coded r calls �
 reached-coded r calls = coded-after (setUp r .1) calls (fits-reached r)
 
 pub demand2-coded : Demand2 coded
-demand2-coded = record { setUps = λ r. refl; calls = λ r calls own. coded-replies (setUp r .1) calls (fits-reached r) }
+demand2-coded =
+    record {
+      setUps = λ r. refl;
+      calls = λ r calls own. coded-replies (setUp r .1) calls (fits-reached r);
+      closes = λ r calls own. ap codedClosing (reached-coded r calls) ∙ coded-closing (reach machine r calls) (fits-reached r calls);
+    }
 
 -- and so all that demand 2 gives
 pub promised-coded : Promised coded
@@ -173,11 +185,45 @@ module _ {X : Type 0} (number : X → ℕ) (refused : ℕ → X) (call : Bus →
           ∙ ap (λ lent. (refused (number (call (meaning s) .0)), lent)) (form-meaning s held e)
       go false e h = ap (λ n. (refused n, s)) (sym one)
 
-pub hands-back-admission :
+-- an admission: the state as lent, but for the count of packets turned away where that is raised
+handed-form : (s : State) → Held s → padded s ≡ true → (n : ℕ) → form (handedBack (meaning s) n) ≡ stateTurned s (turnedAfter n (s .segment .turned))
+handed-form s held e n = go (turns-away n)
+  where
+    go :
+        (t : Bool) → form (cond t (turnedAway (meaning s)) (meaning s)) ≡ stateTurned s (cond t (oneMore (s .segment .turned)) (s .segment .turned))
+    go true = ap (λ (lent : State). stateTurned lent (oneMore (s .segment .turned))) (form-meaning s held e)
+    go false = form-meaning s held e
+
+pub handed-admission :
     (s : State) → Held s → (a : Arrival) → ¬ (codedAdmit s a .0 .refusal ≡ 0)
+    → codedAdmit s a
+    ≡ (record { refusal = codedAdmit s a .0 .refusal; number = 0 }, stateTurned s (turnedAfter (codedAdmit s a .0 .refusal) (s .segment .turned)))
+handed-admission s held a = go (padded s) refl
+  where
+    result : Bool → Admitted × State
+    result t = cond t (admit (meaning s) a .0, form (admit (meaning s) a .1)) (record { refusal = 1; number = 0 }, s)
+
+    go :
+        (t : Bool) → padded s ≡ t → ¬ (result t .0 .refusal ≡ 0)
+        → result t ≡ (record { refusal = result t .0 .refusal; number = 0 }, stateTurned s (turnedAfter (result t .0 .refusal) (s .segment .turned)))
+    go true e h =
+        ap (λ (o : Admitted × Bus). (o .0, form (o .1))) (Refusals.handed-admission (meaning s) a h)
+        ∙ ap (λ (lent : State). (record { refusal = admit (meaning s) a .0 .refusal; number = 0 }, lent)) (handed-form s held e (admit (meaning s) a .0 .refusal))
+    go false e h = refl
+
+pub hands-back-admission :
+    (s : State) → Held s → (a : Arrival) → ¬ (codedAdmit s a .0 .refusal ≡ 0) → ¬ TurnsAway (codedAdmit s a .0 .refusal)
     → codedAdmit s a ≡ (record { refusal = codedAdmit s a .0 .refusal; number = 0 }, s)
-hands-back-admission s held a =
-    hands-back (λ (x : Admitted). x .refusal) (λ n. record { refusal = n; number = 0 }) (λ b. admit b a) refl (λ b. handsBack .admission b a) s held
+hands-back-admission s held a h other =
+    handed-admission s held a h
+    ∙ ap (λ (n : ℕ). (record { refusal = codedAdmit s a .0 .refusal; number = 0 }, stateTurned s n)) (not-counted _ (s .segment .turned) other)
+
+pub turns-away-admission :
+    (s : State) → Held s → (a : Arrival) → TurnsAway (codedAdmit s a .0 .refusal)
+    → codedAdmit s a ≡ (record { refusal = codedAdmit s a .0 .refusal; number = 0 }, turnedIn s)
+turns-away-admission s held a t =
+    handed-admission s held a (turned-refused _ t)
+    ∙ ap (λ (n : ℕ). (record { refusal = codedAdmit s a .0 .refusal; number = 0 }, stateTurned s n)) (is-counted _ (s .segment .turned) t)
 
 pub hands-back-begin :
     (s : State) → Held s → ¬ (codedBegin s .0 .refusal ≡ 0) → codedBegin s ≡ (refusedBegun (codedBegin s .0 .refusal), s)

@@ -15,7 +15,7 @@ use Rattle.rules.specs.Lists.{keep}
 use Rattle.rules.specs.Bus.{Bus, last-slot, most-stations}
 use Rattle.rules.specs.Standing.{Standing}
 use Rattle.rules.specs.Admission as Rules
-use Rattle.rules.specs.Admission.{admissionRefusal}
+use Rattle.rules.specs.Admission.{admissionRefusal, turnedAfter}
 use Rattle.rules.specs.Begin.{begin, dropsOf}
 use Rattle.rules.specs.Probe.{success, probe, refusedAnswer}
 use Rattle.rules.specs.Step.{opened}
@@ -28,7 +28,7 @@ use Rattle.rules.proofs.Standing.{stands-exactly, set-up-stands}
 use Rattle.bus.specs.Types.{Address, Settings, Segment, Queues, State, Arrival}
 use Rattle.word.specs.Word.{countOf}
 use Rattle.state.specs.State.{Recorded, recordedIn, Held, meaning, form, queueAt, standing, waitingIn}
-use Rattle.bus.specs.Coded.{Answer, Stepped, Admission, arrivalOf, codedAdmit, codedStep, coded, admissionResult, stepResult}
+use Rattle.bus.specs.Coded.{Answer, Stepped, Admission, arrivalOf, codedAdmit, codedStep, coded, admissionResult, stepResult, stateTurned}
 use Rattle.bus.specs.Stretch.{Arrivals, Report, noArrival, most-calls, noReport, asks, due, arrivalReport, stepReport, inRow, mayBeMore}
 use Rattle.bus.specs.Parts.{refusalAt, answered, Asked, askedIf, begunWith, Progress, Moved, unheardOn, wonOn, collidedOn, transmittersIn, movedBy, withMoved, segmentWith, queueForm, stays, Sent, Heard, progressOf, Sole, soleOf, heardIn, movedIn, heardOf}
 use Rattle.state.specs.Parts.{noContenders, queueOf}
@@ -37,7 +37,7 @@ use Rattle.state.proofs.Form.{form-meaning, standing-fits, held-form, parts-pad
 use Rattle.state.proofs.Stands.{form-stands}
 use Rattle.bus.proofs.Coded.{coded-next, next-stands}
 use Rattle.state.proofs.Stands.{Lent, lent-held, few-packets}
-use Rattle.bus.proofs.Admitting.{refusal-is, gives-1, gives-refusal, joinedAt, in-row, room-at, joined-in-place, addressPlace}
+use Rattle.bus.proofs.Admitting.{refusal-is, refusedIn, gives-1, gives-refusal, joinedAt, in-row, room-at, joined-in-place, addressPlace}
 use Rattle.bus.proofs.SingleCalls.{next-same}
 use Rattle.bus.proofs.ClosingUp.{LeftIn, left-one}
 use Rattle.bus.proofs.BeginningLaws.{inTimeAt, droppingTo, dropping-few, left-late, all-formed, room-left, late-counted, lost-counted, begunState, begun-is, waiting-dropped}
@@ -104,19 +104,30 @@ module _ (s : State) (address : Address) (value len : ℕ) where
 
     turned-away :
         ¬ (refusal ≡ 0)
-        → _≡_ {A = Admission} (record { answer = answered refusal (s .segment .admitted); state = s }) (admissionResult (codedAdmit s arrival))
+        → _≡_ {A = Admission} (record { answer = answered refusal (s .segment .admitted); state = refusedIn s refusal .state })
+        (admissionResult (codedAdmit s arrival))
     turned-away n =
-        ap (λ (t : Bool). record { answer = record { refusal = refusal; number = cond t (s .segment .admitted + 1) 0 }; state = s }) (ne-eqb refusal 0 n)
+        ap
+        (λ (t : Bool). record { answer = record { refusal = refusal; number = cond t (s .segment .admitted + 1) 0 }; state = refusedIn s refusal .state })
+        (ne-eqb refusal 0 n)
         ∙ gives-refusal s r arrival refusal of-rules n
 
   -- the call is refused
   pub asked-away :
-      (t : Bool) → Sound t s → (o : Asked) → o ≡ askedOf t → ¬ (o .answer .refusal ≡ 0)
-      → _≡_ {A = Admission} (record { answer = o .answer; state = s }) (admissionResult (codedAdmit s arrival))
-  asked-away true r o e n =
-      ap (λ (x : Asked). record { answer = x .answer; state = s }) e
-      ∙ turned-away r (λ z. n (ap (λ (x : Asked). x .answer .refusal) e ∙ z))
-  asked-away false r o e n = ap (λ (x : Asked). record { answer = x .answer; state = s }) e ∙ gives-1 s (r .0) arrival (r .1)
+      (t : Bool) → Sound t s → (o : Asked) → o ≡ askedOf t → ¬ (o .answer .refusal ≡ 0) → (count : ℕ)
+      → count ≡ turnedAfter (o .answer .refusal) (s .segment .turned)
+      → _≡_ {A = Admission} (record { answer = o .answer; state = stateTurned s count }) (admissionResult (codedAdmit s arrival))
+  asked-away t r o e n count k =
+      ap (λ (m : ℕ). record { answer = o .answer; state = stateTurned s m }) k
+      ∙ ap (λ (x : Asked). record { answer = x .answer; state = refusedIn s (x .answer .refusal) .state }) e
+      ∙ go t r (λ z. n (ap (λ (x : Asked). x .answer .refusal) e ∙ z))
+    where
+      go :
+          (t : Bool) → Sound t s → ¬ (askedOf t .answer .refusal ≡ 0)
+          → _≡_ {A = Admission} (record { answer = askedOf t .answer; state = refusedIn s (askedOf t .answer .refusal) .state })
+          (admissionResult (codedAdmit s arrival))
+      go true r n = turned-away r n
+      go false r n = gives-1 s (r .0) arrival (r .1)
 
   -- or the packet has its place
   pub record Taken (o : Asked) : Type 0 where
@@ -125,6 +136,16 @@ module _ (s : State) (address : Address) (value len : ℕ) where
     pub is :
         _≡_ {A = Admission} (record { answer = o .answer; state = joinedAt s (o .place) (o .answer .number) value len })
         (admissionResult (codedAdmit s arrival))
+
+  -- an accepted packet is not counted as turned away
+  pub taken-uncounted :
+      (o : Asked) → Taken o → o .answer .refusal ≡ 0 → (count : ℕ) → count ≡ turnedAfter (o .answer .refusal) (s .segment .turned)
+      → _≡_ {A = Admission} (record { answer = o .answer; state = joinedAt (stateTurned s count) (o .place) (o .answer .number) value len })
+      (admissionResult (codedAdmit s arrival))
+  taken-uncounted o taken z count k =
+      ap (λ (m : ℕ). record { answer = o .answer; state = joinedAt (stateTurned s m) (o .place) (o .answer .number) value len })
+      (k ∙ ap (λ (n : ℕ). turnedAfter n (s .segment .turned)) z)
+      ∙ taken .is
 
   taken-at : (r : Lent s) → refusal r ≡ 0 → Taken (askedOf true)
   taken-at r z =

@@ -234,6 +234,7 @@ moved b stations clock sent last contention =
       admitted = b .admitted;
       sent = sent;
       lost = b .lost;
+      turned = b .turned;
       last = last;
       contention = contention;
     }

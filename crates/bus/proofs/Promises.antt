@@ -9,14 +9,14 @@ use mathlib.Core.Bool.{Bool, true, false}
 use mathlib.Core.List.{List, [], _++_, map}
 use Rattle.rules.specs.Lists.{All}
 use Rattle.rules.specs.SetUp.{Request}
-use Rattle.rules.specs.Admission.{Arrival}
+use Rattle.rules.specs.Admission.{Arrival, TurnsAway}
 use Rattle.rules.specs.Probe.{refusedAnswer, dropping}
 use Rattle.rules.specs.Step.{refusedBegun, step}
 use Rattle.rules.specs.Engine.{machine, Call, admission, one-begin, one-probe, one-step, replies, reach}
 use Rattle.rules.specs.Demands.{Demand2, Promised}
 use Rattle.bus.specs.Types.{State}
 use Rattle.state.specs.State.{Held, form, standing}
-use Rattle.bus.specs.Coded.{onMeaning, codedAdmit, codedBegin, codedProbe, codedStep, coded, begunForm, begunOf, answerForm, answerOf}
+use Rattle.bus.specs.Coded.{onMeaning, codedAdmit, codedBegin, codedProbe, codedStep, coded, turnedIn, begunForm, begunOf, answerForm, answerOf}
 use Rattle.bus.specs.Stretch.{course, stepReports, afterSteps, replyOf, refusalIn, Called}
 use Rattle.bus.specs.Types.{Arrival as Timed}
 use Rattle.bus.proofs.SingleCalls as SingleCalls
@@ -65,11 +65,16 @@ keeps-standing-probe s = SingleCalls.accepted-stands s one-probe
 pub keeps-standing-step : (s : State) → codedStep s .0 .refusal ≡ 0 → standing (codedStep s .1) ≡ true
 keeps-standing-step s = SingleCalls.accepted-stands s one-step
 
--- refused calls hand back the state as lent, and zeros
+-- refused calls hand back the state as lent, and zeros; 14 and 15 all of it but the count of packets turned away, which is one higher, up to its stop
 pub hands-back-admission :
-    (s : State) → Held s → (a : Arrival) → ¬ (codedAdmit s a .0 .refusal ≡ 0)
+    (s : State) → Held s → (a : Arrival) → ¬ (codedAdmit s a .0 .refusal ≡ 0) → ¬ TurnsAway (codedAdmit s a .0 .refusal)
     → codedAdmit s a ≡ (record { refusal = codedAdmit s a .0 .refusal; number = 0 }, s)
 hands-back-admission = Coded.hands-back-admission
+
+pub turns-away-admission :
+    (s : State) → Held s → (a : Arrival) → TurnsAway (codedAdmit s a .0 .refusal)
+    → codedAdmit s a ≡ (record { refusal = codedAdmit s a .0 .refusal; number = 0 }, turnedIn s)
+turns-away-admission = Coded.turns-away-admission
 
 pub hands-back-begin :
     (s : State) → Held s → ¬ (codedBegin s .0 .refusal ≡ 0) → codedBegin s ≡ (refusedBegun (codedBegin s .0 .refusal), s)

@@ -9,17 +9,19 @@ use lib.Dec.{eqb}
 use lib.ListN.{getD}
 use Rattle.word.specs.Word.{bitAt, wordOf}
 use Rattle.rules.specs.Lists.{bit}
-use Rattle.rules.specs.Bus.{most-stations, Bus, waiting}
+use Rattle.rules.specs.Bus.{most-stations, Bus}
 use Rattle.rules.specs.declared.Admitted.{Admitted}
-use Rattle.rules.specs.Admission.{Arrival, admit}
+use Rattle.rules.specs.Admission.{Arrival, oneMore, admit}
 use Rattle.rules.specs.Probe as Probe
 use Rattle.rules.specs.Probe.{refusedAnswer}
 use Rattle.rules.specs.Step as Step
 use Rattle.rules.specs.Step.{Contends, refusedBegun, beginCall, probeCall}
+use Rattle.rules.specs.Closing as Closing
+use Rattle.rules.specs.Closing.{totals, refusedTotals}
 use Rattle.rules.specs.Engine.{Engine, stepOf}
 use Rattle.state.specs.State.{meaning, form, padded, standing, valuesFrom, row}
 use Rattle.state.specs.SetUp.{codedSetUp}
-use Rattle.bus.specs.Types.{Address, State}
+use Rattle.bus.specs.Types.{Address, Segment, State}
 pub use Rattle.bus.specs.declared.Admission.{Admission}
 pub use Rattle.bus.specs.declared.Begun.{Begun}
 pub use Rattle.bus.specs.declared.Started.{Started}
@@ -32,7 +34,7 @@ abbrev pub arrivalOf : Address → ℕ → ℕ → Arrival
 arrivalOf address value length = record { address = address .0; value = value; length = length }
 
 -- ---- the calls. 'Any other refusal hands back the number, zero in the answer's other fields, and the state exactly as lent': on a padded
--- state that is the form of its meaning, which is the state itself.
+-- state that is the form of its meaning, which is the state itself; 14 and 15 'leave the state as it was but for that count' (`turnedIn`, below).
 
 -- a call of the rules on what a state means, and where its padding is not zero a refusal with the state as lent
 abbrev pub onMeaning : {X : Type 0} → (Bus → X × Bus) → X → State → X × State
@@ -47,9 +49,13 @@ codedBegin s = onMeaning beginCall (refusedBegun 1) s
 abbrev pub codedProbe : State → Probe.Answer × State
 codedProbe s = onMeaning probeCall (refusedAnswer 1) s
 
+-- 'Last: END clock admitted sent lost waiting', and P4's count, of a state that stands; any other is refused with 1
+abbrev pub codedClosing : State → Closing.Totals
+codedClosing s = cond (standing s) (totals (meaning s)) (refusedTotals 1)
+
 -- the code as an engine
 abbrev pub coded : Engine
-coded = record { State = State; setUp = codedSetUp; admit = codedAdmit; begin = codedBegin; probe = codedProbe }
+coded = record { State = State; setUp = codedSetUp; admit = codedAdmit; begin = codedBegin; probe = codedProbe; closing = codedClosing }
 
 -- the step that is made of its begin and probe
 abbrev pub codedStep : State → Probe.Answer × State
@@ -159,17 +165,48 @@ beginResult r = record { answer = begunForm (r .0); state = r .1 }
 abbrev pub stepResult : Probe.Answer × State → Stepped
 stepResult r = record { answer = answerForm (r .0); state = r .1 }
 
--- 'Last: END clock admitted sent lost waiting', of a state that stands; any other is refused with 1
+-- what a listing closes with, in the code's sorts
+abbrev pub totalsForm : Closing.Totals → Totals
+totalsForm t =
+    record {
+      refusal = t .refusal;
+      clock = record { 0 = t .clock };
+      admitted = t .admitted;
+      sent = t .sent;
+      lost = t .lost;
+      waiting = t .waiting;
+      turned = t .turned;
+    }
+
 abbrev pub totalsOf : State → Totals
-totalsOf s =
-    cond
-    (standing s)
-    (record {
-      refusal = 0;
-      clock = s .segment .clock;
-      admitted = s .segment .admitted;
-      sent = s .segment .sent;
-      lost = s .segment .lost;
-      waiting = waiting (meaning s .stations);
-    })
-    (record { refusal = 1; clock = record { 0 = 0 }; admitted = 0; sent = 0; lost = 0; waiting = 0 })
+totalsOf s = totalsForm (codedClosing s)
+
+-- ---- a packet turned away
+
+-- the segment, and the state, with another count of packets turned away
+abbrev pub segmentTurned : Segment → ℕ → Segment
+segmentTurned g turned =
+    record {
+      settings = g .settings;
+      listed = g .listed;
+      clock = g .clock;
+      admitted = g .admitted;
+      sent = g .sent;
+      lost = g .lost;
+      turned = turned;
+      round = g .round;
+      contention = g .contention;
+      contenders = g .contenders;
+      parameters = g .parameters;
+      numbers = g .numbers;
+      values = g .values;
+      lengths = g .lengths;
+      admissions = g .admissions;
+    }
+
+abbrev pub stateTurned : State → ℕ → State
+stateTurned s turned = record { segment = segmentTurned (s .segment) turned; queues = s .queues }
+
+-- 'the state as it was but for that count'
+abbrev pub turnedIn : State → State
+turnedIn s = stateTurned s (oneMore (s .segment .turned))

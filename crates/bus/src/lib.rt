@@ -1,5 +1,5 @@
 // The engine: the calls on the state of a bus segment. Every call takes any input; bad input gets its number from the table of paper 01,
-// and the state comes back as lent.
+// and the state comes back as lent, but for the count of packets turned away where an admission is refused with 14 or 15.
 ghost use mathlib.Core.Path.{_≡_};
 ghost use mathlib.Core.Bool.{cond};
 ghost use lib.Dec.{ltb};
@@ -12,6 +12,7 @@ use rules::Admitted;
 use rules::Packet;
 use rules::Slot;
 use sorts::Address;
+use sorts::counts;
 use state::Arrival;
 use state::Contention;
 use state::Round;
@@ -122,7 +123,7 @@ pub struct Stretch {
     pub left: u32,
 }
 
-// What a listing closes with; the refusal number, or 0, and zeros where refused.
+// What a listing closes with, the packets turned away last; the refusal number, or 0, and zeros where refused.
 pub struct Totals {
     pub refusal: u32,
     pub clock: Slot,
@@ -130,6 +131,7 @@ pub struct Totals {
     pub sent: u64,
     pub lost: u64,
     pub waiting: u64,
+    pub turned: u64,
 }
 
 // The types of the private functions: several modules name them, and a type and a function whose names differ in case alone cannot stand in
@@ -174,7 +176,8 @@ struct Heard {
     pub segment: Segment,
 }
 
-// 'Admission tries 1, then 11 to 16'; an accepted packet takes the first free place of its station's queue.
+// 'Admission tries 1, then 11 to 16'; an accepted packet takes the first free place of its station's queue, and one that is refused with 14 or
+// 15 is counted.
 pub fn admit(s: State, address: Address, value: u32, length: u32) -> Admission
     ensures { λ r. ⌜ r ≡ admissionResult (codedAdmit s (arrivalOf address value length)) ⌝ }
 {
@@ -196,6 +199,7 @@ pub fn admit(s: State, address: Address, value: u32, length: u32) -> Admission
         length,
     );
     let answer = asked.answer;
+    g.turned = counts::turned_after(answer.refusal, g.turned);
     if answer.refusal == 0 {
         let place = asked.place;
         let waiting = lengths[place];
@@ -379,7 +383,7 @@ pub fn play(s: State, arrivals: Arrivals, steps: u32) -> Stretch
     playing::calls(s, standing::stands(s), arrivals, steps)
 }
 
-// 'END clock admitted sent lost waiting', of a state that stands; 1 of any other.
+// 'END clock admitted sent lost waiting' and the packets turned away, of a state that stands; 1 of any other.
 pub fn closing(s: State) -> Totals
     ensures { λ r. ⌜ r ≡ totalsOf s ⌝ }
 {
@@ -391,6 +395,7 @@ pub fn closing(s: State) -> Totals
             sent: 0,
             lost: 0,
             waiting: 0,
+            turned: 0,
         };
     }
     let g = s.segment;
@@ -406,5 +411,6 @@ pub fn closing(s: State) -> Totals
         sent: g.sent,
         lost: g.lost,
         waiting,
+        turned: g.turned,
     }
 }

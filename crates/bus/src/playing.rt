@@ -14,6 +14,7 @@ use rules::Admitted;
 use rules::Packet;
 use rules::Slot;
 use sorts::Address;
+use sorts::counts;
 use state::State;
 use state::zeros;
 ghost use Prim.Native.Nat.{_+_};
@@ -109,7 +110,7 @@ pub fn calls(s: State, stands: bool, arrivals: Arrivals, steps: u32) -> Stretch
         let a = arrivals.row[taken];
         let settings = g.settings;
         let clock = g.clock;
-        // An arrival that is due: an accepted packet takes the first free place.
+        // An arrival that is due: an accepted packet takes the first free place, one turned away is counted.
         if is_due(taken, arrivals.length, a.time, clock) {
             let listed = g.listed;
             let lengths = queues.lengths;
@@ -129,6 +130,7 @@ pub fn calls(s: State, stands: bool, arrivals: Arrivals, steps: u32) -> Stretch
             made += 1;
             taken += 1;
             if admitted.refusal != 0 {
+                g.turned = counts::turned_after(admitted.refusal, g.turned);
                 continue;
             }
             let place = asked.place;

@@ -63,7 +63,7 @@ handed number n own refused zero-own bears = go (eqb n 0) refl
     go true e h = absurd (h (zero-own (eqb-true n 0 e)))
     go false e h = ap refused (sym (bears n))
 
-handed-admission :
+pub handed-admission :
     (b : Bus) (a : Arrival) → ¬ (admit b a .0 .refusal ≡ 0)
     → admit b a ≡ (record { refusal = admit b a .0 .refusal; number = 0 }, handedBack b (admit b a .0 .refusal))
 handed-admission b a =

@@ -1,6 +1,6 @@
 -- A packet turned away (P4): 14 and 15 leave the state as it was but for the count, which stays within its range. Assumes nothing.
 use Prim.Native.Nat.{ℕ, suc, _≤_}
-use mathlib.Core.Path.{_≡_, refl}
+use mathlib.Core.Path.{_≡_, refl, ap}
 use mathlib.Core.Logic.{_⊎_, inl, inr}
 use mathlib.Core.Bool.{Bool, true, false, not, cond}
 use mathlib.Core.List.{_∷_}
@@ -11,7 +11,7 @@ use borrow.Author.Tests.{ltb-true}
 use Rattle.rules.specs.Lists.{firstOf}
 use Rattle.rules.specs.Bus.{most-turned, Bus}
 use Rattle.rules.specs.Standing.{Standing, stands}
-use Rattle.rules.specs.Admission.{Arrival, admissionTests, admissionRefusal, turns-away, TurnsAway, oneMore, turnedAway, handedBack}
+use Rattle.rules.specs.Admission.{Arrival, admissionTests, admissionRefusal, turns-away, TurnsAway, oneMore, turnedAfter, turnedAway, handedBack}
 use Rattle.rules.proofs.Laws.{clash}
 use Rattle.rules.proofs.Tests.{Whether, tells, told, one-of, equal}
 use Rattle.rules.proofs.Standing.{stands-exactly}
@@ -53,3 +53,14 @@ but-for-the-count b n h = back-cases (λ x. x ≡ turnedAway b) b n (λ e. clash
 pub turned-refused : (n : ℕ) → TurnsAway n → ¬ (n ≡ 0)
 turned-refused n (inl e) z = omega arith
 turned-refused n (inr e) z = omega arith
+
+-- the count, by whether the packet is turned away
+pub not-counted : (n count : ℕ) → ¬ TurnsAway n → turnedAfter n count ≡ count
+not-counted n count h = go (turns-away n) refl
+  where
+    go : (t : Bool) → turns-away n ≡ t → cond t (oneMore count) count ≡ count
+    go true e = absurd (h (tells (turns-whether n) e))
+    go false e = refl
+
+pub is-counted : (n count : ℕ) → TurnsAway n → turnedAfter n count ≡ oneMore count
+is-counted n count h = ap (λ t. cond t (oneMore count) count) (told (turns-whether n) h)

@@ -3,7 +3,7 @@ use mathlib.Core.Path.{sym, _∙_}
 use borrow.Author.Needs.{needs}
 use Rattle.state.proofs.Stands.{lent}
 use Rattle.state.proofs.StandingParts.{state-held}
-use Rattle.bus.proofs.InPlace.{Sound, sound-of, Taken, asked-away, asked-in}
+use Rattle.bus.proofs.InPlace.{Sound, sound-of, Taken, taken-uncounted, asked-away, asked-in}
 use Rattle.bus.proofs.admit.Statement.{statement}
 use Rattle.bus.proofs.admit.Tie as tie
 
@@ -21,17 +21,20 @@ asked-requires c κs =
     let start = tested .before in
     λ e. lent (start .args .s) _ (start .good .0) (sym (tested .stands .ensures) ∙ e) .few
 
+turned-after-requires : tie.Need-turned-after-requires
+turned-after-requires c κs = search needs
+
 -- the packet's place
 taken! :
     (c : tie.Then1)
     → Taken
-    (c .before .before .before .before .before .before .before .before .before .before .args .s)
-    (c .before .before .before .before .before .before .before .before .before .before .args .address)
-    (c .before .before .before .before .before .before .before .before .before .before .args .value)
-    (c .before .before .before .before .before .before .before .before .before .before .args .length)
-    (c .before .before .before .asked .result)
+    (c .before .before .before .before .before .before .before .before .before .before .before .args .s)
+    (c .before .before .before .before .before .before .before .before .before .before .before .args .address)
+    (c .before .before .before .before .before .before .before .before .before .before .before .args .value)
+    (c .before .before .before .before .before .before .before .before .before .before .before .args .length)
+    (c .before .before .before .before .asked .result)
 taken! c =
-    let told = c .before .before .before in
+    let told = c .before .before .before .before in
     let tested = told .before .before .before .before .before .before in
     let args = tested .before .args in
     asked-in (args .s) (args .address) (args .value) (args .length) (tested .stands .result) (sound! tested) (told .asked .result) (told .asked .ensures) (c .if1 .taken)
@@ -67,14 +70,21 @@ cast-g : tie.Need-cast-g
 cast-g c = search needs
 
 returns : tie.Need-returns
-returns c = taken! (c .before .before) .is
+returns c =
+    let accepted = c .before .before in
+    let told = accepted .before .before .before .before in
+    let args = told .before .before .before .before .before .before .before .args in
+    let counted = accepted .before .before .turned-after in
+    taken-uncounted (args .s) (args .address) (args .value) (args .length) (told .asked .result) (taken! accepted) (accepted .if1 .taken) (counted .result) (counted .ensures)
 
 returns-2 : tie.Need-returns-2
 returns-2 c =
-    let told = c .before .before .before in
+    let told = c .before .before .before .before in
     let tested = told .before .before .before .before .before .before in
     let args = tested .before .args in
     asked-away (args .s) (args .address) (args .value) (args .length) (tested .stands .result) (sound! tested) (told .asked .result) (told .asked .ensures) (c .if1 .left)
+    (c .before .before .turned-after .result)
+    (c .before .before .turned-after .ensures)
 
 pub admit-spec : {M : Type 1} → statement M
 admit-spec =
@@ -82,6 +92,7 @@ admit-spec =
     (tie.spec
     stands-requires
     asked-requires
+    turned-after-requires
     mul-waiting
     array-read-waiting
     mul-at

@@ -29,6 +29,7 @@ totals s waiting =
       sent = s .segment .sent;
       lost = s .segment .lost;
       waiting = waiting;
+      turned = s .segment .turned;
     }
 
 returns-2 : tie.Need-returns-2

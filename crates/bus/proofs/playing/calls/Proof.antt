@@ -19,7 +19,7 @@ use Rattle.rules.proofs.Laws.{or-false}
 use Rattle.rules.proofs.Standing.{set-up-stands}
 use Rattle.bus.specs.Types.{Packet, Settings, Contention, Segment, Queues, State, Arrival, Slot}
 use Rattle.state.specs.State.{Recorded, recordedIn, nobody, noPacket, meaning, queueAt, lastOf, waitingIn}
-use Rattle.bus.specs.Coded.{Answer, Admission, Stepped, admissionResult, stepResult, codedAdmit, codedStep}
+use Rattle.bus.specs.Coded.{Answer, Admission, Stepped, admissionResult, stepResult, codedAdmit, codedStep, stateTurned}
 use Rattle.bus.specs.Stretch.{inRow, mayBeMore, Arrivals, Report, noArrival, asks, due, arrivalReport, stepReport}
 use Rattle.bus.specs.Parts.{openingOf, transmittersOf, transmittersIn, addressesOf, movedBy, begunWith, segmentCounting, segmentWith, stays, Sent, queueForm, progressOf, Sole, soleOf, heardIn}
 use Rattle.state.proofs.Contenders.{zeroed}
@@ -175,17 +175,22 @@ module _ (c : tie.After-asked Inv-loop3 μ-loop3 Inv-loop2 μ-loop2 Inv-loop4 μ
   came-due : (ltb (at-loop the-turn .loop .taken) (x the-turn .length) && due (s the-turn .segment .clock .0) (a the-turn)) ≡ true
   came-due = sym (c .before .before .before .before .is-due .ensures) ∙ c .before .before .before .if2 .taken
 
+turned-after-requires : tie.Need-turned-after-requires Inv-loop3 μ-loop3 Inv-loop2 μ-loop2 Inv-loop4 μ-loop4 Inv-loop μ-loop
+turned-after-requires c κs = search needs
+
 loop-less : tie.Need-loop-less Inv-loop3 μ-loop3 Inv-loop2 μ-loop2 Inv-loop4 μ-loop4 Inv-loop μ-loop
-loop-less c = let h = turned (c .before .before .before .before .before .before .before .before .before .before .before .before) .0 in search needs
+loop-less c = let h = turned (c .before .before .before .before .before .before .before .before .before .before .before .before .before) .0 in search needs
 
 loop-again : tie.Need-loop-again Inv-loop3 μ-loop3 Inv-loop2 μ-loop2 Inv-loop4 μ-loop4 Inv-loop μ-loop
 loop-again c =
-    let told = c .before .before .before .before in
+    let told = c .before .before .before .before .before in
     let t = the-turn told in (
-      by-arrival t (came-due told) (record { answer = told .asked .result .answer; state = s t })
-          (asked-away (s t) (a t .address) (a t .value) (a t .length) (start t .args .stands) (sound! t) (told .asked .result) (told .asked .ensures) (c .if3 .taken))
-          (c .before .before .of-arrival .result)
-          (c .before .before .of-arrival .ensures),
+      by-arrival t (came-due told) (record { answer = told .asked .result .answer; state = stateTurned (s t) (c .turned-after .result) })
+          (asked-away (s t) (a t .address) (a t .value) (a t .length) (start t .args .stands) (sound! t) (told .asked .result) (told .asked .ensures) (c .before .if3 .taken)
+          (c .turned-after .result)
+          (c .turned-after .ensures))
+          (c .before .before .before .of-arrival .result)
+          (c .before .before .before .of-arrival .ensures),
       at-loop t .loop .inv .1,
     )
 
@@ -691,23 +696,23 @@ mul-admission-2 c = let h = in-rows (c .before) in search needs
 element-copy-out-admission : tie.Need-element-copy-out-admission Inv-loop3 μ-loop3 Inv-loop2 μ-loop2 Inv-loop4 μ-loop4 Inv-loop μ-loop
 element-copy-out-admission c = let h = in-rows (c .before) in search needs
 
-mul-t150 : tie.Need-mul-t150 Inv-loop3 μ-loop3 Inv-loop2 μ-loop2 Inv-loop4 μ-loop4 Inv-loop μ-loop
-mul-t150 c = let h = in-rows (c .before .before) in search needs
+mul-t152 : tie.Need-mul-t152 Inv-loop3 μ-loop3 Inv-loop2 μ-loop2 Inv-loop4 μ-loop4 Inv-loop μ-loop
+mul-t152 c = let h = in-rows (c .before .before) in search needs
 
-element-copy-out-t159 : tie.Need-element-copy-out-t159 Inv-loop3 μ-loop3 Inv-loop2 μ-loop2 Inv-loop4 μ-loop4 Inv-loop μ-loop
-element-copy-out-t159 c = let h = in-rows (c .before .before) in search needs
+element-copy-out-t161 : tie.Need-element-copy-out-t161 Inv-loop3 μ-loop3 Inv-loop2 μ-loop2 Inv-loop4 μ-loop4 Inv-loop μ-loop
+element-copy-out-t161 c = let h = in-rows (c .before .before) in search needs
 
-mul-t160 : tie.Need-mul-t160 Inv-loop3 μ-loop3 Inv-loop2 μ-loop2 Inv-loop4 μ-loop4 Inv-loop μ-loop
-mul-t160 c = let h = in-rows (c .before .before .before) in search needs
+mul-t162 : tie.Need-mul-t162 Inv-loop3 μ-loop3 Inv-loop2 μ-loop2 Inv-loop4 μ-loop4 Inv-loop μ-loop
+mul-t162 c = let h = in-rows (c .before .before .before) in search needs
 
-element-copy-out-t163 : tie.Need-element-copy-out-t163 Inv-loop3 μ-loop3 Inv-loop2 μ-loop2 Inv-loop4 μ-loop4 Inv-loop μ-loop
-element-copy-out-t163 c = let h = in-rows (c .before .before .before) in search needs
+element-copy-out-t165 : tie.Need-element-copy-out-t165 Inv-loop3 μ-loop3 Inv-loop2 μ-loop2 Inv-loop4 μ-loop4 Inv-loop μ-loop
+element-copy-out-t165 c = let h = in-rows (c .before .before .before) in search needs
 
-mul-t164 : tie.Need-mul-t164 Inv-loop3 μ-loop3 Inv-loop2 μ-loop2 Inv-loop4 μ-loop4 Inv-loop μ-loop
-mul-t164 c = let h = in-rows (c .before .before .before .before) in search needs
+mul-t166 : tie.Need-mul-t166 Inv-loop3 μ-loop3 Inv-loop2 μ-loop2 Inv-loop4 μ-loop4 Inv-loop μ-loop
+mul-t166 c = let h = in-rows (c .before .before .before .before) in search needs
 
-element-copy-out-t167 : tie.Need-element-copy-out-t167 Inv-loop3 μ-loop3 Inv-loop2 μ-loop2 Inv-loop4 μ-loop4 Inv-loop μ-loop
-element-copy-out-t167 c = let h = in-rows (c .before .before .before .before) in search needs
+element-copy-out-t169 : tie.Need-element-copy-out-t169 Inv-loop3 μ-loop3 Inv-loop2 μ-loop2 Inv-loop4 μ-loop4 Inv-loop μ-loop
+element-copy-out-t169 c = let h = in-rows (c .before .before .before .before) in search needs
 
 -- the sole winner, if there is one
 module _ (c : tie.Joined9 Inv-loop3 μ-loop3 Inv-loop2 μ-loop2 Inv-loop4 μ-loop4 Inv-loop μ-loop) where
@@ -918,8 +923,8 @@ mul-p c = let h = place! (c .before .before .before .before) in let i = c .befor
 element-copy-out-p : tie.Need-element-copy-out-p Inv-loop3 μ-loop3 Inv-loop2 μ-loop2 Inv-loop4 μ-loop4 Inv-loop μ-loop
 element-copy-out-p c = let h = place! (c .before .before .before .before) in let i = c .before .loop4 .inv .0 in let l = c .loop4-test .taken in search needs
 
-mul-t175 : tie.Need-mul-t175 Inv-loop3 μ-loop3 Inv-loop2 μ-loop2 Inv-loop4 μ-loop4 Inv-loop μ-loop
-mul-t175 c = let h = place! (c .before .before .before .before .before) in let i = c .before .before .loop4 .inv .0 in let l = c .before .loop4-test .taken in search needs
+mul-t177 : tie.Need-mul-t177 Inv-loop3 μ-loop3 Inv-loop2 μ-loop2 Inv-loop4 μ-loop4 Inv-loop μ-loop
+mul-t177 c = let h = place! (c .before .before .before .before .before) in let i = c .before .before .loop4 .inv .0 in let l = c .before .loop4-test .taken in search needs
 
 element-set-from-queues : tie.Need-element-set-from-queues Inv-loop3 μ-loop3 Inv-loop2 μ-loop2 Inv-loop4 μ-loop4 Inv-loop μ-loop
 element-set-from-queues c = let h = place! (c .before .before .before .before .before) in let i = c .before .before .loop4 .inv .0 in let l = c .before .loop4-test .taken in search needs
@@ -1033,6 +1038,7 @@ calls-spec =
     array-set-from-reports
     add-made
     add-taken
+    turned-after-requires
     loop-less
     loop-again
     mul-length
@@ -1107,12 +1113,12 @@ calls-spec =
     element-copy-out-listed
     mul-admission-2
     element-copy-out-admission
-    mul-t150
-    element-copy-out-t159
-    mul-t160
-    element-copy-out-t163
-    mul-t164
-    element-copy-out-t167
+    mul-t152
+    element-copy-out-t161
+    mul-t162
+    element-copy-out-t165
+    mul-t166
+    element-copy-out-t169
     moved-requires
     of-step-requires-2
     mul-reports-3
@@ -1130,7 +1136,7 @@ calls-spec =
     add-at-3
     mul-p
     element-copy-out-p
-    mul-t175
+    mul-t177
     element-set-from-queues
     add-free
     mul-p-2
