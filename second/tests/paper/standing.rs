@@ -141,6 +141,13 @@ fn clock_and_counts() {
                 s.sent = u64::MAX;
                 s.lost = 1;
             },
+            |s| s.turned_away = 4_294_967_296,
+            |s| s.turned_away = 1 << 63,
+            |s| s.turned_away = u64::MAX,
+            |s| {
+                s.admitted += 1;
+                s.turned_away = 1;
+            },
         ],
     );
     keeps(
@@ -151,6 +158,8 @@ fn clock_and_counts() {
                 s.admitted = 4_294_967_295;
                 s.sent = 4_294_967_295 - 5;
             },
+            |s| s.turned_away = 1,
+            |s| s.turned_away = 4_294_967_295,
         ],
     );
 }
