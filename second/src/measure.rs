@@ -70,6 +70,8 @@ mod tests {
     fn the_seventeenth_of_a_crowd_and_those_after_it_are_turned_away() {
         let crowd = one_station(&[(0, 0, 1); 20], 1);
         assert_eq!(measure(&crowd), Ok(run([16, 1, 0, 15, 4], 0)));
+        let crowd = one_station(&[(0, 0, 1); 316], 1);
+        assert_eq!(measure(&crowd), Ok(run([16, 1, 0, 15, 300], 0)));
         let faulty = one_station(&[(0, 4, 1), (0, 0, 0)], 1);
         assert_eq!(measure(&faulty), Ok(run([0, 0, 0, 0, 0], 0)));
     }

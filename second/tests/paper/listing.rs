@@ -119,6 +119,13 @@ fn the_wait_is_from_the_admission_and_not_from_the_arrivals_time() {
 }
 
 #[test]
+fn a_crowd_is_turned_away() {
+    let listing = one_station(&[(0, 1); 316]);
+    assert!(listing.starts_with("R 0 1 15\nR 0 1 15\n"));
+    assert!(listing.ends_with("\nEND 316 16 16 0 0 300\n"));
+}
+
+#[test]
 fn the_longest_run_ends() {
     let input = [
         set_up_record(0, 2, 2, 1, 1),

@@ -162,6 +162,18 @@ fn clock_and_counts() {
             |s| s.turned_away = 4_294_967_295,
         ],
     );
+    for state in [
+        in_parameter_phase(),
+        in_tie_phase(),
+        in_round(),
+        in_laxities(),
+    ] {
+        breaks(&state, &[|s| s.turned_away = 4_294_967_296]);
+    }
+    for discipline in [0, 1, 2] {
+        let empty = fresh(discipline, 4, 8, 1, &[(1, 0)]);
+        keeps(&empty, &[|s| s.turned_away = 4_294_967_295]);
+    }
 }
 
 #[test]
