@@ -3,7 +3,8 @@
 use crate::refusal::Refusal;
 use crate::standing::stands;
 use crate::state::{
-    Packet, Settings, State, LAST_SLOT, LONGEST, MOST_ADMITTED, PRI, QUEUE_PLACES, RTDG,
+    Packet, Settings, State, LAST_SLOT, LONGEST, MOST_ADMITTED, MOST_TURNED_AWAY, PRI,
+    QUEUE_PLACES, RTDG,
 };
 
 /// Admits a packet into any lent state; the packet's number is the answer.
@@ -31,10 +32,10 @@ pub(crate) fn admit_standing(
         return Err(Refusal::Length);
     }
     if state.settings.discipline == RTDG && value < state.clock {
-        return Err(Refusal::LatestStart);
+        return Err(turn_away(state, Refusal::LatestStart));
     }
     if state.queue_length(place) == QUEUE_PLACES {
-        return Err(Refusal::QueueFilled);
+        return Err(turn_away(state, Refusal::QueueFilled));
     }
     if state.admitted >= MOST_ADMITTED {
         return Err(Refusal::AdmittedSpent);
@@ -60,6 +61,14 @@ pub(crate) fn value_in_range(settings: &Settings, value: u32) -> bool {
 /// "1 to 4,096 slots".
 pub(crate) fn length_in_range(length: u32) -> bool {
     (1..=LONGEST).contains(&length)
+}
+
+/// "raised by exactly the admissions refused with 14 or 15"; "The count stops at 4,294,967,295."
+fn turn_away(state: &mut State, refusal: Refusal) -> Refusal {
+    if state.turned_away < MOST_TURNED_AWAY {
+        state.turned_away += 1;
+    }
+    refusal
 }
 
 /// "An accepted packet is numbered 1, 2, 3 and so on", and keeps "its admission slot".

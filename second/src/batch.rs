@@ -6,8 +6,8 @@ use crate::sheet::{Run, MOST_RUNS};
 /// "The input's first eight bytes are the number of runs".
 const NUMBER_BYTES: usize = 8;
 
-/// "the runs, twenty bytes each".
-const RUN_BYTES: usize = 20;
+/// "the runs, 24 bytes each".
+const RUN_BYTES: usize = 24;
 
 /// One run above the most is enough to refuse a larger batch.
 const RUNS_READ: usize = MOST_RUNS + 1;
@@ -29,14 +29,15 @@ fn number_of_runs(input: &[u8]) -> u64 {
     u64::from(high) << 32 | u64::from(low)
 }
 
-/// "admitted, sent, lost, waiting, longest wait, four bytes each".
+/// "admitted, sent, lost, waiting, turned away, longest wait, four bytes each".
 fn run_at(input: &[u8], from: usize) -> Run {
     Run {
         admitted: little_endian(input, from, 4),
         sent: little_endian(input, from + 4, 4),
         lost: little_endian(input, from + 8, 4),
         waiting: little_endian(input, from + 12, 4),
-        longest_wait: little_endian(input, from + 16, 4),
+        turned_away: little_endian(input, from + 16, 4),
+        longest_wait: little_endian(input, from + 20, 4),
     }
 }
 
@@ -46,7 +47,7 @@ mod tests {
     use crate::sheet::{Run, MOST_RUNS};
 
     /// A batch's bytes: the number it says, and its runs.
-    fn bytes(number: u64, runs: &[[u32; 5]]) -> Vec<u8> {
+    fn bytes(number: u64, runs: &[[u32; 6]]) -> Vec<u8> {
         let mut bytes = number.to_le_bytes().to_vec();
         bytes.extend(
             runs.iter()
@@ -56,40 +57,44 @@ mod tests {
         bytes
     }
 
-    fn numbers(run: &Run) -> [u32; 5] {
+    fn numbers(run: &Run) -> [u32; 6] {
         let &Run {
             admitted,
             sent,
             lost,
             waiting,
+            turned_away,
             longest_wait,
         } = run;
-        [admitted, sent, lost, waiting, longest_wait]
+        [admitted, sent, lost, waiting, turned_away, longest_wait]
     }
 
-    fn read(input: &[u8]) -> Vec<[u32; 5]> {
+    fn read(input: &[u8]) -> Vec<[u32; 6]> {
         read_batch(input).iter().map(numbers).collect()
     }
 
     #[test]
     fn the_runs_are_read_in_order() {
-        let runs = [[0x0403_0201, 2, 3, 4, 5], [u32::MAX, 7, 8, 9, 0x8000_0000]];
+        let runs = [
+            [0x0403_0201, 2, 3, 4, 5, 6],
+            [u32::MAX, 7, 8, 9, 0x4000_0000, 0x8000_0000],
+        ];
         assert_eq!(read(&bytes(2, &runs)), runs);
         assert_eq!(read(&bytes(1, &runs)), runs[..1]);
-        assert_eq!(read(&bytes(0, &runs)), [[0; 5]; 0]);
+        assert_eq!(read(&bytes(0, &runs)), [[0; 6]; 0]);
     }
 
     #[test]
     fn missing_bytes_are_zero() {
-        assert_eq!(read(&[]), [[0; 5]; 0]);
-        assert_eq!(read(&[2]), [[0; 5]; 2]);
-        let whole = bytes(3, &[[0x0101_0101; 5]; 2]);
+        assert_eq!(read(&[]), [[0; 6]; 0]);
+        assert_eq!(read(&[2]), [[0; 6]; 2]);
+        let whole = bytes(3, &[[0x0101_0101; 6]; 2]);
         let cut = [
-            [0x0101_0101; 5],
-            [0x0101_0101, 0x0001_0101, 0, 0, 0],
-            [0; 5],
+            [0x0101_0101; 6],
+            [0x0101_0101, 0x0001_0101, 0, 0, 0, 0],
+            [0; 6],
         ];
-        assert_eq!(read(&whole[..8 + 20 + 7]), cut);
+        assert_eq!(read(&whole[..8 + 24 + 7]), cut);
     }
 
     #[test]
@@ -102,7 +107,7 @@ mod tests {
 
     #[test]
     fn the_bytes_read_hold_the_most_runs() {
-        let runs = vec![[1, 2, 3, 4, 5]; MOST_RUNS + 1];
+        let runs = vec![[1, 2, 3, 4, 5, 6]; MOST_RUNS + 1];
         assert_eq!(bytes(0, &runs).len(), LONGEST_BATCH);
     }
 }

@@ -378,8 +378,9 @@ fn play_totals<W: Write>(state: &State, lines: &mut Lines<W>) {
             .number(totals.sent)
             .number(totals.lost)
             .number(totals.waiting)
+            .number(totals.turned_away)
             .close(),
-        Err(refusal) => lines.number(refusal.number()).numbers(&[0; 5]).close(),
+        Err(refusal) => lines.number(refusal.number()).numbers(&[0; 6]).close(),
     }
 }
 
@@ -393,7 +394,7 @@ fn play_change(state: &mut State, script: &mut Script) {
         1..=5 => change_settings(&mut state.settings, field, value),
         6 => state.stations[place].address = value as u32,
         7 => state.stations[place].capability = value as u32,
-        8..=13 => change_counts(state, field, value),
+        8..=13 | 32 => change_counts(state, field, value),
         14..=19 => change_contention(state, field, value),
         20..=24 | 29 => change_contender(&mut state.contenders[place], field, value),
         25 => state.waiting[place] = value,
@@ -417,7 +418,7 @@ fn change_settings(settings: &mut Settings, field: u64, value: u64) {
     }
 }
 
-/// Fields 8 to 13: clock, counts and round.
+/// Fields 8 to 13, and 32: clock, counts and round.
 fn change_counts(state: &mut State, field: u64, value: u64) {
     match field {
         8 => state.clock = value as u32,
@@ -425,7 +426,8 @@ fn change_counts(state: &mut State, field: u64, value: u64) {
         10 => state.sent = value,
         11 => state.lost = value,
         12 => state.won = yes(value),
-        _ => state.last = value as u32,
+        13 => state.last = value as u32,
+        _ => state.turned_away = value,
     }
 }
 
@@ -517,7 +519,7 @@ fn write_single_fields<W: Write>(state: &State, lines: &mut Lines<W>) {
     lines.word("clock").number(state.clock).close();
     lines
         .word("counts")
-        .numbers(&[state.admitted, state.sent, state.lost])
+        .numbers(&[state.admitted, state.sent, state.lost, state.turned_away])
         .close();
     lines
         .word("round")

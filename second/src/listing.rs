@@ -78,7 +78,7 @@ fn list_event<W: Write>(event: &Event, lines: &mut Lines<W>) {
     };
 }
 
-/// "Last: `END clock admitted sent lost waiting`."
+/// "Last: `END clock admitted sent lost waiting`", and "the count as its last field".
 fn list_end<W: Write>(totals: &Totals, lines: &mut Lines<W>) {
     lines
         .word("END")
@@ -87,5 +87,6 @@ fn list_end<W: Write>(totals: &Totals, lines: &mut Lines<W>) {
         .number(totals.sent)
         .number(totals.lost)
         .number(totals.waiting)
+        .number(totals.turned_away)
         .close();
 }

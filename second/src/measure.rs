@@ -14,12 +14,13 @@ pub fn measure(input: &[u8]) -> Result<Run, Refused> {
             longest_wait = longest_wait.max(wait);
         }
     });
-    // 32 bits hold each: no more than 4,294,967,295 are admitted.
+    // 32 bits hold each: no more than 4,294,967,295 are admitted, nor are more counted as turned away.
     Ok(Run {
         admitted: totals.admitted as u32,
         sent: totals.sent as u32,
         lost: totals.lost as u32,
         waiting: totals.waiting as u32,
+        turned_away: totals.turned_away as u32,
         longest_wait,
     })
 }
@@ -60,26 +61,36 @@ mod tests {
 
     #[test]
     fn the_counts_and_the_wait_are_those_of_the_listing() {
-        assert_eq!(measure(WORKED), Ok(run([3, 3, 0, 0], 14)));
-        assert_eq!(measure(RTDG), Ok(run([6, 3, 3, 0], 23)));
-        assert_eq!(measure(TURNED_AWAY), Ok(run([19, 2, 1, 16], 2)));
+        assert_eq!(measure(WORKED), Ok(run([3, 3, 0, 0, 0], 14)));
+        assert_eq!(measure(RTDG), Ok(run([6, 3, 3, 0, 1], 23)));
+        assert_eq!(measure(TURNED_AWAY), Ok(run([19, 2, 1, 16, 2], 2)));
+    }
+
+    #[test]
+    fn the_seventeenth_of_a_crowd_and_those_after_it_are_turned_away() {
+        let crowd = one_station(&[(0, 0, 1); 20], 1);
+        assert_eq!(measure(&crowd), Ok(run([16, 1, 0, 15, 4], 0)));
+        let crowd = one_station(&[(0, 0, 1); 316], 1);
+        assert_eq!(measure(&crowd), Ok(run([16, 1, 0, 15, 300], 0)));
+        let faulty = one_station(&[(0, 4, 1), (0, 0, 0)], 1);
+        assert_eq!(measure(&faulty), Ok(run([0, 0, 0, 0, 0], 0)));
     }
 
     #[test]
     fn the_longest_wait_is_over_all_successes() {
         let first = one_station(&[(0, 0, 10), (0, 1, 1), (10, 2, 1)], 3);
-        assert_eq!(measure(&first), Ok(run([3, 3, 0, 0], 10)));
+        assert_eq!(measure(&first), Ok(run([3, 3, 0, 0, 0], 10)));
         let middle = one_station(&[(0, 0, 10), (0, 1, 1), (20, 2, 1)], 12);
-        assert_eq!(measure(&middle), Ok(run([3, 3, 0, 0], 10)));
+        assert_eq!(measure(&middle), Ok(run([3, 3, 0, 0, 0], 10)));
     }
 
     #[test]
     fn without_a_success_the_wait_is_0() {
-        assert_eq!(measure(&one_station(&[], 3)), Ok(run([0, 0, 0, 0], 0)));
+        assert_eq!(measure(&one_station(&[], 3)), Ok(run([0, 0, 0, 0, 0], 0)));
         let late = one_station(&[(3, 0, 1)], 3);
-        assert_eq!(measure(&late), Ok(run([0, 0, 0, 0], 0)));
+        assert_eq!(measure(&late), Ok(run([0, 0, 0, 0, 0], 0)));
         let unstepped = one_station(&[(0, 0, 1)], 0);
-        assert_eq!(measure(&unstepped), Ok(run([0, 0, 0, 0], 0)));
+        assert_eq!(measure(&unstepped), Ok(run([0, 0, 0, 0, 0], 0)));
     }
 
     #[test]

@@ -18,23 +18,26 @@ pub struct Run {
     pub sent: u32,
     pub lost: u32,
     pub waiting: u32,
+    pub turned_away: u32,
     pub longest_wait: u32,
 }
 
-/// "the four counts' sums"; 64 bits hold those of any batch.
+/// "the five counts' sums"; 64 bits hold those of any batch.
 #[derive(Clone, Copy, Debug, PartialEq, Eq)]
 pub struct Sums {
     pub admitted: u64,
     pub sent: u64,
     pub lost: u64,
     pub waiting: u64,
+    pub turned_away: u64,
 }
 
-/// "lost over lost + sent, kept as two whole numbers and not reduced".
+/// "lost + turned away over lost + turned away + sent, kept as two whole numbers and not reduced".
 #[derive(Clone, Copy, Debug, PartialEq, Eq)]
 pub struct Loss {
+    /// "A packet turned away is lost too": "the packets lost or turned away".
     pub lost: u64,
-    /// "the packets lost or sent", not 0.
+    /// "the packets lost, turned away or sent", not 0.
     pub lost_or_sent: u64,
 }
 
@@ -117,6 +120,7 @@ fn sums(batch: &[Run]) -> Sums {
         sent: sum(|run| run.sent),
         lost: sum(|run| run.lost),
         waiting: sum(|run| run.waiting),
+        turned_away: sum(|run| run.turned_away),
     }
 }
 
@@ -134,14 +138,14 @@ fn highest(batch: &[Run]) -> Option<Highest> {
     highest
 }
 
-/// "A run with nothing lost or sent has no figure".
+/// "A run with nothing lost, turned away or sent has no figure".
 fn loss(run: &Run) -> Option<Loss> {
-    let lost = u64::from(run.lost);
+    let lost = u64::from(run.lost) + u64::from(run.turned_away);
     let lost_or_sent = lost + u64::from(run.sent);
     (lost_or_sent > 0).then_some(Loss { lost, lost_or_sent })
 }
 
-/// "a over b is above c over d where a × d is above c × b", exactly.
+/// "a over b is above c over d where a × d is above c × b, also where the products pass 64 bits".
 fn above(one: &Loss, other: &Loss) -> bool {
     let [a, b, c, d] = [one.lost, one.lost_or_sent, other.lost, other.lost_or_sent].map(u128::from);
     a * d > c * b
@@ -195,8 +199,8 @@ fn refused_words(refusal: Refusal, place: usize) -> String {
 /// "A heading, a line for each run, a line for the sums, and one for the highest loss".
 fn sheet_text(entries: &[Entry], sheet: &Sheet) -> Vec<u8> {
     let mut text = Vec::new();
-    let heading = columns(["admitted", "sent", "lost", "waiting"], "longest wait");
-    add_line(&mut text, &heading, b"run");
+    let counts = ["admitted", "sent", "lost", "waiting", "turned away"];
+    add_line(&mut text, &columns(counts, "longest wait"), b"run");
     let mut rows = sheet.rows.iter();
     for entry in entries {
         add_line(&mut text, &entry_columns(entry, &mut rows), &entry.name);
@@ -214,32 +218,46 @@ fn add_line(text: &mut Vec<u8>, columns: &str, name: &[u8]) {
     text.push(b'\n');
 }
 
-/// "each after one space and right-aligned in 10 places; the longest wait likewise in 12 places".
-fn columns(counts: [impl Display; 4], wait: impl Display) -> String {
-    let [admitted, sent, lost, waiting] = counts;
-    format!(" {admitted:>10} {sent:>10} {lost:>10} {waiting:>10} {wait:>12}")
+/// "each after one space and right-aligned: admitted, sent, lost and waiting in 10 places, the packets
+/// turned away in 11; the longest wait likewise in 12 places".
+fn columns(counts: [impl Display; 5], wait: impl Display) -> String {
+    let [admitted, sent, lost, waiting, turned_away] = counts;
+    format!(" {admitted:>10} {sent:>10} {lost:>10} {waiting:>10} {turned_away:>11} {wait:>12}")
 }
 
-/// The columns of the next row for a run; what stands "in place of the columns, right-aligned in 57
+/// The columns of the next row for a run; what stands "in place of the columns, right-aligned in 69
 /// places", for a scenario without one.
 fn entry_columns<'a>(entry: &Entry, rows: &mut impl Iterator<Item = &'a Run>) -> String {
     match entry.run {
         Ok(_) => rows.next().map_or_else(String::new, row_columns),
         Err(NoRun::Refused(refused)) => {
-            format!("{:>57}", refused_words(refused.refusal, refused.offset))
+            format!("{:>69}", refused_words(refused.refusal, refused.offset))
         }
-        Err(NoRun::Unreadable) => format!("{:>57}", "UNREADABLE"),
+        Err(NoRun::Unreadable) => format!("{:>69}", "UNREADABLE"),
     }
 }
 
 fn row_columns(row: &Run) -> String {
-    let counts = [row.admitted, row.sent, row.lost, row.waiting];
+    let counts = [
+        row.admitted,
+        row.sent,
+        row.lost,
+        row.waiting,
+        row.turned_away,
+    ];
     columns(counts, row.longest_wait)
 }
 
-/// "four columns, then 13 spaces, for there is no sum of waits".
+/// "five columns, then 13 spaces, for there is no sum of waits".
 fn sums_columns(sums: &Sums) -> String {
-    columns([sums.admitted, sums.sent, sums.lost, sums.waiting], "")
+    let counts = [
+        sums.admitted,
+        sums.sent,
+        sums.lost,
+        sums.waiting,
+        sums.turned_away,
+    ];
+    columns(counts, "")
 }
 
 /// "The last line".
@@ -263,21 +281,27 @@ fn name_of(entries: &[Entry], place: usize) -> &[u8] {
 pub(crate) mod tests {
     use super::*;
 
-    /// A run of these counts: admitted, sent, lost, waiting.
-    pub(crate) fn run(counts: [u32; 4], longest_wait: u32) -> Run {
-        let [admitted, sent, lost, waiting] = counts;
+    /// A run of these counts: admitted, sent, lost, waiting, turned away.
+    pub(crate) fn run(counts: [u32; 5], longest_wait: u32) -> Run {
+        let [admitted, sent, lost, waiting, turned_away] = counts;
         Run {
             admitted,
             sent,
             lost,
             waiting,
+            turned_away,
             longest_wait,
         }
     }
 
     /// A run that balances, by what was lost and sent.
     fn lossy(lost: u32, sent: u32) -> Run {
-        run([lost + sent, sent, lost, 0], 0)
+        crowded(lost, 0, sent)
+    }
+
+    /// A run that balances, by what was lost, turned away and sent.
+    fn crowded(lost: u32, turned_away: u32, sent: u32) -> Run {
+        run([lost + sent, sent, lost, 0, turned_away], 0)
     }
 
     fn highest_of(batch: &[Run]) -> Option<(usize, u64, u64)> {
@@ -307,6 +331,7 @@ pub(crate) mod tests {
         sent: 0,
         lost: 0,
         waiting: 0,
+        turned_away: 0,
         longest_wait: 0,
     };
 
@@ -315,7 +340,8 @@ pub(crate) mod tests {
         ..NOTHING
     };
 
-    const HEADING: &str = "   admitted       sent       lost    waiting longest wait  run\n";
+    const HEADING: &str =
+        "   admitted       sent       lost    waiting turned away longest wait  run\n";
 
     #[test]
     fn the_earlier_of_equal_losses_comes_highest() {
@@ -334,13 +360,13 @@ pub(crate) mod tests {
     #[test]
     fn the_loss_decides_and_not_the_lost() {
         assert_eq!(highest_of(&[lossy(100, 101), lossy(1, 1)]), Some((1, 1, 2)));
-        let waiting = run([9, 1, 1, 7], 0);
+        let waiting = run([9, 1, 1, 7, 0], 0);
         assert_eq!(highest_of(&[lossy(2, 3), waiting]), Some((1, 1, 2)));
     }
 
     #[test]
     fn a_run_without_a_figure_never_comes_highest() {
-        let waiting = run([3, 0, 0, 3], 0);
+        let waiting = run([3, 0, 0, 3, 0], 0);
         assert_eq!(
             highest_of(&[NOTHING, waiting, lossy(0, 1)]),
             Some((2, 0, 1))
@@ -355,8 +381,9 @@ pub(crate) mod tests {
     #[test]
     fn none_has_a_figure() {
         assert_eq!(highest_of(&[]), None);
-        assert_eq!(highest_of(&[NOTHING, run([3, 0, 0, 3], 0)]), None);
-        let expected = "          0          0          0          0               all runs\n\
+        assert_eq!(highest_of(&[NOTHING, run([3, 0, 0, 3, 0], 0)]), None);
+        let expected =
+            "          0          0          0          0           0               all runs\n\
              highest loss: no run has a figure\n";
         assert_eq!(text_of(&[]), format!("{HEADING}{expected}"));
     }
@@ -386,6 +413,66 @@ pub(crate) mod tests {
         assert!(!above(&higher, &higher));
         assert!(!above(&loss(1 << 32, 1 << 63), &loss(1, 1 << 31)));
         assert!(above(&loss(1 << 63, most), &loss(1, 2)));
+    }
+
+    #[test]
+    fn a_packet_turned_away_is_lost_too() {
+        assert_eq!(highest_of(&[crowded(7, 4, 5)]), Some((0, 11, 16)));
+        let batch = [lossy(3, 3), crowded(1, 2, 2), crowded(0, 2, 1)];
+        assert_eq!(highest_of(&batch), Some((2, 2, 3)));
+        let halves = [crowded(0, 2, 2), lossy(1, 1), crowded(1, 1, 2)];
+        assert_eq!(highest_of(&halves), Some((0, 2, 4)));
+        let waiting = run([9, 1, 1, 7, 2], 0);
+        assert_eq!(highest_of(&[lossy(2, 1), waiting]), Some((1, 3, 4)));
+    }
+
+    #[test]
+    fn a_run_with_only_packets_turned_away_has_a_figure() {
+        let only = run([0, 0, 0, 0, 3], 0);
+        assert_eq!(highest_of(&[only]), Some((0, 3, 3)));
+        let with_waiting = run([16, 0, 0, 16, 1], 0);
+        let batch = [NOTHING, lossy(9, 1), with_waiting, only];
+        assert_eq!(highest_of(&batch), Some((2, 1, 1)));
+        assert_eq!(highest_of(&[lossy(9, 0), only]), Some((0, 9, 9)));
+    }
+
+    /// A run has at most twice 4,294,967,295 packets lost, turned away or sent.
+    #[test]
+    fn the_largest_loss_is_past_32_bits() {
+        let most = u64::from(u32::MAX);
+        let all = crowded(u32::MAX, u32::MAX, 0);
+        assert_eq!(highest_of(&[all]), Some((0, 2 * most, 2 * most)));
+        let all_but_one = crowded(u32::MAX - 1, u32::MAX, 1);
+        let near = [all_but_one, all];
+        assert_eq!(highest_of(&near), Some((1, 2 * most, 2 * most)));
+        let one_fewer = crowded(u32::MAX - 1, u32::MAX - 1, 1);
+        let near = [one_fewer, all_but_one];
+        assert_eq!(highest_of(&near), Some((1, 2 * most - 1, 2 * most)));
+    }
+
+    /// Cross products 2^64 and 2^64 - 1: the higher one has nothing in 64 bits.
+    #[test]
+    fn losses_about_64_bits() {
+        let (lower, higher) = (crowded(0, u32::MAX, 1), crowded(1, u32::MAX, 1));
+        let highest = |place| Some((place, 1 << 32, (1 << 32) + 1));
+        assert_eq!(highest_of(&[lower, higher]), highest(1));
+        assert_eq!(highest_of(&[higher, lower]), highest(0));
+    }
+
+    /// Cross products that differ by 2^64, and so are equal in 64 bits.
+    #[test]
+    fn losses_that_differ_only_past_64_bits() {
+        let lower = crowded((1 << 31) - 9, u32::MAX, (1 << 31) + 2);
+        let higher = crowded(u32::MAX - 3, u32::MAX, 1);
+        let figure = |run: &Run| loss(run).expect("it has a figure");
+        let product = |one: &Run, other: &Run| {
+            u128::from(figure(one).lost) * u128::from(figure(other).lost_or_sent)
+        };
+        let difference = product(&higher, &lower) - product(&lower, &higher);
+        assert_eq!(difference, 1 << 64);
+        let highest = |place| Some((place, (1 << 33) - 5, (1 << 33) - 4));
+        assert_eq!(highest_of(&[lower, higher]), highest(1));
+        assert_eq!(highest_of(&[higher, lower]), highest(0));
     }
 
     #[test]
@@ -420,41 +507,52 @@ pub(crate) mod tests {
     #[test]
     fn each_count_is_weighed_in_the_balance() {
         let unbalanced = [
-            run([4, 1, 1, 1], 0),
-            run([2, 1, 1, 1], 0),
-            run([0, 1, 0, 0], 0),
-            run([0, 0, 1, 0], 0),
-            run([0, 0, 0, 1], 0),
-            run([0, u32::MAX, 1, 0], 0),
-            run([u32::MAX, u32::MAX, u32::MAX, 1], 0),
+            run([4, 1, 1, 1, 0], 0),
+            run([2, 1, 1, 1, 0], 0),
+            run([0, 1, 0, 0, 0], 0),
+            run([0, 0, 1, 0, 0], 0),
+            run([0, 0, 0, 1, 0], 0),
+            run([0, u32::MAX, 1, 0, 0], 0),
+            run([u32::MAX, u32::MAX, u32::MAX, 1, 0], 0),
         ];
         for run in unbalanced {
             assert_eq!(sheet(&[run]), refused(Refusal::UnbalancedRun, 0));
         }
-        assert!(sheet(&[run([u32::MAX, u32::MAX - 2, 1, 1], 0)]).is_ok());
+        assert!(sheet(&[run([u32::MAX, u32::MAX - 2, 1, 1, 0], 0)]).is_ok());
+    }
+
+    /// What was turned away "was never admitted, so that it stands beside" the balance.
+    #[test]
+    fn turned_away_is_not_in_the_balance() {
+        assert!(sheet(&[run([3, 1, 1, 1, 5], 0), run([0, 0, 0, 0, u32::MAX], 0)]).is_ok());
+        let with_it = run([4, 1, 1, 1, 1], 0);
+        assert_eq!(sheet(&[with_it]), refused(Refusal::UnbalancedRun, 0));
+        let without_it = run([2, 1, 1, 1, 1], 0);
+        assert_eq!(sheet(&[without_it]), refused(Refusal::UnbalancedRun, 0));
     }
 
     #[test]
     fn the_longest_wait_is_0_where_none_was_sent() {
         let batch = [
-            run([2, 0, 1, 1], 7),
-            run([2, 1, 1, 0], 7),
-            run([1, 1, 0, 0], 0),
-            run([0, 0, 0, 0], u32::MAX),
+            run([2, 0, 1, 1, 5], 7),
+            run([2, 1, 1, 0, 0], 7),
+            run([1, 1, 0, 0, 0], 0),
+            run([0, 0, 0, 0, 0], u32::MAX),
         ];
         let rows = sheet(&batch).expect("the batch is accepted").rows;
         assert!(rows.iter().map(|row| row.longest_wait).eq([0, 7, 0, 0]));
-        assert_eq!(rows[0], run([2, 0, 1, 1], 0));
+        assert_eq!(rows[0], run([2, 0, 1, 1, 5], 0));
     }
 
     #[test]
     fn the_sums_are_past_32_bits() {
         let most = u32::MAX;
         let batch = [
-            run([most, most, 0, 0], 1),
-            run([most, 0, most, 0], 2),
-            run([most, 0, 0, most], 3),
-            run([6, 1, 2, 3], 4),
+            run([most, most, 0, 0, 0], 1),
+            run([most, 0, most, 0, 0], 2),
+            run([most, 0, 0, most, 0], 3),
+            run([6, 1, 2, 3, 4], 5),
+            run([0, 0, 0, 0, most], 6),
         ];
         let sums = sheet(&batch).expect("the batch is accepted").sums;
         let most = u64::from(most);
@@ -463,19 +561,25 @@ pub(crate) mod tests {
             sent: most + 1,
             lost: most + 2,
             waiting: most + 3,
+            turned_away: most + 4,
         };
         assert_eq!(sums, expected);
     }
 
     #[test]
     fn a_longer_number_takes_the_places_it_needs() {
-        let most = run([u32::MAX, u32::MAX, 0, 0], u32::MAX);
-        let row = " 4294967295 4294967295          0          0   4294967295  1\n";
-        let sums = " 4294967295 4294967295          0          0               all runs\n";
-        let highest = "highest loss 0/4294967295  1\n";
+        let most = run([u32::MAX, u32::MAX, 0, 0, u32::MAX], u32::MAX);
+        let row = " 4294967295 4294967295          0          0  4294967295   4294967295  1\n";
+        let sums =
+            " 4294967295 4294967295          0          0  4294967295               all runs\n";
+        let highest = "highest loss 4294967295/8589934590  1\n";
         assert_eq!(text_of(&[most]), [HEADING, row, sums, highest].concat());
-        let sums = " 12884901885 12884901885          0          0               all runs\n";
+        let sums =
+            " 12884901885 12884901885          0          0 12884901885               all runs\n";
         assert!(text_of(&[most; 3]).ends_with(&["  3\n", sums, highest].concat()));
+        let sum = "128849018850";
+        let sums = format!(" {sum} {sum}          0          0 {sum}               all runs\n");
+        assert!(text_of(&[most; 30]).ends_with(&["  30\n", &sums, highest].concat()));
     }
 
     #[test]
@@ -485,18 +589,18 @@ pub(crate) mod tests {
             offset: 32,
         });
         let entries = [
-            entry(b"worked", Ok(run([3, 3, 0, 0], 14))),
-            entry(b"crowded", Ok(run([12, 5, 7, 0], 9))),
+            entry(b"worked", Ok(run([3, 3, 0, 0, 0], 14))),
+            entry(b"crowded", Ok(run([12, 5, 7, 0, 4], 9))),
             entry(b"cut", Err(cut)),
             entry(b"missing", Err(NoRun::Unreadable)),
         ];
-        let expected = "   admitted       sent       lost    waiting longest wait  run
-          3          3          0          0           14  worked
-         12          5          7          0            9  crowded
-                                            REFUSED 20 32  cut
-                                               UNREADABLE  missing
-         15          8          7          0               all runs
-highest loss 7/12  crowded
+        let expected = "   admitted       sent       lost    waiting turned away longest wait  run
+          3          3          0          0           0           14  worked
+         12          5          7          0           4            9  crowded
+                                                        REFUSED 20 32  cut
+                                                           UNREADABLE  missing
+         15          8          7          0           4               all runs
+highest loss 11/16  crowded
 ";
         assert_eq!(String::from_utf8(text(&entries)).as_deref(), Ok(expected));
     }
@@ -507,7 +611,7 @@ highest loss 7/12  crowded
             refusal: Refusal::ScenarioEnds,
             offset: 65_536,
         });
-        let row = "                                         REFUSED 18 65536  a\n";
+        let row = "                                                     REFUSED 18 65536  a\n";
         let written = text(&[entry(b"a", Err(ends))]);
         assert!(written[HEADING.len()..].starts_with(row.as_bytes()));
     }
@@ -528,7 +632,7 @@ highest loss 7/12  crowded
         let mut name = vec![b'x'; 4_097];
         name[..3].copy_from_slice(b"\xff\n\0");
         let cut = &name[..4_096];
-        let columns = b"          2          1          1          0            0  ";
+        let columns = b"          2          1          1          0           0            0  ";
         let row = [columns, cut, b"\n"].concat();
         let highest = [b"\nhighest loss 1/2  ", cut, b"\n"].concat();
         for name in [&name, cut] {

@@ -4,7 +4,7 @@ use crate::admission::{length_in_range, value_in_range};
 use crate::set_up::{check_settings, check_stations};
 use crate::state::{
     first_window, Contender, Contention, Packet, Side, State, Station, Window, LAST_SLOT,
-    MOST_ADMITTED, PLACES, PRI, QUEUE_PLACES, RTVC, STATIONS,
+    MOST_ADMITTED, MOST_TURNED_AWAY, PLACES, PRI, QUEUE_PLACES, RTVC, STATIONS,
 };
 
 /// Whether a state of any content meets every standing condition.
@@ -25,11 +25,13 @@ fn set_up_stands(state: &State) -> bool {
         && check_stations(&state.settings, &state.stations[..state.listed()]).is_ok()
 }
 
-/// "clock and admitted count within range; admitted = sent + lost + waiting".
+/// "clock and admitted count within range; admitted = sent + lost + waiting", and the count of packets
+/// turned away not above where it stops.
 fn counts_stand(state: &State) -> bool {
     let waiting: u128 = state.waiting.iter().map(|&length| u128::from(length)).sum();
     state.clock <= LAST_SLOT
         && state.admitted <= MOST_ADMITTED
+        && state.turned_away <= MOST_TURNED_AWAY
         && u128::from(state.admitted) == u128::from(state.sent) + u128::from(state.lost) + waiting
 }
 

@@ -10,6 +10,8 @@ pub const PLACES: usize = STATIONS * QUEUE_PLACES;
 pub const LAST_SLOT: u32 = 1_073_741_824;
 /// "packets admitted: at most 4,294,967,295".
 pub const MOST_ADMITTED: u64 = 4_294_967_295;
+/// "The count stops at 4,294,967,295", that of packets turned away.
+pub const MOST_TURNED_AWAY: u64 = 4_294_967_295;
 /// "packet length: 1 to 4,096 slots".
 pub const LONGEST: u32 = 4_096;
 
@@ -87,6 +89,8 @@ pub struct State {
     pub admitted: u64,
     pub sent: u64,
     pub lost: u64,
+    /// "a count of packets turned away".
+    pub turned_away: u64,
     /// Whether a circuit has won in this round.
     pub won: bool,
     /// The last winner's capability.
@@ -173,6 +177,7 @@ impl State {
         admitted: 0,
         sent: 0,
         lost: 0,
+        turned_away: 0,
         won: false,
         last: 0,
         contention: Contention::ZERO,

@@ -1,4 +1,4 @@
-//! The closing totals of a state: clock, admitted, sent, lost and waiting.
+//! The closing totals of a state: clock, admitted, sent, lost, waiting and turned away.
 
 use crate::refusal::Refusal;
 use crate::standing::stands;
@@ -11,6 +11,7 @@ pub struct Totals {
     pub sent: u64,
     pub lost: u64,
     pub waiting: u64,
+    pub turned_away: u64,
 }
 
 /// The totals of any lent state; one that does not stand is refused.
@@ -31,5 +32,6 @@ pub(crate) fn totals_standing(state: &State) -> Totals {
         waiting: (0..state.listed())
             .map(|place| state.queue_length(place) as u64)
             .sum(),
+        turned_away: state.turned_away,
     }
 }

@@ -98,6 +98,6 @@ mod tests {
             "../examples/rtdg.scenario",
         ];
         let written = report(&names.map(OsString::from));
-        assert!(written.ends_with(b"\nhighest loss 3/6  ../examples/rtdg.scenario\n"));
+        assert!(written.ends_with(b"\nhighest loss 4/7  ../examples/rtdg.scenario\n"));
     }
 }

@@ -263,7 +263,7 @@ offer 2 7 3 2
 B 25 0 0 0 0 0
 S 0 0 2 0 0 8 1 0 0 0 0 0
 O 0 0 3 0 0 4 2 7 3 2 3 1
-T 0 5 3 1 1 1
+T 0 5 3 1 1 1 0
 settings 1 5 512 10 3
 ";
     let written = played(script);

@@ -1,4 +1,5 @@
-//! Made-up histories and lent states: accepted calls keep the conditions, refused ones the state.
+//! Made-up histories and lent states: accepted calls keep the conditions, refused ones the state but for
+//! the packets turned away.
 
 use std::collections::BTreeMap;
 
@@ -41,7 +42,7 @@ fn made_up(numbers: &mut Numbers, discipline: u32) -> State {
 fn value(numbers: &mut Numbers, state: &State) -> u32 {
     match state.settings.discipline {
         0 => numbers.below(u64::from(state.settings.d)) as u32,
-        1 => state.clock + numbers.below(40) as u32,
+        1 => (state.clock + numbers.below(40) as u32).saturating_sub(2),
         _ => 0,
     }
 }
@@ -60,18 +61,27 @@ fn most_probes(state: &State) -> u32 {
 #[test]
 fn histories_stand_and_count_right() {
     let mut numbers = Numbers(1);
+    let mut crowded = [0; 3];
     for history in 0..300 {
         let mut state = made_up(&mut numbers, history % 3);
-        let (mut sent, mut lost, mut probes) = (0, 0, 0);
+        let (mut sent, mut lost, mut turned_away, mut probes) = (0, 0, 0, 0);
+        let addresses = if history % 2 == 0 { 9 } else { 2 };
         let mut slots = BTreeMap::new();
         for _ in 0..120 {
             if numbers.below(3) > 0 {
-                let address = numbers.below(9) as u32;
+                let address = numbers.below(addresses) as u32;
                 let value = value(&mut numbers, &state);
                 let lent = state.clone();
                 match admit(&mut state, address, value, 1 + numbers.below(6) as u32) {
                     Ok(number) => drop(slots.insert(number, lent.clock)),
-                    Err(_) => assert!(state == lent),
+                    Err(refusal) => {
+                        turned_away += u64::from(matches!(refusal.number(), 14 | 15));
+                        let expected = State {
+                            turned_away,
+                            ..lent
+                        };
+                        assert!(state == expected);
+                    }
                 }
             } else {
                 if numbers.below(2) > 0 && !state.contention.begun {
@@ -94,9 +104,12 @@ fn histories_stand_and_count_right() {
             assert!(stands(&state));
             let totals = totals(&state).expect("accepted");
             assert_eq!((totals.sent, totals.lost), (sent, lost));
+            assert_eq!(totals.turned_away, turned_away);
             assert_eq!(totals.admitted, sent + lost + totals.waiting);
         }
+        crowded[history as usize % 3] += turned_away;
     }
+    assert!(crowded.iter().all(|&turned_away| turned_away > 0));
 }
 
 #[test]
@@ -132,7 +145,7 @@ fn scripts_of_any_content_are_played() {
                 4 => script += "B ",
                 5 => script += "O ",
                 _ => {
-                    let field = 1 + numbers.below(30);
+                    let field = 1 + numbers.below(32);
                     let index = numbers.below(4);
                     let value = values[numbers.below(values.len() as u64) as usize];
                     script += &format!("E {field} {index} {value} S ");

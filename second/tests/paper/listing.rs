@@ -2,9 +2,30 @@
 
 use crate::worlds::{arrival_record, listing_of, run_record, set_up_record, station_record};
 
-/// The worked example of the paper, and its listing.
+/// The worked example of the paper.
 const INPUT: &[u8] = include_bytes!("../../../examples/worked.scenario");
-const OUTPUT: &str = include_str!("../../../examples/worked.listing");
+
+/// Its listing, with the waits and the packets turned away.
+const OUTPUT: &str = "\
+0 P 0 4 C
+1 P 0 2 I
+2 P 2 2 C
+3 P 2 1 C
+4 T 0 8 C
+5 T 0 4 I
+6 T 4 4 C
+7 T 4 2 S 5 1 3 7
+10 P 0 4 C
+11 P 0 2 I
+12 P 2 2 C
+13 P 2 1 S 6 2 1 13
+14 P 0 4 S 1 3 2 14
+16 P 0 4 I
+END 17 3 3 0 0 0
+";
+
+/// Arrivals refused with 11 to 15.
+const TURNED_AWAY: &[u8] = include_bytes!("../../../examples/turned-away.scenario");
 
 #[test]
 fn the_worked_example() {
@@ -20,7 +41,7 @@ fn no_steps_admit_nothing() {
         run_record(0),
     ]
     .concat();
-    assert_eq!(listing_of(&input), "END 0 0 0 0 0\n");
+    assert_eq!(listing_of(&input), "END 0 0 0 0 0 0\n");
 }
 
 #[test]
@@ -38,8 +59,21 @@ fn refused_arrivals_and_drops_are_listed() {
     ]
     .concat();
     let expected =
-        "R 0 3 11\n0 P 0 2 C\n1 P 0 1 I\n2 P 1 1 I\nR 3 1 14\nD 2\n3 P 0 2 I\nEND 4 2 0 2 0\n";
+        "R 0 3 11\n0 P 0 2 C\n1 P 0 1 I\n2 P 1 1 I\nR 3 1 14\nD 2\n3 P 0 2 I\nEND 4 2 0 2 0 1\n";
     assert_eq!(listing_of(&input), expected);
+}
+
+/// "`END` gains the count as its last field": 14 and 15, one of each.
+#[test]
+fn the_last_field_is_the_packets_turned_away() {
+    let listing = listing_of(TURNED_AWAY);
+    let refused: Vec<&str> = listing
+        .lines()
+        .filter(|line| line.starts_with('R'))
+        .filter_map(|line| line.split(' ').next_back())
+        .collect();
+    assert_eq!(refused, ["11", "12", "13", "13", "14", "15"]);
+    assert!(listing.ends_with("\nEND 4100 19 2 1 16 2\n"));
 }
 
 #[test]
@@ -55,7 +89,8 @@ fn a_newcomer_does_not_join_midway() {
         run_record(5),
     ]
     .concat();
-    let expected = "0 P 0 4 C\n1 P 0 2 I\n2 P 2 2 C\n3 P 2 1 S 1 1 1 3\n4 P 0 4 C\nEND 5 3 1 0 2\n";
+    let expected =
+        "0 P 0 4 C\n1 P 0 2 I\n2 P 2 2 C\n3 P 2 1 S 1 1 1 3\n4 P 0 4 C\nEND 5 3 1 0 2 0\n";
     assert_eq!(listing_of(&input), expected);
 }
 
@@ -77,10 +112,17 @@ fn one_station(arrivals: &[(u32, u16)]) -> String {
 
 #[test]
 fn the_wait_is_from_the_admission_and_not_from_the_arrivals_time() {
-    let expected = "0 P 0 4 S 1 1 10 0\n10 P 0 4 S 1 2 1 0\nEND 11 2 2 0 0\n";
+    let expected = "0 P 0 4 S 1 1 10 0\n10 P 0 4 S 1 2 1 0\nEND 11 2 2 0 0 0\n";
     assert_eq!(one_station(&[(0, 10), (1, 1)]), expected);
-    let expected = "0 P 0 4 S 1 1 10 0\n10 P 0 4 S 1 2 1 10\nEND 11 2 2 0 0\n";
+    let expected = "0 P 0 4 S 1 1 10 0\n10 P 0 4 S 1 2 1 10\nEND 11 2 2 0 0 0\n";
     assert_eq!(one_station(&[(0, 10), (0, 1)]), expected);
+}
+
+#[test]
+fn a_crowd_is_turned_away() {
+    let listing = one_station(&[(0, 1); 316]);
+    assert!(listing.starts_with("R 0 1 15\nR 0 1 15\n"));
+    assert!(listing.ends_with("\nEND 316 16 16 0 0 300\n"));
 }
 
 #[test]
@@ -93,5 +135,5 @@ fn the_longest_run_ends() {
     .concat();
     let listing = listing_of(&input);
     assert_eq!(listing.lines().count(), 65_536);
-    assert!(listing.ends_with("65534 P 0 2 I\nEND 65535 0 0 0 0\n"));
+    assert!(listing.ends_with("65534 P 0 2 I\nEND 65535 0 0 0 0 0\n"));
 }

@@ -1,5 +1,5 @@
-//! Tests of the paper's worked example, settled examples, refusals, standing conditions, beginnings,
-//! scripts and stretches.
+//! Tests of the paper's worked example, settled examples, refusals, standing conditions, packets turned
+//! away, beginnings, scripts and stretches.
 
 mod beginning;
 mod examples;
@@ -9,4 +9,5 @@ mod refusals;
 mod script;
 mod standing;
 mod stretch;
+mod turned_away;
 mod worlds;

@@ -8,8 +8,8 @@ use second::step::{begin, probe, step};
 use second::totals::totals;
 
 use crate::worlds::{
-    admit_all, arrival_record, fresh, listing_of, row, run_record, set_up_record, settings,
-    station_record,
+    admit_all, arrival_record, fresh, listing_of, refused_admission, row, run_record,
+    set_up_record, settings, station_record,
 };
 
 /// A set-up refused with a number and a station's place, and an all-zero state.
@@ -68,25 +68,17 @@ fn what_stands_past_n_is_unread() {
     assert!(state == fresh(0, 4, 8, 1, &[(1, 0)]));
 }
 
-/// An admission refused with a number, the state as lent.
-fn refused_admission(state: &State, packet: (u32, u32, u32), number: u32) {
-    let mut lent = state.clone();
-    let refusal = admit(&mut lent, packet.0, packet.1, packet.2).expect_err("refused");
-    assert_eq!(refusal.number(), number);
-    assert!(lent == *state);
-}
-
 #[test]
 fn refusals_11_to_13() {
     let priorities = fresh(0, 4, 8, 1, &[(1, 0)]);
-    refused_admission(&priorities, (0, 4, 0), 11);
-    refused_admission(&priorities, (1, 4, 0), 12);
-    refused_admission(&priorities, (1, 3, 0), 13);
-    refused_admission(&priorities, (1, 3, 4_097), 13);
+    refused_admission(&priorities, (0, 4, 0), 11, 0);
+    refused_admission(&priorities, (1, 4, 0), 12, 0);
+    refused_admission(&priorities, (1, 3, 0), 13, 0);
+    refused_admission(&priorities, (1, 3, 4_097), 13, 0);
     let latest_starts = fresh(1, 4, 8, 1, &[(1, 0)]);
-    refused_admission(&latest_starts, (1, 1_073_741_825, 1), 12);
+    refused_admission(&latest_starts, (1, 1_073_741_825, 1), 12, 0);
     let circuits = fresh(2, 4, 8, 1, &[(1, 0)]);
-    refused_admission(&circuits, (1, 1, 1), 12);
+    refused_admission(&circuits, (1, 1, 1), 12, 0);
 }
 
 #[test]
@@ -96,12 +88,12 @@ fn refusals_14_to_16() {
     state.clock = 50;
     state.admitted = 4_294_967_295;
     state.sent = 4_294_967_295 - 16;
-    refused_admission(&state, (1, 49, 1), 14);
-    refused_admission(&state, (1, 50, 1), 15);
+    refused_admission(&state, (1, 49, 1), 14, 1);
+    refused_admission(&state, (1, 50, 1), 15, 1);
     let mut spent = fresh(1, 4, 8, 1, &[(1, 0)]);
     spent.admitted = 4_294_967_295;
     spent.lost = 4_294_967_295;
-    refused_admission(&spent, (1, 50, 1), 16);
+    refused_admission(&spent, (1, 50, 1), 16, 0);
     spent.admitted -= 1;
     spent.lost -= 1;
     assert_eq!(admit(&mut spent, 1, 50, 1), Ok(4_294_967_295));

@@ -11,7 +11,7 @@ fn the_empty_script() {
 #[test]
 fn calls_on_a_zero_state() {
     let expected =
-        format!("A 1 0\nS 1 0 0 0 0 0 0 0 0 0 0 0\nT 1 0 0 0 0 0\n{WRITTEN_ZERO}{WRITTEN_ZERO}");
+        format!("A 1 0\nS 1 0 0 0 0 0 0 0 0 0 0 0\nT 1 0 0 0 0 0 0\n{WRITTEN_ZERO}{WRITTEN_ZERO}");
     assert_eq!(played("A 1 2 3 S T P"), expected);
 }
 
@@ -31,10 +31,10 @@ S 0 0 4 1 0 8 1 0 0 0 0 0
 S 0 0 5 1 0 4 0 0 0 0 0 0
 S 0 0 6 1 4 4 1 0 0 0 0 0
 S 0 0 7 1 4 2 2 5 1 3 7 1
-T 0 10 3 1 0 2
+T 0 10 3 1 0 2 0
 settings 0 4 8 1 3
 clock 10
-counts 3 1 0
+counts 3 1 0 0
 round 0 0
 contention 0 0 0 0 0 0
 station 0 1 0
@@ -62,12 +62,12 @@ fn rows_of_a_set_up() {
 #[test]
 fn numbers_of_a_script() {
     let read = |number: &str| played(&format!("E 9 0 {number}"));
-    assert!(read("18446744073709551609").contains("counts 18446744073709551609 0 0"));
-    assert!(read("18446744073709551610").contains("counts 18446744073709551615 0 0"));
-    assert!(read("99999999999999999999999").contains("counts 18446744073709551615 0 0"));
-    assert!(read("000000000000000000000000000012").contains("counts 12 0 0"));
-    assert!(read("#A\n-12x3").contains("counts 12 0 0"));
-    assert!(read("").contains("counts 0 0 0"));
+    assert!(read("18446744073709551609").contains("counts 18446744073709551609 0 0 0"));
+    assert!(read("18446744073709551610").contains("counts 18446744073709551615 0 0 0"));
+    assert!(read("99999999999999999999999").contains("counts 18446744073709551615 0 0 0"));
+    assert!(read("000000000000000000000000000012").contains("counts 12 0 0 0"));
+    assert!(read("#A\n-12x3").contains("counts 12 0 0 0"));
+    assert!(read("").contains("counts 0 0 0 0"));
 }
 
 /// The lines of a state that a change of one field makes differ from the all-zero state's.
@@ -90,9 +90,9 @@ fn every_field() {
         ("E 6 65 4294967303", "station 1 7 0"),
         ("E 7 65 4294967303", "station 1 0 7"),
         ("E 8 9 4294967303", "clock 7"),
-        ("E 9 9 4294967303", "counts 4294967303 0 0"),
-        ("E 10 9 4294967303", "counts 0 4294967303 0"),
-        ("E 11 9 4294967303", "counts 0 0 4294967303"),
+        ("E 9 9 4294967303", "counts 4294967303 0 0 0"),
+        ("E 10 9 4294967303", "counts 0 4294967303 0 0"),
+        ("E 11 9 4294967303", "counts 0 0 4294967303 0"),
         ("E 12 9 4294967303", "round 1 0"),
         ("E 13 9 4294967303", "round 0 7"),
         ("E 14 9 4294967303", "contention 1 0 0 0 0 0"),
@@ -112,11 +112,12 @@ fn every_field() {
         ("E 28 1025 4294967303", "packet 1 0 0 7 0"),
         ("E 29 65 4294967303", "contender 1 0 0 0 0 0 7"),
         ("E 30 1025 4294967303", "packet 1 0 0 0 7"),
+        ("E 32 9 4294967303", "counts 0 0 0 4294967303"),
     ];
     for (change, line) in expected {
         assert_eq!(changed(change), [line], "{change}");
     }
-    for change in ["E 0 1 1", "E 32 1 1", "E 18446744073709551615 1 1"] {
+    for change in ["E 0 1 1", "E 33 1 1", "E 18446744073709551615 1 1"] {
         assert!(changed(change).is_empty());
     }
 }
@@ -210,9 +211,9 @@ fn the_word_of_a_contention() {
     let state = played(begun);
     assert!(state.contains("\ncontender 1 1 2 1 2 3 0\ncontender 2 1 2 2 2 1 0\n"));
     assert_eq!(played(&format!("{begun} E 31 0 6")), state);
-    assert!(played(&format!("{begun} E 31 0 6 T")).contains("\nT 0 1 2 0 0 2\n"));
+    assert!(played(&format!("{begun} E 31 0 6 T")).contains("\nT 0 1 2 0 0 2 0\n"));
     for word in [0u64, 2, 4, 7, 12, 14, 6 | 1 << 63, 6 | 1 << 32, u64::MAX] {
         let written = played(&format!("{begun} E 31 0 {word} T S"));
-        assert!(written.contains("\nT 1 0 0 0 0 0\nS 1 0 "), "{word}");
+        assert!(written.contains("\nT 1 0 0 0 0 0 0\nS 1 0 "), "{word}");
     }
 }

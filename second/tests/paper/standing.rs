@@ -141,6 +141,13 @@ fn clock_and_counts() {
                 s.sent = u64::MAX;
                 s.lost = 1;
             },
+            |s| s.turned_away = 4_294_967_296,
+            |s| s.turned_away = 1 << 63,
+            |s| s.turned_away = u64::MAX,
+            |s| {
+                s.admitted += 1;
+                s.turned_away = 1;
+            },
         ],
     );
     keeps(
@@ -151,8 +158,22 @@ fn clock_and_counts() {
                 s.admitted = 4_294_967_295;
                 s.sent = 4_294_967_295 - 5;
             },
+            |s| s.turned_away = 1,
+            |s| s.turned_away = 4_294_967_295,
         ],
     );
+    for state in [
+        in_parameter_phase(),
+        in_tie_phase(),
+        in_round(),
+        in_laxities(),
+    ] {
+        breaks(&state, &[|s| s.turned_away = 4_294_967_296]);
+    }
+    for discipline in [0, 1, 2] {
+        let empty = fresh(discipline, 4, 8, 1, &[(1, 0)]);
+        keeps(&empty, &[|s| s.turned_away = 4_294_967_295]);
+    }
 }
 
 #[test]

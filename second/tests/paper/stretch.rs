@@ -49,7 +49,7 @@ call 16 0 16 0 0 0 0 0 16 0 0 4 0 0 0 0 0 1
 R 17 3 0
 settings 0 4 8 1 3
 clock 17
-counts 3 3 0
+counts 3 3 0 0
 round 0 0
 contention 0 0 0 0 0 0
 station 0 1 0
@@ -82,7 +82,7 @@ call 5 0 4 0 0 0 0 0 4 0 0 4 2 2 2 1 0 1
 R 6 2 0
 settings 0 4 8 1 2
 clock 5
-counts 2 2 0
+counts 2 2 0 0
 round 0 0
 contention 0 0 0 0 0 0
 station 0 1 0
@@ -115,7 +115,7 @@ call 4 0 4 0 0 0 0 0 4 0 0 4 1 0 0 0 0 0
 R 5 1 0
 settings 0 4 8 1 3
 clock 5
-counts 3 1 0
+counts 3 1 0 0
 round 0 0
 contention 1 0 2 0 0 0
 station 0 1 0
@@ -148,7 +148,7 @@ call 7 0 3 0 0 0 0 2 3 0 0 2 0 0 0 0 0 1
 R 8 4 0
 settings 1 2 8 1 2
 clock 4
-counts 2 0 2
+counts 2 0 2 1
 round 0 0
 contention 0 0 0 0 0 0
 station 0 1 0
@@ -176,7 +176,7 @@ R 4 3 0
 
 #[test]
 fn fours_past_the_length_are_not_taken() {
-    let expected = format!("U 0 0\n{}R 1 0 0\nT 0 1 0 0 0 0\n", idle(0, 0));
+    let expected = format!("U 0 0\n{}R 1 0 0\nT 0 1 0 0 0 0 0\n", idle(0, 0));
     assert_eq!(answers(&format!("{ONE} R 1 0 1 0 1 2 3 T")), expected);
 }
 
@@ -194,7 +194,7 @@ fn admissions(count: u32) -> String {
 #[test]
 fn a_full_row_ends_it() {
     let fours = FOURS.repeat(16);
-    let expected = format!("U 0 0\n{}R 64 64 5\nT 0 0 64 0 0 64\n", admissions(64));
+    let expected = format!("U 0 0\n{}R 64 64 5\nT 0 0 64 0 0 64 0\n", admissions(64));
     assert_eq!(answers(&format!("{FOUR} R 5 64 64 {fours} T")), expected);
     assert_eq!(answers(&format!("{FOUR} R 5 99 99 {fours} T")), expected);
     let collision = "call 63 0 0 0 0 0 0 0 0 0 0 4 1 0 0 0 0 0\n";
@@ -206,12 +206,12 @@ fn a_full_row_ends_it() {
 fn it_ends_after_512_calls() {
     let idles: String = (0..512).map(|place| idle(place, place)).collect();
     for (steps, left) in [(512, 0), (513, 1), (600, 88), (u32::MAX, 4_294_966_783_u32)] {
-        let expected = format!("U 0 0\n{idles}R 512 0 {left}\nT 0 512 0 0 0 0\n");
+        let expected = format!("U 0 0\n{idles}R 512 0 {left}\nT 0 512 0 0 0 0 0\n");
         assert_eq!(answers(&format!("{ONE} R {steps} 0 0 T")), expected);
     }
     let idles: String = (1..512).map(|place| idle(place, place - 1)).collect();
     let refused = admission(0, 7, 11, 0);
-    let expected = format!("U 0 0\n{refused}{idles}R 512 1 1\nT 0 511 0 0 0 0\n");
+    let expected = format!("U 0 0\n{refused}{idles}R 512 1 1\nT 0 511 0 0 0 0 0\n");
     assert_eq!(answers(&format!("{ONE} R 512 1 1 0 7 0 1 T")), expected);
 }
 
@@ -257,7 +257,7 @@ call 4 0 1073741824 0 0 0 17 0 0 0 0 0 0 0 0 0 0 0
 R 5 2 0
 settings 0 4 8 1 1
 clock 1073741824
-counts 2 1 0
+counts 2 1 0 0
 round 0 0
 contention 0 0 0 0 0 0
 station 0 1 0
@@ -281,7 +281,7 @@ fn numbers_of_a_stretch() {
 
     let fours = "0 1 2 3 ".repeat(64);
     let first = admission(0, 1, 0, 1);
-    let expected = format!("U 0 0\n{first}{success}R 2 1 0\nT 0 3 1 1 0 0\n");
+    let expected = format!("U 0 0\n{first}{success}R 2 1 0\nT 0 3 1 1 0 0 0\n");
     assert_eq!(
         answers(&format!("{ONE} R 1 1 4294967296 {fours} T")),
         expected

@@ -44,6 +44,16 @@ pub fn admit_all(state: &mut State, packets: &[(u32, u32, u32)]) {
     }
 }
 
+/// An admission refused with a number: so many packets are turned away then, and the rest of the state
+/// is as lent.
+pub fn refused_admission(state: &State, packet: (u32, u32, u32), number: u32, turned_away: u64) {
+    let mut lent = state.clone();
+    let refusal = admit(&mut lent, packet.0, packet.1, packet.2).expect_err("refused");
+    assert_eq!((refusal.number(), lent.turned_away), (number, turned_away));
+    lent.turned_away = state.turned_away;
+    assert!(lent == *state);
+}
+
 pub fn stepped(state: &mut State) -> Answer {
     step(state).expect("the step is accepted")
 }
@@ -114,4 +124,4 @@ pub fn played(script: &str) -> String {
 
 /// The all-zero state as it is written.
 pub const WRITTEN_ZERO: &str =
-    "settings 0 0 0 0 0\nclock 0\ncounts 0 0 0\nround 0 0\ncontention 0 0 0 0 0 0\nend\n";
+    "settings 0 0 0 0 0\nclock 0\ncounts 0 0 0 0\nround 0 0\ncontention 0 0 0 0 0 0\nend\n";
