@@ -138,7 +138,7 @@ coded-replies b (c ∷ calls) fits =
     (coded-reply b (fits []) c)
     (ap (λ s. replies coded s calls) (coded-next b (fits []) c) ∙ coded-replies (next machine b c) calls (λ earlier. fits (c ∷ earlier)))
 
-coded-closing : (b : Bus) → Fits b → codedClosing (form b) ≡ closingCall b
+pub coded-closing : (b : Bus) → Fits b → codedClosing (form b) ≡ closingCall b
 coded-closing b fits =
     ap₂ (λ (t : Bool) (m : Bus). cond (t && stands m) (totals m) (refusedTotals 1)) (padded-form b fits) (meaning-form b fits)
 

@@ -8,9 +8,10 @@ use native.Mathlib.Omega.{arith}
 use lib.Dec.{eqb, leb}
 use lib.ListN.{length, drop}
 use borrow.Author.Tests.{eq-eqb, ne-eqb, leb-false}
-use Rattle.rules.specs.Bus.{Bus, nothing, waiting}
-use Rattle.rules.specs.Standing.{Standing, stands}
+use Rattle.rules.specs.Bus.{Bus, nothing}
+use Rattle.rules.specs.Standing.{Standing}
 use Rattle.rules.specs.SetUp.{Request, setUp}
+use Rattle.rules.specs.Closing.{totals, refusedTotals}
 use Rattle.rules.proofs.Tests.{told}
 use Rattle.rules.proofs.Standing as Rules
 use Rattle.rules.proofs.Keeps.{keepsStanding}
@@ -18,9 +19,10 @@ use Rattle.state.specs.declared.State.{State}
 use Rattle.bus.specs.declared.Totals.{Totals}
 use Rattle.state.specs.declared.Arrival.{Arrival}
 use Rattle.state.specs.State.{form}
-use Rattle.bus.specs.Coded.{totalsOf}
+use Rattle.bus.specs.Coded.{totalsForm, totalsOf}
 use Rattle.bus.specs.Stretch.{row-places, Course, most-calls, course}
-use Rattle.state.proofs.Form.{standing-fits, meaning-form, padded-form}
+use Rattle.state.proofs.Form.{standing-fits}
+use Rattle.bus.proofs.Coded.{coded-closing}
 use Rattle.scenario.specs.Reading.{arrival-bytes, Reading, refused, accepted, reading, stationOffset, scenarioForm}
 use Rattle.scenario.specs.Parts.{ArrivalsAt}
 use Rattle.scenario.proofs.Sound.{Sound, sound}
@@ -122,27 +124,14 @@ ended : (turns : ℕ) (input : List ℕ) (o : Outcome) → o .play .going ≡ fa
 ended zero input o e = refl
 ended (suc turns) input o e = rw e (append-nil (o .text))
 
--- the numbers of a state, by whether it stands and by the bus that it means
-abbrev pub totalsBy : State → Bool → Bus → Totals
-totalsBy s t b =
-    cond
-    t
-    (record {
-      refusal = 0;
-      clock = s .segment .clock;
-      admitted = s .segment .admitted;
-      sent = s .segment .sent;
-      lost = s .segment .lost;
-      waiting = waiting (b .stations);
-    })
-    (record { refusal = 1; clock = record { 0 = 0 }; admitted = 0; sent = 0; lost = 0; waiting = 0 })
+-- the numbers of a bus, by whether it stands
+abbrev pub totalsBy : Bool → Bus → Totals
+totalsBy t b = totalsForm (cond t (totals b) (refusedTotals 1))
 
 -- the state of a bus that stands has the numbers of the bus
-pub totals-form : (b : Bus) → Standing b → totalsOf (form b) ≡ totalsBy (form b) true b
+pub totals-form : (b : Bus) → Standing b → totalsOf (form b) ≡ totalsBy true b
 totals-form b h =
-    let fits = standing-fits b h in
-    ap₂ (λ t m. totalsBy (form b) (t && stands m) m) (padded-form b fits) (meaning-form b fits)
-    ∙ ap (λ t. totalsBy (form b) t b) (told (Rules.stands-exactly b) h)
+    ap totalsForm (coded-closing b (standing-fits b h)) ∙ ap (λ t. totalsBy t b) (told (Rules.stands-exactly b) h)
 
 -- and the last line, which says them
 closed-text : (b : Bus) → Standing b → closedBy (form b) (totalsOf (form b)) .text ≡ closingText b

@@ -13,7 +13,7 @@ use Rattle.scenario.specs.Reading.{accepted, reading}
 use Rattle.scenario.specs.Writing.{Bytes, written, Good}
 use Rattle.listing.specs.Run.{closingText, runText, listing, answersOf, endOf}
 use Rattle.listing.specs.Turns.{Play, opened, turn, handed, turnsLeft, played}
-use Rattle.listing.specs.Worked.{worked-input, worked-output, worked-request, worked-arrivals, timed-input, timed-output, waited-input, waited-output}
+use Rattle.listing.specs.Worked.{worked-input, worked-output, worked-request, worked-arrivals, timed-input, timed-output, waited-input, waited-output, turned-input, turned-output}
 use Rattle.listing.proofs.Handed as Handed
 use Rattle.listing.proofs.Played as Played
 use Rattle.listing.proofs.NeverRefused as NeverRefused
@@ -57,3 +57,7 @@ timed = Worked.timed
 -- and so of one that is admitted after its time: its wait is counted from the admission (P1)
 pub waited : listing waited-input ≡ waited-output
 waited = Worked.waited
+
+-- and of one that is late by then: it is counted in the last field of `END` (P4)
+pub turned : listing turned-input ≡ turned-output
+turned = Worked.turned

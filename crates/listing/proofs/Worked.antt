@@ -1,4 +1,4 @@
--- The worked example of paper 01: its listing is the output that the paper gives, by computation, and so for the other two examples; and it is
+-- The worked example of paper 01: its listing is the output that the paper gives, by computation, and so for the other three examples; and it is
 -- a good scenario, so that what is proved of good and of accepted scenarios speaks of some. Assumes nothing.
 use mathlib.Core.Path.{_≡_, refl}
 use lib.Dec.{ltb}
@@ -10,7 +10,7 @@ use Rattle.scenario.specs.Writing.{Bytes, written, Good}
 use Rattle.scenario.proofs.Written.{accepted-only}
 use Rattle.text.specs.Text.{decimal}
 use Rattle.listing.specs.Run.{listing}
-use Rattle.listing.specs.Worked.{worked-input, worked-output, worked-request, worked-arrivals, timed-input, timed-output, waited-input, waited-output}
+use Rattle.listing.specs.Worked.{worked-input, worked-output, worked-request, worked-arrivals, timed-input, timed-output, waited-input, waited-output, turned-input, turned-output}
 
 -- the paper's input and output
 pub worked : listing worked-input ≡ worked-output
@@ -26,6 +26,11 @@ timed = refl
 pub waited : listing waited-input ≡ waited-output
 unfolding exponentOf isPower decimal
 waited = refl
+
+-- an arrival that is late by the time it is asked for
+pub turned : listing turned-input ≡ turned-output
+unfolding exponentOf isPower decimal
+turned = refl
 
 -- the input is bytes, and accepted
 worked-bytes : Bytes worked-input

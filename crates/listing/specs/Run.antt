@@ -30,9 +30,9 @@ admitDue b (a ∷ later) =
     (after (refusalText (b .clock) (a .address .0) (admit b (asks a) .0 .refusal)) (admitDue (admit b (asks a) .1) later))
     (record { text = []; bus = b; arrivals = a ∷ later })
 
--- 'Last: END clock admitted sent lost waiting'
+-- 'Last: END clock admitted sent lost waiting', and the packets turned away
 abbrev pub closingText : Bus → List ℕ
-closingText b = endText (b .clock) (b .admitted) (b .sent) (b .lost) (waiting (b .stations))
+closingText b = endText (b .clock) (b .admitted) (b .sent) (b .lost) (waiting (b .stations)) (b .turned)
 
 -- 'Before each step it admits ..'; 'Arrivals the run never reaches are not admitted.'
 abbrev pub runText : ℕ → Bus → List Arrival → List ℕ

@@ -32,9 +32,9 @@ refusalText slot address number = cond (eqb number 0) [] (arrivalText slot addre
 abbrev pub dropsText : ℕ → List ℕ
 dropsText count = wordLine D (count ∷ [])
 
--- 'END clock admitted sent lost waiting'
-abbrev pub endText : ℕ → ℕ → ℕ → ℕ → ℕ → List ℕ
-endText clock admitted sent lost waiting = wordLine END (clock ∷ admitted ∷ sent ∷ lost ∷ waiting ∷ [])
+-- 'END clock admitted sent lost waiting', and P4: '`END` gains the count as its last field'
+abbrev pub endText : ℕ → ℕ → ℕ → ℕ → ℕ → ℕ → List ℕ
+endText clock admitted sent lost waiting turned = wordLine END (clock ∷ admitted ∷ sent ∷ lost ∷ waiting ∷ turned ∷ [])
 
 -- 'phase P or T': the parameter phase is 0
 abbrev pub phaseLetter : ℕ → ℕ

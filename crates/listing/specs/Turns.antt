@@ -97,9 +97,9 @@ courseOf arrivals p = course most-calls (p .state) arrivals (leb row-places (len
 abbrev pub stretched : List ℕ → Play → Outcome
 stretched input p = stretchedBy p (courseOf (nextArrivals input (p .at)) p)
 
--- 'Last: END clock admitted sent lost waiting'
+-- 'Last: END clock admitted sent lost waiting', and the packets turned away
 abbrev pub closedBy : State → Totals → Outcome
-closedBy s t = says (endText (t .clock .0) (t .admitted) (t .sent) (t .lost) (t .waiting)) (over s)
+closedBy s t = says (endText (t .clock .0) (t .admitted) (t .sent) (t .lost) (t .waiting) (t .turned)) (over s)
 
 abbrev pub turn : List ℕ → Play → Outcome
 turn input p =

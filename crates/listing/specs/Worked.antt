@@ -1,5 +1,6 @@
--- The worked example of paper 01, 'The scenario and its listing': the bytes of its input and of its output, with P1's waits, and
--- what it asks for; a second example, whose arrivals come later; and a third, with an arrival that is admitted after its time. Assumes nothing.
+-- The worked example of paper 01, 'The scenario and its listing': the bytes of its input and of its output, with P1's waits and P4's count, and
+-- what it asks for; a second example, whose arrivals come later; a third, with an arrival that is admitted after its time; and a fourth, with one that
+-- is late by then. Assumes nothing.
 use Prim.Native.Nat.{ℕ}
 use mathlib.Core.List.{List, [], _∷_}
 use Rattle.rules.specs.SetUp.{Request}
@@ -57,8 +58,8 @@ worked-output =
     49 ∷ 52 ∷ 32 ∷ 80 ∷ 32 ∷ 48 ∷ 32 ∷ 52 ∷ 32 ∷ 83 ∷ 32 ∷ 49 ∷ 32 ∷ 51 ∷ 32 ∷ 50 ∷ 32 ∷ 49 ∷ 52 ∷ 10 ∷
     -- 16 P 0 4 I
     49 ∷ 54 ∷ 32 ∷ 80 ∷ 32 ∷ 48 ∷ 32 ∷ 52 ∷ 32 ∷ 73 ∷ 10 ∷
-    -- END 17 3 3 0 0
-    69 ∷ 78 ∷ 68 ∷ 32 ∷ 49 ∷ 55 ∷ 32 ∷ 51 ∷ 32 ∷ 51 ∷ 32 ∷ 48 ∷ 32 ∷ 48 ∷ 10 ∷
+    -- END 17 3 3 0 0 0
+    69 ∷ 78 ∷ 68 ∷ 32 ∷ 49 ∷ 55 ∷ 32 ∷ 51 ∷ 32 ∷ 51 ∷ 32 ∷ 48 ∷ 32 ∷ 48 ∷ 32 ∷ 48 ∷ 10 ∷
     []
 
 -- what it asks for: the set-up and the arrivals of its 14 steps
@@ -107,8 +108,8 @@ timed-output =
     49 ∷ 32 ∷ 80 ∷ 32 ∷ 48 ∷ 32 ∷ 50 ∷ 32 ∷ 83 ∷ 32 ∷ 48 ∷ 32 ∷ 49 ∷ 32 ∷ 49 ∷ 32 ∷ 48 ∷ 10 ∷
     -- 2 P 0 2 I
     50 ∷ 32 ∷ 80 ∷ 32 ∷ 48 ∷ 32 ∷ 50 ∷ 32 ∷ 73 ∷ 10 ∷
-    -- END 3 1 1 0 0
-    69 ∷ 78 ∷ 68 ∷ 32 ∷ 51 ∷ 32 ∷ 49 ∷ 32 ∷ 49 ∷ 32 ∷ 48 ∷ 32 ∷ 48 ∷ 10 ∷
+    -- END 3 1 1 0 0 0
+    69 ∷ 78 ∷ 68 ∷ 32 ∷ 51 ∷ 32 ∷ 49 ∷ 32 ∷ 49 ∷ 32 ∷ 48 ∷ 32 ∷ 48 ∷ 32 ∷ 48 ∷ 10 ∷
     []
 
 -- The wait is counted from the admission and not from the arrival's time: the second arrival, with time 1, is admitted at slot 10, as the packet
@@ -133,6 +134,33 @@ waited-output =
     48 ∷ 32 ∷ 80 ∷ 32 ∷ 48 ∷ 32 ∷ 50 ∷ 32 ∷ 83 ∷ 32 ∷ 48 ∷ 32 ∷ 49 ∷ 32 ∷ 49 ∷ 48 ∷ 32 ∷ 48 ∷ 10 ∷
     -- 10 P 0 2 S 0 2 1 0
     49 ∷ 48 ∷ 32 ∷ 80 ∷ 32 ∷ 48 ∷ 32 ∷ 50 ∷ 32 ∷ 83 ∷ 32 ∷ 48 ∷ 32 ∷ 50 ∷ 32 ∷ 49 ∷ 32 ∷ 48 ∷ 10 ∷
-    -- END 11 2 2 0 0
-    69 ∷ 78 ∷ 68 ∷ 32 ∷ 49 ∷ 49 ∷ 32 ∷ 50 ∷ 32 ∷ 50 ∷ 32 ∷ 48 ∷ 32 ∷ 48 ∷ 10 ∷
+    -- END 11 2 2 0 0 0
+    69 ∷ 78 ∷ 68 ∷ 32 ∷ 49 ∷ 49 ∷ 32 ∷ 50 ∷ 32 ∷ 50 ∷ 32 ∷ 48 ∷ 32 ∷ 48 ∷ 32 ∷ 48 ∷ 10 ∷
+    []
+
+-- A packet turned away: the second arrival, with time 1 and latest start 2, is asked for at slot 3, as the packet of 3 slots ends.
+abbrev pub turned-input : List ℕ
+turned-input =
+    -- a set-up: discipline 1 (RTDG), D 2, A 2, q 1, N 1
+    14 ∷ 0 ∷ 1 ∷ 0 ∷ 1 ∷ 2 ∷ 0 ∷ 0 ∷ 0 ∷ 2 ∷ 0 ∷ 0 ∷ 0 ∷ 1 ∷ 0 ∷ 1 ∷
+    -- a station: address 0, capability 0
+    6 ∷ 0 ∷ 2 ∷ 0 ∷ 0 ∷ 0 ∷ 0 ∷ 0 ∷
+    -- an arrival: time 0, address 0, value 0, packet length 3
+    14 ∷ 0 ∷ 3 ∷ 0 ∷ 0 ∷ 0 ∷ 0 ∷ 0 ∷ 0 ∷ 0 ∷ 0 ∷ 0 ∷ 0 ∷ 0 ∷ 3 ∷ 0 ∷
+    -- an arrival: time 1, address 0, value 2, packet length 1
+    14 ∷ 0 ∷ 3 ∷ 0 ∷ 1 ∷ 0 ∷ 0 ∷ 0 ∷ 0 ∷ 0 ∷ 2 ∷ 0 ∷ 0 ∷ 0 ∷ 1 ∷ 0 ∷
+    -- a run: 2 steps
+    4 ∷ 0 ∷ 4 ∷ 0 ∷ 2 ∷ 0 ∷
+    []
+
+abbrev pub turned-output : List ℕ
+turned-output =
+    -- 0 P 0 2 S 0 1 3 0
+    48 ∷ 32 ∷ 80 ∷ 32 ∷ 48 ∷ 32 ∷ 50 ∷ 32 ∷ 83 ∷ 32 ∷ 48 ∷ 32 ∷ 49 ∷ 32 ∷ 51 ∷ 32 ∷ 48 ∷ 10 ∷
+    -- R 3 0 14
+    82 ∷ 32 ∷ 51 ∷ 32 ∷ 48 ∷ 32 ∷ 49 ∷ 52 ∷ 10 ∷
+    -- 3 P 0 2 I
+    51 ∷ 32 ∷ 80 ∷ 32 ∷ 48 ∷ 32 ∷ 50 ∷ 32 ∷ 73 ∷ 10 ∷
+    -- END 4 1 1 0 0 1
+    69 ∷ 78 ∷ 68 ∷ 32 ∷ 52 ∷ 32 ∷ 49 ∷ 32 ∷ 49 ∷ 32 ∷ 48 ∷ 32 ∷ 48 ∷ 32 ∷ 49 ∷ 10 ∷
     []

@@ -162,10 +162,10 @@ pub fn answer(room: &mut [u8; 65536], at: usize, answer: Answer) -> usize
     probed(room, drops, answer)
 }
 
-// 'END clock admitted sent lost waiting'
+// 'END clock admitted sent lost waiting', and the packets turned away
 pub fn ending(room: &mut [u8; 65536], at: usize, totals: Totals) -> usize
     requires { ⌜ roomy at 128 ⌝ }
-    ensures { λ r. ⌜ Told (now (room .entry)) (now (room .exit)) at r (endText (totals .clock .0) (totals .admitted) (totals .sent) (totals .lost) (totals .waiting)) 128 ⌝ }
+    ensures { λ r. ⌜ Told (now (room .entry)) (now (room .exit)) at r (endText (totals .clock .0) (totals .admitted) (totals .sent) (totals .lost) (totals .waiting) (totals .turned)) 128 ⌝ }
 {
     let word = text::letters(room, at, b"END");
     let clock = short_field(room, word, totals.clock.0);
@@ -173,5 +173,6 @@ pub fn ending(room: &mut [u8; 65536], at: usize, totals: Totals) -> usize
     let sent = field(room, admitted, totals.sent);
     let lost = field(room, sent, totals.lost);
     let waiting = field(room, lost, totals.waiting);
-    newline(room, waiting)
+    let turned = field(room, waiting, totals.turned);
+    newline(room, turned)
 }

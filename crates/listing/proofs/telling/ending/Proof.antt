@@ -32,12 +32,16 @@ field-requires-3 c κs = let told = word (c .before .before .before .before .bef
 field-requires-4 : tie.Need-field-requires-4
 field-requires-4 c κs = let told = word (c .before .before .before .before .before .before .before .before .before) in omega arith
 
+field-requires-5 : tie.Need-field-requires-5
+field-requires-5 c κs = let told = word (c .before .before .before .before .before .before .before .before .before .before .before) in omega arith
+
 newline-requires : tie.Need-newline-requires
-newline-requires c κs = let told = word (c .before .before .before .before .before .before .before .before .before .before .before) in omega arith
+newline-requires c κs = let told = word (c .before .before .before .before .before .before .before .before .before .before .before .before .before) in omega arith
 
 returns : tie.Need-returns
 returns c =
-    let waiting = c .before .before in
+    let turned = c .before .before in
+    let waiting = turned .before .before in
     let lost = waiting .before .before in
     let sent = lost .before .before in
     let admitted = sent .before .before in
@@ -53,7 +57,7 @@ returns c =
     (admitted .field .ensures)
     (told-then
     (sent .field2 .ensures)
-    (told-then (lost .field3 .ensures) (told-then (waiting .field4 .ensures) (told-none _ _ 0)))))))
+    (told-then (lost .field3 .ensures) (told-then (waiting .field4 .ensures) (told-then (turned .field5 .ensures) (told-none _ _ 0))))))))
     (c .newline .ensures))
     (omega arith)
 
@@ -68,5 +72,6 @@ ending-spec =
     field-requires-2
     field-requires-3
     field-requires-4
+    field-requires-5
     newline-requires
     returns)
