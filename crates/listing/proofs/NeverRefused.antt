@@ -13,13 +13,14 @@ use Rattle.rules.specs.Standing.{OfferStands, Standing}
 use Rattle.rules.specs.declared.Admitted.{Admitted}
 use Rattle.rules.specs.SetUp.{Request, setUp}
 use Rattle.rules.specs.Admission as Rules
-use Rattle.rules.specs.Admission.{admissionRefusal, withPacket, admit}
+use Rattle.rules.specs.Admission.{admissionRefusal, withPacket, handedBack, admit}
 use Rattle.rules.specs.Probe.{Contender, Answer, Open, contenders, transmits, transmitters, unheard, heard}
 use Rattle.rules.specs.Step.{opened, stepRefusal, step}
 use Rattle.rules.specs.Engine.{admission}
 use Rattle.rules.proofs.Laws.{all-cons, all-nil, keep-from}
 use Rattle.rules.proofs.Tests.{told}
 use Rattle.rules.proofs.Standing.{stands-exactly, accepted-set-up, step-is}
+use Rattle.rules.proofs.TurnedAway.{back-cases}
 use Rattle.rules.proofs.Refusals.{probe-number}
 use Rattle.rules.proofs.Contenders.{contender-from}
 use Rattle.rules.proofs.Keeps.{keepsStanding, opened-stands, opened-contention, opened-same}
@@ -68,11 +69,11 @@ admit-clock b a = go (eqb (admissionRefusal b a) 0)
     taken = (record { refusal = 0; number = suc (b .admitted) }, withPacket b a)
 
     refused : Admitted × Bus
-    refused = (record { refusal = admissionRefusal b a; number = 0 }, b)
+    refused = (record { refusal = admissionRefusal b a; number = 0 }, handedBack b (admissionRefusal b a))
 
     go : (t : Bool) → cond t taken refused .1 .clock ≡ b .clock
     go true = refl
-    go false = refl
+    go false = back-cases (λ (m : Bus). m .clock ≡ b .clock) b (admissionRefusal b a) (λ e. refl) (λ e. refl)
 
 -- ---- steps
 
