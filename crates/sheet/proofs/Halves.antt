@@ -4,9 +4,13 @@ use mathlib.Core.Path.{_≡_, refl, sym, ap, ap₂, _∙_}
 use native.Mathlib.Nat.{add-assoc, add-comm, add-left-comm, mul-assoc, mul-comm, mul-left-comm, mul-add, add-mul, mod-lt, div-add-mod'}
 use native.Mathlib.Omega.{arith}
 use lib.Arith.{digits-lt, digits-div, digits-mod}
-use Rattle.sheet.specs.Words.{Words, words, first, middle, next, inHalves}
+use Rattle.sheet.specs.Words.{words, number, first, middle, next, inHalves}
 
--- two words are those of the number that they make, where the low one stays below `size`
+-- a number's two words are it
+pub words-number : (size n : ℕ) → number size (words size n) ≡ n
+words-number size n = div-add-mod' n size
+
+-- and two words are those of the number that they are, where the low one stays below `size`
 words-of : (size high low : ℕ) → low < size → words size (high * size + low) ≡ record { high = high; low = low }
 words-of size high low h = ap₂ (λ x y. record { high = x; low = y }) (digits-div high h) (digits-mod high h)
 

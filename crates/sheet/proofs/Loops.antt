@@ -1,13 +1,13 @@
 -- Loops over the runs of a batch: what such a loop has left from place i on is `slice i count runs`. Assumes nothing.
-use Prim.Native.Nat.{ℕ, zero, suc, _+_, _-_, _≤_, _<_}
+use Prim.Native.Nat.{ℕ, suc, _+_, _-_, _≤_, _<_}
 use mathlib.Core.Path.{_≡_, refl, sym, ap, ap₂, _∙_}
 use mathlib.Core.Bool.{Bool, true, false, not, cond}
 use mathlib.Core.List.{List, [], _∷_, _++_, map, map-append}
 use native.Mathlib.Numerals.{add-one}
 use native.Mathlib.Omega.{arith}
-use borrow.Author.Tests.{not-true, not-false, eqb-true, lt-ltb, le-ltb}
+use borrow.Author.Tests.{not-true, not-false, lt-ltb, le-ltb}
 use lib.ListN.{length, getD, take, set, replicate, length-map, length-take, drop-of-length-le}
-use lib.Seq.{slice, slice-cons, set-at, append-snoc, take-suc, length-take-le, getD-take}
+use lib.Seq.{slice, slice-cons, set-at, append-snoc, take-suc, length-take-le}
 use Rattle.sheet.specs.Sheet.{Run, Sums, Highest, most-runs, noRun, balances, unbalanced, rowOf, sumOf, sumsOf, lossOf, placed, further}
 use Rattle.sheet.specs.Sheet.{highestFrom, highestOf, refusedBatch, drawn}
 use Rattle.sheet.proofs.Refusals.{drawn-by}
@@ -76,7 +76,7 @@ sum-more count (x ∷ runs) r = let later = sum-more count runs r in omega arith
 
 -- and in the five
 sums-more : (runs : List Run) (r : Run) → sumsOf (runs ++ (r ∷ [])) ≡ plus (sumsOf runs) r
-sums-more runs r = simp (sum-more)
+sums-more runs r = simp sum-more
 
 pub sums-turn :
     (runs : List Run) (i : ℕ) {sums : Sums} → i < length runs → sums ≡ sumsOf (take i runs)

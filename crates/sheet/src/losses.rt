@@ -17,7 +17,10 @@ fn takes_place(found: bool, most: u64, over: u64, lost: u64, ended: u64) -> bool
     if !found {
         return 0 < ended;
     }
-    products::below(products::product(most, ended), products::product(lost, over))
+    products::below(
+        products::product(most, ended),
+        products::product(lost, over),
+    )
 }
 
 // 'the run with the highest loss', 'lost + turned away over lost + turned away + sent'

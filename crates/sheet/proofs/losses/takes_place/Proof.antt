@@ -1,12 +1,12 @@
 -- `losses::takes_place` meets its contract: by whether one was found, and two products, each as two words. Assumes nothing.
 use Prim.Native.Nat.{_*_}
 use mathlib.Core.Path.{sym, ap, ap₂, _∙_}
-use native.Mathlib.Nat.{div-add-mod'}
 use borrow.Author.Needs.{needs}
 use borrow.Author.Tests.{not-true, not-false}
 use lib.Dec.{ltb}
 use Rattle.sheet.specs.Words.{Words, word, number}
 use Rattle.sheet.specs.Parts.{loss, takesPlace}
+use Rattle.sheet.proofs.Halves.{words-number}
 use Rattle.sheet.proofs.losses.takes_place.Statement.{statement}
 use Rattle.sheet.proofs.losses.takes_place.Tie as tie
 
@@ -31,7 +31,7 @@ returns-2 c =
     let args = first .before .before .args in
     c .below .ensures
     ∙ ap₂ (λ (x y : Words). ltb (number word x) (number word y)) (first .product .ensures) (second .product2 .ensures)
-    ∙ ap₂ ltb (div-add-mod' (args .most * args .ended) word) (div-add-mod' (args .lost * args .over) word)
+    ∙ ap₂ ltb (words-number word (args .most * args .ended)) (words-number word (args .lost * args .over))
     ∙ sym (ap (λ t. takesPlace t (loss (args .most) (args .over)) (loss (args .lost) (args .ended))) (not-false (args .found) (first .before .if1 .left)))
 
 pub takes-place-spec : {M : Type 1} → statement M
