@@ -17,10 +17,9 @@ fn takes_place(found: bool, most: u64, over: u64, lost: u64, ended: u64) -> bool
     if !found {
         return 0 < ended;
     }
-    products::below(
-        products::product(most, ended),
-        products::product(lost, over),
-    )
+    let held = products::product(most, ended);
+    let its = products::product(lost, over);
+    products::below(held, its)
 }
 
 // 'the run with the highest loss', 'lost + turned away over lost + turned away + sent'
