@@ -123,13 +123,18 @@ table =
       count = 2;
       says = says (ends 2 1 ∷ run 4 3 1 0 2 1 ∷ []) (7 ∷ 4 ∷ 3 ∷ 0 ∷ 2 ∷ []) (1 ∷ 2 ∷ 3 ∷ []);
     } ∷
-    -- 'with no figure only where that sum is 0': packets were turned away, and none was admitted
+    -- 'with no figure only where that sum is 0': packets were turned away, and none was admitted; after a run with a figure, and before it
     record {
       runs = ends 1 1 ∷ run 0 0 0 0 3 0 ∷ [];
       count = 2;
       says = says (ends 1 1 ∷ run 0 0 0 0 3 0 ∷ []) (2 ∷ 1 ∷ 1 ∷ 0 ∷ 3 ∷ []) (2 ∷ 3 ∷ 3 ∷ []);
     } ∷
-    -- 'also past 64 bits': all turned away or lost, beside one half; the products less 2^64 as often as it goes are the other way round
+    record {
+      runs = run 0 0 0 0 3 0 ∷ ends 1 1 ∷ [];
+      count = 2;
+      says = says (run 0 0 0 0 3 0 ∷ ends 1 1 ∷ []) (2 ∷ 1 ∷ 1 ∷ 0 ∷ 3 ∷ []) (1 ∷ 3 ∷ 3 ∷ []);
+    } ∷
+    -- 'also past 64 bits': all lost or turned away, beside a half; modulo 2^64 the products come the other way round
     record {
       runs = half ∷ whole ∷ half ∷ [];
       count = 3;
@@ -148,7 +153,7 @@ table =
           (8_589_934_590 ∷ 4_294_967_295 ∷ 4_294_967_295 ∷ 0 ∷ 8_589_934_590 ∷ [])
           (1 ∷ 8_589_934_590 ∷ 8_589_934_590 ∷ []);
     } ∷
-    -- and products that differ by 2^64
+    -- and products that differ by 2^64, so that their low words are equal
     record {
       runs = run 4_294_967_295 4_294_967_295 0 0 4_294_967_294 1 ∷ run 4 1 3 0 4_294_967_295 1 ∷ [];
       count = 2;
