@@ -25,7 +25,7 @@ fn four(input: &[u8], at: usize) -> u64
         + 16_777_216 * one(input, at + 3)
 }
 
-// 'admitted, sent, lost, waiting, longest wait, four bytes each', from an offset on
+// 'admitted, sent, lost, waiting, turned away, longest wait, four bytes each', from an offset on
 fn run(input: &[u8], at: usize) -> Run
     requires { ⌜ at ≤ 8000 ⌝ }
 {
@@ -34,15 +34,16 @@ fn run(input: &[u8], at: usize) -> Run
         sent: four(input, at + 4) as u32,
         lost: four(input, at + 8) as u32,
         waiting: four(input, at + 12) as u32,
-        wait: four(input, at + 16) as u32,
+        turned: four(input, at + 16) as u32,
+        wait: four(input, at + 20) as u32,
     }
 }
 
-// 'then come the runs, twenty bytes each'; 'Up to 256 runs are read.'
+// 'then come the runs, 24 bytes each'; 'Up to 256 runs are read.'
 fn runs(input: &[u8]) -> [Run; 256] {
     let mut runs = [sheet::NO_RUN; 256];
     for i in 0..256 {
-        runs[i] = run(input, 8 + 20 * i);
+        runs[i] = run(input, 8 + 24 * i);
     }
     runs
 }

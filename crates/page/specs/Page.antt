@@ -30,6 +30,10 @@ LOST = 108 ∷ 111 ∷ 115 ∷ 116 ∷ []
 abbrev pub WAITING : List ℕ
 WAITING = 119 ∷ 97 ∷ 105 ∷ 116 ∷ 105 ∷ 110 ∷ 103 ∷ []
 
+-- 'turned away'
+abbrev pub TURNED-AWAY : List ℕ
+TURNED-AWAY = 116 ∷ 117 ∷ 114 ∷ 110 ∷ 101 ∷ 100 ∷ 32 ∷ 97 ∷ 119 ∷ 97 ∷ 121 ∷ []
+
 -- 'longest wait'
 abbrev pub LONGEST-WAIT : List ℕ
 LONGEST-WAIT = 108 ∷ 111 ∷ 110 ∷ 103 ∷ 101 ∷ 115 ∷ 116 ∷ 32 ∷ 119 ∷ 97 ∷ 105 ∷ 116 ∷ []
@@ -64,20 +68,24 @@ aligned places text = replicate (places - length text) space ++ text
 abbrev pub column : ℕ → List ℕ → List ℕ
 column places text = space ∷ aligned places text
 
--- the places of a count, of the longest wait, and of all columns
+-- the places of a count, of the packets turned away, of the longest wait, and of all columns
 abbrev pub count-places : ℕ
 count-places = 10
+
+abbrev pub turned-places : ℕ
+turned-places = 11
 
 abbrev pub wait-places : ℕ
 wait-places = 12
 
 abbrev pub all-places : ℕ
-all-places = 57
+all-places = 69
 
--- four counts
-abbrev pub countsText : List ℕ → List ℕ → List ℕ → List ℕ → List ℕ
-countsText admitted sent lost waiting =
-    column count-places admitted ++ (column count-places sent ++ (column count-places lost ++ column count-places waiting))
+-- four counts, and the packets turned away
+abbrev pub countsText : List ℕ → List ℕ → List ℕ → List ℕ → List ℕ → List ℕ
+countsText admitted sent lost waiting turned =
+    column count-places admitted
+    ++ (column count-places sent ++ (column count-places lost ++ (column count-places waiting ++ column turned-places turned)))
 
 -- ---- lines
 
@@ -93,12 +101,13 @@ abbrev pub named : List ℕ → List ℕ
 named name = (space ∷ space ∷ shown name) ++ (newline ∷ [])
 
 abbrev pub headingText : List ℕ
-headingText = (countsText ADMITTED SENT LOST WAITING ++ column wait-places LONGEST-WAIT) ++ named RUN
+headingText = (countsText ADMITTED SENT LOST WAITING TURNED-AWAY ++ column wait-places LONGEST-WAIT) ++ named RUN
 
 -- a run's columns
 abbrev pub runCells : Run → List ℕ
 runCells r =
-    countsText (decimal (r .admitted)) (decimal (r .sent)) (decimal (r .lost)) (decimal (r .waiting)) ++ column wait-places (decimal (r .wait))
+    countsText (decimal (r .admitted)) (decimal (r .sent)) (decimal (r .lost)) (decimal (r .waiting)) (decimal (r .turned))
+    ++ column wait-places (decimal (r .wait))
 
 -- 'REFUSED number offset'
 abbrev pub refusalWords : ℕ → ℕ → List ℕ
@@ -113,13 +122,13 @@ cells Has.Unread = aligned all-places UNREADABLE
 abbrev pub lineText : Entry → List ℕ → List ℕ
 lineText e name = cells e ++ named name
 
--- 'the four counts' sums'; there is none of the waits
+-- 'the four counts' sums', and that of the packets turned away; there is none of the waits
 abbrev pub sumsText : Sums → List ℕ
 sumsText s =
-    countsText (decimal (s .admitted)) (decimal (s .sent)) (decimal (s .lost)) (decimal (s .waiting))
+    countsText (decimal (s .admitted)) (decimal (s .sent)) (decimal (s .lost)) (decimal (s .waiting)) (decimal (s .turned))
     ++ (replicate (suc wait-places) space ++ named ALL-RUNS)
 
--- a loss as two whole numbers, with '/' between them
+-- a loss as two whole numbers, with '/' between them: the packets lost or turned away, and those lost, turned away or sent
 abbrev pub lossText : ℕ → ℕ → List ℕ
 lossText lost ended = HIGHEST-LOSS ++ (space ∷ (decimal lost ++ (47 ∷ decimal ended)))
 

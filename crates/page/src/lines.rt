@@ -15,12 +15,14 @@ use sheet::MOST_RUNS;
 use sheet::Run;
 use sheet::Sums;
 
-// The places of a count, of the longest wait, and of all columns; the bytes of a name.
+// The places of a count, of the packets turned away, of the longest wait, and of all columns; the bytes of a name.
 const COUNT: usize = 10;
+
+const TURNED: usize = 11;
 
 const WAIT: usize = 12;
 
-const ALL: usize = 57;
+const ALL: usize = 69;
 
 const NAME: usize = 4096;
 
@@ -45,7 +47,7 @@ fn column(room: &mut [u8; 65536], at: usize, places: usize, n: u64) -> usize
     text::number(room, aligned, n)
 }
 
-// Four counts.
+// Four counts, and the packets turned away.
 fn counts(
     room: &mut [u8; 65536],
     at: usize,
@@ -53,30 +55,33 @@ fn counts(
     sent: u64,
     lost: u64,
     waiting: u64,
+    turned: u64,
 ) -> usize
-    requires { ⌜ roomy at 84 ⌝ }
-    ensures { λ r. ⌜ Told (now (room .entry)) (now (room .exit)) at r (countsText (decimal admitted) (decimal sent) (decimal lost) (decimal waiting)) 84 ⌝ }
+    requires { ⌜ roomy at 105 ⌝ }
+    ensures { λ r. ⌜ Told (now (room .entry)) (now (room .exit)) at r (countsText (decimal admitted) (decimal sent) (decimal lost) (decimal waiting) (decimal turned)) 105 ⌝ }
 {
     let first = column(room, at, COUNT, admitted);
     let second = column(room, first, COUNT, sent);
     let third = column(room, second, COUNT, lost);
-    column(room, third, COUNT, waiting)
+    let fourth = column(room, third, COUNT, waiting);
+    column(room, fourth, TURNED, turned)
 }
 
 // A run's columns.
 fn run_cells(room: &mut [u8; 65536], at: usize, run: Run) -> usize
-    requires { ⌜ roomy at 105 ⌝ }
-    ensures { λ r. ⌜ Told (now (room .entry)) (now (room .exit)) at r (runCells run) 105 ⌝ }
+    requires { ⌜ roomy at 126 ⌝ }
+    ensures { λ r. ⌜ Told (now (room .entry)) (now (room .exit)) at r (runCells run) 126 ⌝ }
 {
-    let four = counts(
+    let five = counts(
         room,
         at,
         run.admitted as u64,
         run.sent as u64,
         run.lost as u64,
         run.waiting as u64,
+        run.turned as u64,
     );
-    column(room, four, WAIT, run.wait as u64)
+    column(room, five, WAIT, run.wait as u64)
 }
 
 // 'REFUSED number offset'
@@ -92,8 +97,8 @@ fn refused(room: &mut [u8; 65536], at: usize, number: u32, offset: usize) -> usi
 
 // The same right-aligned in the columns' places.
 fn refused_cells(room: &mut [u8; 65536], at: usize, number: u32, offset: usize) -> usize
-    requires { ⌜ roomy at 105 ⌝ }
-    ensures { λ r. ⌜ Told (now (room .entry)) (now (room .exit)) at r (aligned all-places (refusalWords number offset)) 105 ⌝ }
+    requires { ⌜ roomy at 126 ⌝ }
+    ensures { λ r. ⌜ Told (now (room .entry)) (now (room .exit)) at r (aligned all-places (refusalWords number offset)) 126 ⌝ }
 {
     let size = 9 + text::digits_of(number as u64) + text::digits_of(offset as u64);
     let aligned = text::spaces(room, at, free(ALL, size));
@@ -102,8 +107,8 @@ fn refused_cells(room: &mut [u8; 65536], at: usize, number: u32, offset: usize) 
 
 // What stands in the columns of an entry.
 pub fn cells(room: &mut [u8; 65536], at: usize, entry: Entry) -> usize
-    requires { ⌜ roomy at 105 ⌝ }
-    ensures { λ r. ⌜ Told (now (room .entry)) (now (room .exit)) at r (cellsText entry) 105 ⌝ }
+    requires { ⌜ roomy at 126 ⌝ }
+    ensures { λ r. ⌜ Told (now (room .entry)) (now (room .exit)) at r (cellsText entry) 126 ⌝ }
 {
     match entry {
         Entry::Run(run) => run_cells(room, at, run),
@@ -111,7 +116,7 @@ pub fn cells(room: &mut [u8; 65536], at: usize, entry: Entry) -> usize
         Entry::Unread => text::letters(
             room,
             at,
-            b"                                               UNREADABLE",
+            b"                                                           UNREADABLE",
         ),
     }
 }
@@ -151,23 +156,31 @@ fn numbered(room: &mut [u8; 65536], at: usize, n: u64) -> usize
 
 // The words over the columns.
 pub fn heading(room: &mut [u8; 65536], at: usize) -> usize
-    requires { ⌜ roomy at 63 ⌝ }
-    ensures { λ r. ⌜ Told (now (room .entry)) (now (room .exit)) at r headingText 63 ⌝ }
+    requires { ⌜ roomy at 75 ⌝ }
+    ensures { λ r. ⌜ Told (now (room .entry)) (now (room .exit)) at r headingText 75 ⌝ }
 {
     text::letters(
         room,
         at,
-        b"   admitted       sent       lost    waiting longest wait  run\n",
+        b"   admitted       sent       lost    waiting turned away longest wait  run\n",
     )
 }
 
 // The line of the sums.
 pub fn sums(room: &mut [u8; 65536], at: usize, sums: Sums) -> usize
-    requires { ⌜ roomy at 108 ⌝ }
-    ensures { λ r. ⌜ Told (now (room .entry)) (now (room .exit)) at r (sumsText sums) 108 ⌝ }
+    requires { ⌜ roomy at 129 ⌝ }
+    ensures { λ r. ⌜ Told (now (room .entry)) (now (room .exit)) at r (sumsText sums) 129 ⌝ }
 {
-    let four = counts(room, at, sums.admitted, sums.sent, sums.lost, sums.waiting);
-    text::letters(room, four, b"               all runs\n")
+    let five = counts(
+        room,
+        at,
+        sums.admitted,
+        sums.sent,
+        sums.lost,
+        sums.waiting,
+        sums.turned,
+    );
+    text::letters(room, five, b"               all runs\n")
 }
 
 // 'highest loss lost/ended', before the name
@@ -236,8 +249,8 @@ pub fn at_most(count: usize) -> usize
 // The lines of the first so many runs, each with its place, counted from 1, for a name.
 pub fn rows(room: &mut [u8; 65536], at: usize, runs: [Run; 256], count: usize) -> usize
     requires { ⌜ count ≤ most-runs ⌝ }
-    requires { ⌜ roomy at 32768 ⌝ }
-    ensures { λ r. ⌜ Told (now (room .entry)) (now (room .exit)) at r (rowsText 0 (take count runs)) 32768 ⌝ }
+    requires { ⌜ roomy at 38144 ⌝ }
+    ensures { λ r. ⌜ Told (now (room .entry)) (now (room .exit)) at r (rowsText 0 (take count runs)) 38144 ⌝ }
 {
     let mut next = at;
     for i in 0..count {

@@ -91,11 +91,11 @@ module _ (done : List Run) (r : Run) where
   says-more (Is.Run p) h = go (above (lossOf r) (lossAt p)) refl
     where
       figure : Below (lossAt p) (lossOf r) → Figure (lossOf r)
-      figure below = some (r .lost) refl
+      figure below = some (lossOf r .lost) refl
         where
-          some : (n : ℕ) → r .lost ≡ n → Figure (lossOf r)
+          some : (n : ℕ) → lossOf r .lost ≡ n → Figure (lossOf r)
           some zero e =
-              let none : r .lost * p .ended ≡ 0 * p .ended = ap (λ (k : ℕ). k * p .ended) e in
+              let none : lossOf r .lost * p .ended ≡ 0 * p .ended = ap (λ (k : ℕ). k * p .ended) e in
               absurd (omega (arith, below, zero-mul (p .ended)))
           some (suc n) e = omega arith
 

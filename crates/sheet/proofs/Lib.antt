@@ -1,5 +1,6 @@
 -- The modules of the proofs. Assumes nothing.
 pub mod Order
+pub mod Halves
 pub mod HighestLoss
 pub mod Refusals
 pub mod Loops

@@ -1,13 +1,13 @@
 -- Loops over the runs of a batch: what such a loop has left from place i on is `slice i count runs`. Assumes nothing.
-use Prim.Native.Nat.{ℕ, zero, suc, _+_, _-_, _≤_, _<_}
+use Prim.Native.Nat.{ℕ, suc, _+_, _-_, _≤_, _<_}
 use mathlib.Core.Path.{_≡_, refl, sym, ap, ap₂, _∙_}
 use mathlib.Core.Bool.{Bool, true, false, not, cond}
 use mathlib.Core.List.{List, [], _∷_, _++_, map, map-append}
 use native.Mathlib.Numerals.{add-one}
 use native.Mathlib.Omega.{arith}
-use borrow.Author.Tests.{not-true, not-false, eqb-true, lt-ltb, le-ltb}
+use borrow.Author.Tests.{not-true, not-false, lt-ltb, le-ltb}
 use lib.ListN.{length, getD, take, set, replicate, length-map, length-take, drop-of-length-le}
-use lib.Seq.{slice, slice-cons, set-at, append-snoc, take-suc, length-take-le, getD-take}
+use lib.Seq.{slice, slice-cons, set-at, append-snoc, take-suc, length-take-le}
 use Rattle.sheet.specs.Sheet.{Run, Sums, Highest, most-runs, noRun, balances, unbalanced, rowOf, sumOf, sumsOf, lossOf, placed, further}
 use Rattle.sheet.specs.Sheet.{highestFrom, highestOf, refusedBatch, drawn}
 use Rattle.sheet.proofs.Refusals.{drawn-by}
@@ -38,36 +38,6 @@ module _ (count : ℕ) (runs : List Run) (i : ℕ) where
       ap (unbalanced i) (left-turn h k)
       ∙ ap (λ t. cond t (unbalanced (suc i) (slice (i + 1) count runs)) i) (sym e ∙ not-false answer told)
       ∙ ap (λ j. unbalanced j (slice (i + 1) count runs)) (sym (add-one i))
-
--- where as many balance as there are, each does
-pub all-balance :
-    (runs : List Run) (place : ℕ) → place + length runs ≤ unbalanced place runs → (i : ℕ) → i < length runs
-    → balances (getD runs i noRun) ≡ true
-all-balance [] place h i l = absurd (omega arith)
-all-balance (r ∷ runs) place h i l = go (balances r) refl h (all-balance runs (suc place)) i l
-  where
-    go :
-        (t : Bool) → balances r ≡ t → place + suc (length runs) ≤ cond t (unbalanced (suc place) runs) place
-        → (suc place + length runs ≤ unbalanced (suc place) runs → (j : ℕ) → j < length runs → balances (getD runs j noRun) ≡ true)
-        → (j : ℕ) → j < suc (length runs) → balances (getD (r ∷ runs) j noRun) ≡ true
-    go true e many later zero l = e
-    go true e many later (suc j) l = later (omega arith) j (omega arith)
-    go false e many later j l = absurd (omega arith)
-
--- what has ended of a run that balances is no more than was admitted
-pub ended-few : (r : Run) → balances r ≡ true → r .lost + r .sent ≤ r .admitted
-ended-few r e = let same = eqb-true (r .admitted) (r .sent + r .lost + r .waiting) e in omega arith
-
--- so that it has 32 bits
-pub ended-short :
-    (count : ℕ) (runs : List Run) → count ≤ unbalanced 0 (take count runs) → (i : ℕ) → i < count → count ≤ length runs
-    → short (getD runs i noRun .admitted) → short (getD runs i noRun .lost + getD runs i noRun .sent)
-ended-short count runs h i l k wide =
-    let long = length-take-le count runs k in
-    let same = getD-take count runs i noRun l in
-    let each = all-balance (take count runs) 0 (omega arith) i (omega arith) in
-    let few = ended-few (getD runs i noRun) (ap balances (sym same) ∙ each) in
-    omega arith
 
 -- ---- the rows
 
@@ -104,24 +74,9 @@ sum-more : (count : Run → ℕ) (runs : List Run) (r : Run) → sumOf count (ru
 sum-more count [] r = omega arith
 sum-more count (x ∷ runs) r = let later = sum-more count runs r in omega arith
 
--- and in the four
+-- and in the five
 sums-more : (runs : List Run) (r : Run) → sumsOf (runs ++ (r ∷ [])) ≡ plus (sumsOf runs) r
-sums-more runs r =
-    let all = runs ++ (r ∷ []) in
-    ap₂
-    (λ admitted sent. record { admitted = admitted; sent = sent; lost = sumOf (λ x. x .lost) all; waiting = sumOf (λ x. x .waiting) all })
-    (sum-more (λ x. x .admitted) runs r)
-    (sum-more (λ x. x .sent) runs r)
-    ∙ ap₂
-    (λ lost waiting.
-    record {
-      admitted = sumOf (λ x. x .admitted) runs + r .admitted;
-      sent = sumOf (λ x. x .sent) runs + r .sent;
-      lost = lost;
-      waiting = waiting;
-    })
-    (sum-more (λ x. x .lost) runs r)
-    (sum-more (λ x. x .waiting) runs r)
+sums-more runs r = simp sum-more
 
 pub sums-turn :
     (runs : List Run) (i : ℕ) {sums : Sums} → i < length runs → sums ≡ sumsOf (take i runs)
@@ -134,13 +89,14 @@ sums-turn runs i {sums} h e =
 -- the sums of one run more are no larger than they may be
 pub few-more :
     (i : ℕ) (sums : Sums) (r : Run) → Few i sums → short (r .admitted) → short (r .sent) → short (r .lost) → short (r .waiting)
-    → Few (i + 1) (plus sums r)
-few-more i sums r few a b c d =
+    → short (r .turned) → Few (i + 1) (plus sums r)
+few-more i sums r few a b c d e =
     record {
       admitted = omega (arith, few .admitted);
       sent = omega (arith, few .sent);
       lost = omega (arith, few .lost);
       waiting = omega (arith, few .waiting);
+      turned = omega (arith, few .turned);
     }
 
 -- ---- the highest loss

@@ -1,14 +1,16 @@
 -- What is proved of the sheet, in one place. `drawn` (specs/Sheet.antt) is what `draw` of src/lib.rt answers,
 -- which proofs/Unique.antt says determines it. Assumes nothing.
-use Prim.Native.Nat.{ℕ, _≤_, _<_}
+use Prim.Native.Nat.{ℕ, _*_, _≤_, _<_}
 use mathlib.Core.Path.{_≡_}
 use mathlib.Core.Logic.{_⊎_}
 use mathlib.Core.List.{List, map}
 use lib.ListN.{take}
 use Rattle.sheet.specs.Losses.{Loss, Figure, AtMost, Below}
+use Rattle.sheet.specs.Words.{words, number, inHalves}
 use Rattle.sheet.specs.Sheet.{Run, Highest, most-runs, AllBalanced, FirstUnbalanced, highestOf, Says, refusedBatch, sheetDrawn, drawn}
 use Rattle.sheet.specs.Examples.{Example, said, table}
 use Rattle.sheet.proofs.Order as Order
+use Rattle.sheet.proofs.Halves as Halves
 use Rattle.sheet.proofs.HighestLoss as HighestLoss
 use Rattle.sheet.proofs.Refusals as Refusals
 use Rattle.sheet.proofs.Examples as Examples
@@ -34,6 +36,16 @@ at-most-below = Order.at-most-below
 
 pub below-at-most : (a b c : Loss) → Figure c → Below a b → AtMost b c → Below a c
 below-at-most = Order.below-at-most
+
+-- ---- products past 64 bits
+
+-- multiplication in halves is multiplication, whatever the base of the halves: the two words that it makes are those of the product
+pub in-halves : (base a b : ℕ) → 0 < base → inHalves base a b ≡ words (base * base) (a * b)
+in-halves = Halves.in-halves
+
+-- and they are the product
+pub words-number : (size n : ℕ) → number size (words size n) ≡ n
+words-number = Halves.words-number
 
 -- ---- the highest loss
 

@@ -1,15 +1,15 @@
--- Loss and its order (change request P2): 'Loss is lost over lost + sent .., kept as two whole numbers. Losses are compared exactly by cross
--- products.' Over numbers of any size. Assumes nothing.
+-- Loss and its order (change requests P2 and P4): 'P2's loss' is 'lost + turned away over lost + turned away + sent', 'kept as two whole
+-- numbers. Losses are compared exactly by cross products.' Over numbers of any size. Assumes nothing.
 use Prim.Native.Nat.{ℕ, _*_, _≤_, _<_}
 use mathlib.Core.Bool.{Bool}
 use lib.Dec.{ltb}
 
--- a loss: the packets lost, over those that have ended, which are the lost and the sent
+-- a loss: the packets lost, those turned away among them, over all that have ended, which are these and the sent
 pub record Loss : Type 0 where
   pub lost : ℕ
   pub ended : ℕ
 
--- 'a run with nothing lost or sent has no figure'
+-- 'with no figure only where that sum is 0'
 abbrev pub Figure : Loss → Type 0
 Figure a = 0 < a .ended
 

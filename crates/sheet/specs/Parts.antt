@@ -18,9 +18,10 @@ pub record Few (runs : ℕ) (sums : Sums) : Type 0 where
   pub sent : sums .sent ≤ runs * 4_294_967_295
   pub lost : sums .lost ≤ runs * 4_294_967_295
   pub waiting : sums .waiting ≤ runs * 4_294_967_295
+  pub turned : sums .turned ≤ runs * 4_294_967_295
 
-abbrev pub summed : ℕ → ℕ → ℕ → ℕ → Sums
-summed admitted sent lost waiting = record { admitted = admitted; sent = sent; lost = lost; waiting = waiting }
+abbrev pub summed : ℕ → ℕ → ℕ → ℕ → ℕ → Sums
+summed admitted sent lost waiting turned = record { admitted = admitted; sent = sent; lost = lost; waiting = waiting; turned = turned }
 
 -- the sums with one run more
 abbrev pub plus : Sums → Run → Sums
@@ -30,6 +31,7 @@ plus s r =
       sent = s .sent + r .sent;
       lost = s .lost + r .lost;
       waiting = s .waiting + r .waiting;
+      turned = s .turned + r .turned;
     }
 
 -- ---- the highest loss

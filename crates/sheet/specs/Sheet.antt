@@ -1,5 +1,6 @@
 -- The sheet of a batch of finished runs (change request P2): 'for each the admitted, sent, lost and waiting counts and the longest wait (0 if
--- none was sent); over all, the four counts' sums and the run with the highest loss'. Assumes nothing.
+-- none was sent); over all, the four counts' sums and the run with the highest loss'; and 'a count of packets turned away' (P4). Assumes
+-- nothing.
 use Prim.Native.Nat.{ℕ, suc, _+_, _-_, _<_}
 use mathlib.Core.Path.{_≡_}
 use mathlib.Core.Bool.{Bool, cond}
@@ -21,11 +22,11 @@ most-runs = 256
 
 -- what has no meaning is zero
 abbrev pub noRun : Run
-noRun = record { admitted = 0; sent = 0; lost = 0; waiting = 0; wait = 0 }
+noRun = record { admitted = 0; sent = 0; lost = 0; waiting = 0; turned = 0; wait = 0 }
 
 -- ---- what refuses a batch
 
--- '24, a run whose admitted count is not sent + lost + waiting'
+-- '24, a run whose admitted count is not sent + lost + waiting'; the packets turned away are not in it
 abbrev pub balances : Run → Bool
 balances r = eqb (r .admitted) (r .sent + r .lost + r .waiting)
 
@@ -56,10 +57,11 @@ rowOf r =
       sent = r .sent;
       lost = r .lost;
       waiting = r .waiting;
+      turned = r .turned;
       wait = cond (eqb (r .sent) 0) 0 (r .wait);
     }
 
--- 'the four counts' sums'
+-- 'the four counts' sums', and that of the packets turned away
 abbrev pub sumOf : (Run → ℕ) → List Run → ℕ
 sumOf count [] = 0
 sumOf count (r ∷ runs) = count r + sumOf count runs
@@ -71,15 +73,16 @@ sumsOf runs =
       sent = sumOf (λ r. r .sent) runs;
       lost = sumOf (λ r. r .lost) runs;
       waiting = sumOf (λ r. r .waiting) runs;
+      turned = sumOf (λ r. r .turned) runs;
     }
 
 -- ---- the highest loss
 
--- 'Loss is lost over lost + sent'
+-- 'let P2's loss be lost + turned away over lost + turned away + sent'
 abbrev pub lossOf : Run → Loss
-lossOf r = record { lost = r .lost; ended = r .lost + r .sent }
+lossOf r = record { lost = r .lost + r .turned; ended = r .lost + r .turned + r .sent }
 
--- 'A run with nothing lost or sent has no figure'
+-- 'with no figure only where that sum is 0': a run with nothing lost, turned away or sent has none
 abbrev pub hasFigure : Run → Bool
 hasFigure r = ltb 0 (lossOf r .ended)
 

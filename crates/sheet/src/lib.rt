@@ -3,29 +3,34 @@ ghost use mathlib.Core.Path.{_≡_};
 ghost use Rattle.sheet.specs.Sheet.{refusedBatch, drawn};
 
 mod losses;
+mod products;
 mod rows;
 
 // '23, over 256 runs'
 pub const MOST_RUNS: usize = 256;
 
-// A finished run: the packets admitted, sent, lost and waiting, and the longest wait of a packet that was sent.
+// A finished run: the packets admitted, sent, lost and waiting, those turned away, and the longest wait of a packet that was sent.
 pub struct Run {
     pub admitted: u32,
     pub sent: u32,
     pub lost: u32,
     pub waiting: u32,
+    // packets turned away
+    pub turned: u32,
     pub wait: u32,
 }
 
-// 'over all, the four counts' sums'
+// 'over all, the .. counts' sums', that of the packets turned away among them
 pub struct Sums {
     pub admitted: u64,
     pub sent: u64,
     pub lost: u64,
     pub waiting: u64,
+    pub turned: u64,
 }
 
-// A run's place in the batch, counted from 0, and its loss as two whole numbers: the packets lost, and those lost or sent.
+// A run's place in the batch, counted from 0, and its loss as two whole numbers: the packets lost or turned away, and those lost, turned away
+// or sent.
 pub struct Placed {
     pub place: usize,
     pub lost: u64,
@@ -59,6 +64,7 @@ pub const NO_RUN: Run = Run {
     sent: 0,
     lost: 0,
     waiting: 0,
+    turned: 0,
     wait: 0,
 };
 
@@ -71,6 +77,7 @@ fn refused(refusal: u32, place: usize) -> Drawn
         sent: 0,
         lost: 0,
         waiting: 0,
+        turned: 0,
     };
     let rows = [NO_RUN; 256];
     let sheet = Sheet {

@@ -7,7 +7,8 @@ ghost use Rattle.sheet.specs.Sheet.{balances as balancesIn, unbalanced a
 use crate::Run;
 use crate::Sums;
 
-// 'a run whose admitted count is not sent + lost + waiting' does not; added up in 64 bits, which 32 bits cannot pass.
+// 'a run whose admitted count is not sent + lost + waiting' does not; added up in 64 bits, which 32 bits cannot pass. A packet turned away was
+// not admitted.
 fn balances(run: Run) -> bool
     ensures { λ r. ⌜ r ≡ balancesIn run ⌝ }
 {
@@ -37,6 +38,7 @@ fn row(run: Run) -> Run
         sent: run.sent,
         lost: run.lost,
         waiting: run.waiting,
+        turned: run.turned,
         wait,
     }
 }
@@ -53,7 +55,7 @@ pub fn all(runs: [Run; 256], count: usize) -> [Run; 256]
     rows
 }
 
-// 'the four counts' sums'; 256 numbers of 32 bits do not pass 64.
+// 'the .. counts' sums', with that of the packets turned away; 256 numbers of 32 bits do not pass 64.
 pub fn sums(runs: [Run; 256], count: usize) -> Sums
     requires { ⌜ count ≤ most-runs ⌝ }
     ensures { λ r. ⌜ r ≡ sumsOf (take count runs) ⌝ }
@@ -62,17 +64,20 @@ pub fn sums(runs: [Run; 256], count: usize) -> Sums
     let mut sent = 0u64;
     let mut lost = 0u64;
     let mut waiting = 0u64;
+    let mut turned = 0u64;
     for i in 0..count {
         let run = runs[i];
         admitted += run.admitted as u64;
         sent += run.sent as u64;
         lost += run.lost as u64;
         waiting += run.waiting as u64;
+        turned += run.turned as u64;
     }
     Sums {
         admitted,
         sent,
         lost,
         waiting,
+        turned,
     }
 }

@@ -39,7 +39,7 @@ returns c =
     let same = ap (λ (l : List Run). rowsText 0 l) (ap (λ n. take n (s .rows)) (listed .before .at-most .ensures) ∙ rows-within (s .rows) (s .count) full) in
     let lines =
     subst
-    (λ (text : List ℕ). Told (headed .heading .last .0) (listed .rows2 .last .0) (headed .heading .result) (listed .rows2 .result) text 32_768)
+    (λ (text : List ℕ). Told (headed .heading .last .0) (listed .rows2 .last .0) (headed .heading .result) (listed .rows2 .result) text 38_144)
     same
     (listed .rows2 .ensures) in
     told-start (omega arith) (told-then (headed .heading .ensures) (told-then lines (told-then (summed .sums .ensures) (c .highest-placed .ensures))))

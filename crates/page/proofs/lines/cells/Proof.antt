@@ -39,7 +39,7 @@ returns-2 c =
 returns-3 : tie.Need-returns-3
 returns-3 c =
     let args = c .before .before .before .before .before .args in
-    rw (c .before .before .before .enum-told .given .1) (told-stored (args .room .now) (args .at) (cells Has.Unread) 105 (omega arith) (omega arith) (c .letters .ensures))
+    rw (c .before .before .before .enum-told .given .1) (told-stored (args .room .now) (args .at) (cells Has.Unread) 126 (omega arith) (omega arith) (c .letters .ensures))
 
 pub cells-spec : {M : Type 1} → statement M
 cells-spec =

@@ -1,4 +1,4 @@
--- `lines::counts` meets its contract: four columns, one after the other. Assumes nothing.
+-- `lines::counts` meets its contract: five columns, one after the other. Assumes nothing.
 use borrow.Author.Needs.{needs}
 use Rattle.text.proofs.Stores.{told-then}
 use Rattle.page.proofs.lines.counts.Statement.{statement}
@@ -16,14 +16,19 @@ column-requires-3 c κs = search needs
 column-requires-4 : tie.Need-column-requires-4
 column-requires-4 c κs = search needs
 
+column-requires-5 : tie.Need-column-requires-5
+column-requires-5 c κs = search needs
+
 returns : tie.Need-returns
 returns c =
-    let third = c .before .before in
+    let fourth = c .before .before in
+    let third = fourth .before .before in
     let second = third .before .before in
     let first = second .before .before in
-    told-then (first .column .ensures) (told-then (second .column2 .ensures) (told-then (third .column3 .ensures) (c .column4 .ensures)))
+    told-then (first .column .ensures)
+    (told-then (second .column2 .ensures) (told-then (third .column3 .ensures) (told-then (fourth .column4 .ensures) (c .column5 .ensures))))
 
 pub counts-spec : {M : Type 1} → statement M
 counts-spec =
     tie.close
-    (tie.spec column-requires column-requires-2 column-requires-3 column-requires-4 returns)
+    (tie.spec column-requires column-requires-2 column-requires-3 column-requires-4 column-requires-5 returns)

@@ -16,7 +16,7 @@ returns : tie.Need-returns
 unfolding shown
 returns c =
     let args = c .before .before .before .args in
-    told-stored (args .room .now) (args .at) headingText 63 (omega arith) (omega arith) (c .letters .ensures)
+    told-stored (args .room .now) (args .at) headingText 75 (omega arith) (omega arith) (c .letters .ensures)
 
 pub heading-spec : {M : Type 1} → statement M
 heading-spec = tie.close (tie.spec slice-aggregate-letters letters-requires returns)

@@ -18,7 +18,7 @@ gap :
     (c : tie.After-spaces)
     → let args = c .before .before .before .before .before .args in
     let free = all-places - length (refusalWords (args .number) (args .offset)) in
-    Told (args .room .now) (c .spaces .last .0) (args .at) (c .spaces .result) (replicate free space) 57
+    Told (args .room .now) (c .spaces .last .0) (args .at) (c .spaces .result) (replicate free space) 69
 gap c =
     let offsets = c .before .before .before in
     let args = offsets .before .before .args in
@@ -30,7 +30,7 @@ gap c =
     (ap₂ (λ i j. 9 + i + j) (offsets .before .digits-of .ensures) (offsets .digits-of2 .ensures)
     ∙ sym (refused-length (args .number) (args .offset))) in
     let long = length-replicate free space in
-    told-stored (args .room .now) (args .at) (replicate free space) 57 (omega arith) (omega arith) (rw left at (c .spaces .ensures))
+    told-stored (args .room .now) (args .at) (replicate free space) 69 (omega arith) (omega arith) (rw left at (c .spaces .ensures))
 
 digits-of-requires : tie.Need-digits-of-requires
 digits-of-requires c κs = search needs

@@ -12,7 +12,7 @@ use Rattle.page.proofs.lines.rows.Statement.{statement}
 use Rattle.page.proofs.lines.rows.Tie as tie
 
 abbrev Inv-loop : tie.InvT-loop
-Inv-loop room₀ at count runs next₀ i₀ room next i = (i ≤ count) × Told room₀ room at next (rowsText 0 (take i runs)) (128 * i)
+Inv-loop room₀ at count runs next₀ i₀ room next i = (i ≤ count) × Told room₀ room at next (rowsText 0 (take i runs)) (149 * i)
 
 abbrev μ-loop : tie.MeasureT-loop
 μ-loop room₀ at count runs next₀ i₀ room next i = count - i

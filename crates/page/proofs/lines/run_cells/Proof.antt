@@ -1,4 +1,4 @@
--- `lines::run_cells` meets its contract: four counts and the longest wait. Assumes nothing.
+-- `lines::run_cells` meets its contract: five counts and the longest wait. Assumes nothing.
 use borrow.Author.Needs.{needs}
 use Rattle.text.proofs.Stores.{told-then}
 use Rattle.page.proofs.lines.run_cells.Statement.{statement}
@@ -15,6 +15,9 @@ cast-counts-3 c = search needs
 
 cast-counts-4 : tie.Need-cast-counts-4
 cast-counts-4 c = search needs
+
+cast-counts-5 : tie.Need-cast-counts-5
+cast-counts-5 c = search needs
 
 counts-requires : tie.Need-counts-requires
 counts-requires c κs = search needs
@@ -37,6 +40,7 @@ run-cells-spec =
     cast-counts-2
     cast-counts-3
     cast-counts-4
+    cast-counts-5
     counts-requires
     cast-column
     column-requires

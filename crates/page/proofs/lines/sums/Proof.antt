@@ -1,4 +1,4 @@
--- `lines::sums` meets its contract: four counts, and what closes the line. Assumes nothing.
+-- `lines::sums` meets its contract: five counts, and what closes the line. Assumes nothing.
 use mathlib.Core.List.{_++_}
 use native.Mathlib.Omega.{arith}
 use borrow.Author.Needs.{needs}
@@ -22,10 +22,10 @@ letters-requires c κs = search needs
 returns : tie.Need-returns
 unfolding shown
 returns c =
-    let four = c .before .before .before in
+    let five = c .before .before .before in
     let text = replicate 13 space ++ named ALL-RUNS in
-    let closed = told-here (four .counts .last .0) (four .counts .result) text (omega (arith, four .counts .ensures .past, four .counts .ensures .few)) (c .letters .ensures) in
-    told-within (told-then (four .counts .ensures) closed) (omega arith)
+    let closed = told-here (five .counts .last .0) (five .counts .result) text (omega (arith, five .counts .ensures .past, five .counts .ensures .few)) (c .letters .ensures) in
+    told-within (told-then (five .counts .ensures) closed) (omega arith)
 
 pub sums-spec : {M : Type 1} → statement M
 sums-spec = tie.close (tie.spec counts-requires slice-aggregate-letters letters-requires returns)

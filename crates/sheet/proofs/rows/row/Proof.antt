@@ -10,7 +10,7 @@ use Rattle.sheet.proofs.rows.row.Tie as tie
 -- a run with the wait that a test chooses
 abbrev waits : Run → Bool → Run
 waits r t =
-    record { admitted = r .admitted; sent = r .sent; lost = r .lost; waiting = r .waiting; wait = cond t 0 (r .wait) }
+    record { admitted = r .admitted; sent = r .sent; lost = r .lost; waiting = r .waiting; turned = r .turned; wait = cond t 0 (r .wait) }
 
 returns : tie.Need-returns
 returns c = let r = c .before .before .args .run in sym (ap (waits r) (eq-eqb (r .sent) 0 (search needs)))

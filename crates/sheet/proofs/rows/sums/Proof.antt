@@ -11,14 +11,14 @@ use Rattle.sheet.proofs.rows.sums.Statement.{statement}
 use Rattle.sheet.proofs.rows.sums.Tie as tie
 
 abbrev Inv-loop : tie.InvT-loop
-Inv-loop count runs admitted₀ sent₀ lost₀ waiting₀ i₀ admitted sent lost waiting i =
-    (i ≤ count) × Few i (summed admitted sent lost waiting) × (summed admitted sent lost waiting ≡ sumsOf (take i runs))
+Inv-loop count runs admitted₀ sent₀ lost₀ waiting₀ turned₀ i₀ admitted sent lost waiting turned i =
+    (i ≤ count) × Few i (summed admitted sent lost waiting turned) × (summed admitted sent lost waiting turned ≡ sumsOf (take i runs))
 
 abbrev μ-loop : tie.MeasureT-loop
-μ-loop count runs admitted₀ sent₀ lost₀ waiting₀ i₀ admitted sent lost waiting i = count - i
+μ-loop count runs admitted₀ sent₀ lost₀ waiting₀ turned₀ i₀ admitted sent lost waiting turned i = count - i
 
 loop-holds : tie.Need-loop-holds Inv-loop μ-loop
-loop-holds c = (search needs, record { admitted = omega arith; sent = omega arith; lost = omega arith; waiting = omega arith }, refl)
+loop-holds c = (search needs, record { admitted = omega arith; sent = omega arith; lost = omega arith; waiting = omega arith; turned = omega arith }, refl)
 
 mul-run : tie.Need-mul-run Inv-loop μ-loop
 mul-run c = search needs
@@ -50,6 +50,12 @@ cast-waiting c = search needs
 add-waiting : tie.Need-add-waiting Inv-loop μ-loop
 add-waiting c = search needs
 
+cast-turned : tie.Need-cast-turned Inv-loop μ-loop
+cast-turned c = search needs
+
+add-turned : tie.Need-add-turned Inv-loop μ-loop
+add-turned c = search needs
+
 add-i : tie.Need-add-i Inv-loop μ-loop
 add-i c = search needs
 
@@ -58,13 +64,14 @@ loop-less c = search needs
 
 loop-again : tie.Need-loop-again Inv-loop μ-loop
 loop-again c =
-    let at = c .before .before .before .before .before .before in
+    let at = c .before .before .before .before .before .before .before in
     let start = at .before in
     let so = at .loop in
     let full : length (start .args .t1) ≡ 256 = search needs in
     let r = getD (start .args .t1) (so .i) noRun in (
       search needs,
-      few-more (so .i) (summed (so .admitted) (so .sent) (so .lost) (so .waiting)) r (so .inv .1) (search needs) (search needs) (search needs) (search needs),
+      few-more (so .i) (summed (so .admitted) (so .sent) (so .lost) (so .waiting) (so .turned)) r (so .inv .1) (search needs) (search needs) (search needs) (search needs)
+          (search needs),
       sums-turn (start .args .t1) (so .i) (omega arith) (so .inv .2),
     )
 
@@ -91,6 +98,8 @@ sums-spec =
     add-lost
     cast-waiting
     add-waiting
+    cast-turned
+    add-turned
     add-i
     loop-less
     loop-again
