@@ -13,9 +13,10 @@ use Rattle.rules.specs.Standing.{Standing}
 use Rattle.rules.specs.declared.Admitted.{Admitted}
 use Rattle.rules.specs.SetUp.{Request, setUp}
 use Rattle.rules.specs.Admission as Rules
-use Rattle.rules.specs.Admission.{admissionRefusal, withPacket, admit}
+use Rattle.rules.specs.Admission.{admissionRefusal, withPacket, handedBack, admit}
 use Rattle.rules.specs.Probe.{Contender, Answer, Open, transmitters, refusedAnswer, unheard, heard, probe}
 use Rattle.rules.specs.Step.{opened, stepRefusal, step}
+use Rattle.rules.proofs.TurnedAway.{back-cases}
 use Rattle.rules.proofs.Standing.{accepted-set-up}
 use Rattle.rules.proofs.Keeps.{keepsStanding, opened-same}
 use Rattle.rules.proofs.Reach.{call-cases, step-stands}
@@ -87,8 +88,8 @@ admit-sent b a =
     (λ (x : Admitted × Bus). x .1 .sent ≡ b .sent)
     (admissionRefusal b a)
     (record { refusal = 0; number = suc (b .admitted) }, withPacket b a)
-    (λ n. (record { refusal = n; number = 0 }, b))
-    (λ n. refl)
+    (λ n. (record { refusal = n; number = 0 }, handedBack b n))
+    (λ n. back-cases (λ (m : Bus). m .sent ≡ b .sent) b (admissionRefusal b a) (λ e. refl) (λ e. refl))
     (λ z. refl)
 
 -- nor do all of them
@@ -160,6 +161,7 @@ fits-of b said h few =
       sent = omega (arith, h .admitted-in, h .counts);
       lost = omega (arith, h .admitted-in, h .counts);
       waiting = omega (arith, h .admitted-in, h .counts);
+      turned = omega (arith, h .turned-in);
       wait = few;
     }
 
@@ -169,7 +171,7 @@ fits input = go (reading input) (sound input)
     go : (y : Reading) → Sound input y → Fits (measuredOf y .run)
     go (refused number offset) bears =
         record
-        { balanced = refl; admitted = omega arith; sent = omega arith; lost = omega arith; waiting = omega arith; wait = omega arith }
+        { balanced = refl; admitted = omega arith; sent = omega arith; lost = omega arith; waiting = omega arith; turned = omega arith; wait = omega arith }
     go (accepted r arrivals steps) ok =
         let h = keepsStanding .set-up r (ok .0) in
         fits-of

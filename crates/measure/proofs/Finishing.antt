@@ -108,12 +108,13 @@ pub record Fit (t : Totals) : Type 0 where
   pub sent : t .sent < 4_294_967_296
   pub lost : t .lost < 4_294_967_296
   pub waiting : t .waiting < 4_294_967_296
+  pub turned : t .turned < 4_294_967_296
 
 -- as those of any state do: where it stands, no more packets were sent, lost or wait than were admitted; where it does not, they are zeros
 pub totals-fit : (s : State) → Fit (totalsOf s)
 totals-fit s = go (standing s) refl
   where
-    go : (t : Bool) → standing s ≡ t → Fit (totalsBy s t (meaning s))
+    go : (t : Bool) → standing s ≡ t → Fit (totalsBy t (meaning s))
     go true e =
         let h = tells (stands-exactly (meaning s)) (and-true (padded s) (stands (meaning s)) e .1) in
         record {
@@ -121,12 +122,13 @@ totals-fit s = go (standing s) refl
           sent = omega (arith, h .admitted-in, h .counts);
           lost = omega (arith, h .admitted-in, h .counts);
           waiting = omega (arith, h .admitted-in, h .counts);
+          turned = omega (arith, h .turned-in);
         }
-    go false e = record { admitted = omega arith; sent = omega arith; lost = omega arith; waiting = omega arith }
+    go false e = record { admitted = omega arith; sent = omega arith; lost = omega arith; waiting = omega arith; turned = omega arith }
 
 -- the run that the totals of a state and a longest wait make
 abbrev pub runWith : Totals → ℕ → Run
-runWith t wait = record { admitted = t .admitted; sent = t .sent; lost = t .lost; waiting = t .waiting; wait = wait }
+runWith t wait = record { admitted = t .admitted; sent = t .sent; lost = t .lost; waiting = t .waiting; turned = t .turned; wait = wait }
 
 -- it finishes a run that has no steps left
 pub at-last :

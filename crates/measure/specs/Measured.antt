@@ -32,7 +32,8 @@ longestWait (a ∷ later) = longer (waitIn a) (longestWait later)
 
 -- the run that has come to a bus, with a longest wait
 abbrev pub runOf : Bus → ℕ → Run
-runOf b wait = record { admitted = b .admitted; sent = b .sent; lost = b .lost; waiting = waiting (b .stations); wait = wait }
+runOf b wait =
+    record { admitted = b .admitted; sent = b .sent; lost = b .lost; waiting = waiting (b .stations); turned = b .turned; wait = wait }
 
 -- a finished run, from the bus at its end and the answers to its steps
 abbrev pub finished : Bus → List Answer → Run
@@ -55,4 +56,5 @@ pub record Fits (x : Run) : Type 0 where
   pub sent : x .sent < 4_294_967_296
   pub lost : x .lost < 4_294_967_296
   pub waiting : x .waiting < 4_294_967_296
+  pub turned : x .turned < 4_294_967_296
   pub wait : x .wait < 4_294_967_296

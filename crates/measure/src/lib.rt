@@ -87,6 +87,7 @@ fn played(input: &[u8], from: State, first: usize, most: u32) -> Run
         sent: totals.sent as u32,
         lost: totals.lost as u32,
         waiting: totals.waiting as u32,
+        turned: totals.turned as u32,
         wait: longest,
     }
 }

@@ -130,9 +130,12 @@ cast-t16 c = let h = fit (c .before .before .before) in omega (arith, h .lost)
 cast-t17 : tie.Need-cast-t17 Inv-loop μ-loop
 cast-t17 c = let h = fit (c .before .before .before .before) in omega (arith, h .waiting)
 
+cast-t18 : tie.Need-cast-t18 Inv-loop μ-loop
+cast-t18 c = let h = fit (c .before .before .before .before .before) in omega (arith, h .turned)
+
 returns : tie.Need-returns Inv-loop μ-loop
 returns c =
-    let closed = c .before .before .before .before in
+    let closed = c .before .before .before .before .before in
     let at = closed .before .before in
     let input = at .before .before .args .input .now in
     let run = runWith (closed .closing .result) (at .loop .longest) in
@@ -162,4 +165,5 @@ played-spec =
     cast-t15
     cast-t16
     cast-t17
+    cast-t18
     returns)
