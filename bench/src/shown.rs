@@ -26,6 +26,7 @@ pub struct End {
     pub sent: u64,
     pub lost: u64,
     pub waiting: u64,
+    pub turned_away: u64,
 }
 
 /// All of it. Arrivals are refused only because a queue is full.
@@ -85,11 +86,12 @@ impl Reading<'_> {
         match words {
             ["R", slot, address, "15"] => self.refuse(number(slot), number(address)),
             ["D", count] => self.dropped += number::<usize>(count),
-            ["END", _, _, sent, lost, waiting] => {
+            ["END", _, _, sent, lost, waiting, turned_away] => {
                 self.shown.end = End {
                     sent: number(sent),
                     lost: number(lost),
                     waiting: number(waiting),
+                    turned_away: number(turned_away),
                 }
             }
             [slot, phase, start, size, event @ ..] => {
@@ -213,7 +215,7 @@ mod tests {
         assert_eq!(each(&shown, |contention| usize::from(contention.sent)), [1, 0]);
         assert_eq!(shown.contentions[0].smallest_tie, 1);
         assert_eq!((shown.refused, shown.slots()), (1, 5));
-        assert_eq!((shown.end.sent, shown.end.lost, shown.end.waiting), (1, 0, 16));
+        assert_eq!((shown.end.sent, shown.end.lost, shown.end.waiting, shown.end.turned_away), (1, 0, 16, 1));
     }
 
     /// The settled example of two packets that are late before either can be sent.
@@ -222,6 +224,6 @@ mod tests {
         let shown = shown(&small(RTDG, &[(0, 0), (1, 1)], 4));
         assert_eq!(each(&shown, |contention| contention.probes), [3, 1]);
         assert_eq!(each(&shown, |contention| contention.waiting), [2, 0]);
-        assert_eq!((shown.end.sent, shown.end.lost, shown.end.waiting), (0, 2, 0));
+        assert_eq!((shown.end.sent, shown.end.lost, shown.end.waiting, shown.end.turned_away), (0, 2, 0, 0));
     }
 }
