@@ -118,7 +118,7 @@ fn step(s: State) -> State {
     r.state
 }
 
-// 'T refusal clock admitted sent lost waiting'
+// 'T refusal clock admitted sent lost waiting turned-away'
 fn totals(s: State) {
     let t = bus::closing(s);
     let numbers = [
@@ -128,6 +128,7 @@ fn totals(s: State) {
         t.sent,
         t.lost,
         t.waiting,
+        t.turned,
     ];
     lines::write(b"T", &numbers);
 }

@@ -76,6 +76,7 @@ pub fn edited(s: State, field: u64, index: u64, value: u64) -> State {
         29 => g.admissions[i].0 = half,
         30 => q.packets[j].admission.0 = half,
         31 => g.contenders = value,
+        32 => g.turned = value,
         _ => {}
     }
     State {

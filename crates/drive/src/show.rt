@@ -22,11 +22,11 @@ fn settings(s: Settings) {
     lines::write(b"settings", &numbers);
 }
 
-// 'clock slot', 'counts admitted sent lost'
-fn counts(slot: u32, admitted: u64, sent: u64, lost: u64) {
+// 'clock slot', 'counts admitted sent lost turned-away'
+fn counts(slot: u32, admitted: u64, sent: u64, lost: u64, turned: u64) {
     let clock = [slot as u64];
     lines::write(b"clock", &clock);
-    let numbers = [admitted, sent, lost];
+    let numbers = [admitted, sent, lost, turned];
     lines::write(b"counts", &numbers);
 }
 
@@ -142,7 +142,7 @@ fn packets(row: [Packet; 1024]) {
 // The five lines that stand always, the stations and the contenders.
 fn segment(g: Segment) {
     settings(g.settings);
-    counts(g.clock.0, g.admitted, g.sent, g.lost);
+    counts(g.clock.0, g.admitted, g.sent, g.lost, g.turned);
     round(g.round);
     contention(g.contention);
     let listed = g.listed;

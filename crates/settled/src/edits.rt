@@ -23,6 +23,12 @@ pub fn with_counts(s: State, admitted: u64, sent: u64, lost: u64) -> State {
     with_segment(s, g)
 }
 
+pub fn with_turned(s: State, turned: u64) -> State {
+    let mut g = s.segment;
+    g.turned = turned;
+    with_segment(s, g)
+}
+
 pub fn with_word(s: State, word: u64) -> State {
     let mut g = s.segment;
     g.contenders = word;

@@ -1,9 +1,7 @@
 // Lines of what the calls answer: a label, a colon, and numbers.
+use crate::segments;
 use bus::Answer;
-use bus::Arrivals;
-use rules::Slot;
 use sorts::Address;
-use state::Arrival;
 use state::Row;
 use state::Settings;
 use state::State;
@@ -62,6 +60,32 @@ pub fn admitted(text: &[u8], s: State, address: u32, value: u32, length: u32) {
     newline();
 }
 
+// The packets admitted, sent, lost and turned away of a state; the refusal and the packets turned away that it closes with.
+fn counting(s: State) {
+    let t = bus::closing(s);
+    word(s.segment.admitted);
+    word(s.segment.sent);
+    word(s.segment.lost);
+    word(s.segment.turned);
+    number(t.refusal);
+    word(t.turned);
+    newline();
+}
+
+// A state's counts; and those after an admission, with its refusal.
+pub fn counts(text: &[u8], s: State) {
+    label(text);
+    counting(s);
+}
+
+pub fn counted(text: &[u8], s: State, address: u32, value: u32, length: u32) {
+    let r = bus::admit(s, Address(address), value, length);
+    let a = r.answer;
+    label(text);
+    number(a.refusal);
+    counting(r.state);
+}
+
 // A step, and a probe: all of its answer.
 pub fn stepped(text: &[u8], s: State) {
     let r = bus::step(s);
@@ -116,23 +140,9 @@ fn answered(text: &[u8], a: Answer) {
     newline();
 }
 
-// A row with so many arrivals that are due at once: a packet of length 1 and value 0 at address 1.
-fn coming(length: usize) -> Arrivals {
-    let a = Arrival {
-        time: Slot(0),
-        address: Address(1),
-        value: 0,
-        length: 1,
-    };
-    Arrivals {
-        row: [a; 64],
-        length,
-    }
-}
-
 // A step made in a stretch: its refusal, how many calls were made, and the steps that are left.
 pub fn in_stretch(text: &[u8], s: State) {
-    let arrivals = coming(0);
+    let arrivals = segments::coming(0);
     let d = bus::play(s, arrivals, 1);
     let r = d.reports[0];
     let a = r.answer;
@@ -169,7 +179,7 @@ pub fn lent(text: &[u8], s: State) {
     let a = bus::admit(s, Address(1), 0, 1);
     let b = bus::step(s);
     let c = bus::closing(s);
-    let arrivals = coming(1);
+    let arrivals = segments::coming(1);
     let d = bus::play(s, arrivals, 1);
     label(text);
     let x = a.answer;

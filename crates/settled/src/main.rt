@@ -4,6 +4,7 @@ mod edits;
 mod lines;
 mod refusals;
 mod segments;
+mod turned;
 
 // 'Clock 1,073,737,728 steps; 1,073,737,729 gives 17.'
 fn clock_end() {
@@ -155,5 +156,6 @@ fn main() {
     words();
     beginnings();
     late_beginnings();
+    turned::each();
     refusals::each();
 }

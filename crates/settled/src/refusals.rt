@@ -78,7 +78,7 @@ fn calls() {
     lines::admitted(b"13, length 4097", s, 5, 2, 4_097);
     let later = edits::with_clock(datagrams, 8);
     lines::admitted(b"14, latest start 7 at clock 8", later, 5, 7, 1);
-    let full = segments::eight_more(segments::eight_more(s));
+    let full = segments::full(s);
     lines::admitted(b"15, a full queue", full, 5, 2, 1);
     let all = edits::with_counts(s, 4_294_967_295, 4_294_967_293, 0);
     lines::admitted(b"16, 4294967295 admitted", all, 5, 2, 1);
@@ -92,11 +92,19 @@ fn count(text: &[u8], s: State, admitted: u64, sent: u64, lost: u64) {
     lines::lent(text, edits::with_counts(s, admitted, sent, lost));
 }
 
-// 1: 'clock and admitted count within range; admitted = sent + lost + waiting'
+// 1: 'clock and admitted count within range; admitted = sent + lost + waiting'; the packets turned away up to their stop
 fn counts() {
     let s = segments::two_waiting();
     lines::lent(b"clock 1073741825", edits::with_clock(s, 1_073_741_825));
     count(b"admitted 4294967296", s, 4_294_967_296, 4_294_967_294, 0);
+    lines::lent(
+        b"turned away 4294967296",
+        edits::with_turned(s, 4_294_967_296),
+    );
+    lines::lent(
+        b"turned away 4294967295",
+        edits::with_turned(s, 4_294_967_295),
+    );
     count(b"admitted one too many", s, 3, 0, 0);
     count(b"sent one too many", s, 2, 1, 0);
     count(b"lost one too many", s, 2, 0, 1);

@@ -1,6 +1,9 @@
 // The segments that the examples start from.
+use bus::Arrivals;
+use rules::Slot;
 use sorts::Address;
 use sorts::Capability;
+use state::Arrival;
 use state::Listed;
 use state::Row;
 use state::Settings;
@@ -96,6 +99,26 @@ pub fn probe(s: State) -> State {
     r.state
 }
 
+// A row with so many arrivals that are due at once: a packet of length 1 and value 0 at address 1.
+pub fn coming(length: usize) -> Arrivals {
+    let a = Arrival {
+        time: Slot(0),
+        address: Address(1),
+        value: 0,
+        length: 1,
+    };
+    Arrivals {
+        row: [a; 64],
+        length,
+    }
+}
+
+// The state after a stretch of so many such arrivals and a step.
+pub fn stretch(s: State, length: usize) -> State {
+    let d = bus::play(s, coming(length), 1);
+    d.state
+}
+
 // Packets 1 and 2 at stations 5 and 6, priority 2, lengths 3 and 1.
 pub fn two_waiting() -> State {
     admit(admit(pri(), 5, 2, 3), 6, 2, 1)
@@ -110,6 +133,11 @@ pub fn seven_more(s: State) -> State {
 pub fn eight_more(s: State) -> State {
     let t = seven_more(s);
     admit(t, 5, 2, 1)
+}
+
+// Sixteen packets of one slot for station 5.
+pub fn full(s: State) -> State {
+    eight_more(eight_more(s))
 }
 
 fn three_more(s: State) -> State {
