@@ -12,7 +12,7 @@ pub const SEED: u64 = 1;
 pub const SCENARIOS: usize = 4_000;
 pub const SCRIPTS: usize = 1_160;
 pub const FILES: usize = 40;
-pub const RUNS: usize = 420;
+pub const RUNS: usize = 480;
 
 /// Some cases of one kind. Scripts that end with whole commands can be joined to one.
 pub struct Set {
