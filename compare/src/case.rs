@@ -47,7 +47,7 @@ pub enum Shows {
     Lacks(String),
     /// A line that begins so.
     Begins(&'static str),
-    /// Of a listing: a closing line.
+    /// Of a listing: a closing line, whose last number is that of the arrivals refused with 14 or 15.
     End,
     /// Of a listing: packets that are dropped.
     Drop,
@@ -63,6 +63,8 @@ pub enum Shows {
     Answers(Vec<Option<String>>),
     /// Of a script: all that it writes, a line each; a state is `same` where it is the one written before it, else `state`.
     Writes(Vec<String>),
+    /// Of a script: of each state, in order, whether it is the one written before it.
+    Same(Vec<bool>),
     /// Of a script: a begin or probe right after closing numbers, of which there is one, is refused: with 1 where those are,
     /// else with this number.
     Refused(u8),
@@ -95,21 +97,32 @@ impl Shows {
             Shows::Line(line) => text.lines().any(|other| other == line),
             Shows::Lacks(line) => text.lines().all(|other| other != line),
             Shows::Begins(part) => text.lines().any(|line| line.starts_with(part)),
-            Shows::End => begins("END"),
+            Shows::End => is_closed(text),
             Shows::Drop => begins("D"),
             Shows::Tie => text.contains(" T "),
-            Shows::Turned(number) => {
-                text.lines().any(|line| line.starts_with("R ") && line.ends_with(&format!(" {number}")))
-            }
+            Shows::Turned(number) => turned(text).any(|other| other == number.to_string()),
             Shows::Stands => closing(text).next() == Some(true),
             Shows::AllStand => closing(text).next().is_some() && closing(text).all(|stands| stands),
             Shows::Answers(answers) => are_answers(answers, text),
             Shows::Writes(lines) => written(text) == *lines,
+            Shows::Same(same) => states(text).eq(same.iter().copied()),
             Shows::Refused(number) => are_refused(text, *number),
             Shows::Pairs => are_pairs(text),
             Shows::Broken(address) => is_broken(text, *address),
         }
     }
+}
+
+/// The numbers by which arrivals of a listing are refused.
+fn turned(text: &str) -> impl Iterator<Item = &str> {
+    text.lines().filter(|line| line.starts_with("R ")).filter_map(|line| line.rsplit(' ').next())
+}
+
+/// Whether a listing has a closing line as `Shows::End` says.
+fn is_closed(text: &str) -> bool {
+    let away = turned(text).filter(|number| ["14", "15"].contains(number)).count();
+    let words: Vec<&str> = text.lines().last().unwrap_or_default().split(' ').collect();
+    matches!(words[..], ["END", _, _, _, _, _, last] if last == away.to_string())
 }
 
 /// Of each closing numbers, whether the state stands.
@@ -128,7 +141,8 @@ fn are_answers(answers: &[Option<String>], text: &str) -> bool {
 pub fn refused(letter: char, number: u8) -> String {
     let zeros = match letter {
         'A' | 'U' => 1,
-        'B' | 'T' => 5,
+        'B' => 5,
+        'T' => 6,
         _ => 11,
     };
     format!("{letter} {number}{}", " 0".repeat(zeros))
@@ -164,6 +178,11 @@ fn written(text: &str) -> Vec<&str> {
         rest = after;
     }
     lines
+}
+
+/// Of each state that a script writes, whether it is the one written before it.
+fn states(text: &str) -> impl Iterator<Item = bool> + '_ {
+    written(text).into_iter().filter(|line| ["same", "state"].contains(line)).map(|line| line == "same")
 }
 
 /// Whether begins and probes right after closing numbers are refused as `Shows::Refused` says.
@@ -229,13 +248,21 @@ mod tests {
         shows(Shows::Line("D 2".to_string()), "D 1\nD 2\n", "D 22\n");
         shows(Shows::Lacks("D 2".to_string()), "D 22\n", "D 1\nD 2\n");
         shows(Shows::Begins("REFUSED 24 "), "REFUSED 24 1\n", "REFUSED 2 24 1\n");
-        shows(Shows::End, "0 P 0 4 I\nEND 1 0 0 0 0\n", "REFUSED 18 0\n");
-        shows(Shows::Drop, "D 2\nEND 1 0 0 0 0\n", "END 1 0 0 0 0\n");
+        shows(Shows::End, "0 P 0 4 I\nEND 1 0 0 0 0 0\n", "REFUSED 18 0\n");
+        shows(Shows::Drop, "D 2\nEND 1 0 0 0 0 0\n", "END 1 0 0 0 0 0\n");
         shows(Shows::Tie, "4 T 0 8 C\n", "4 P 0 8 C\n");
         shows(Shows::Turned(15), "R 0 7 15\n", "R 0 15 11\n");
-        shows(Shows::Stands, "T 0 1 0 0 0 0\nT 1 0 0 0 0 0\n", "T 1 0 0 0 0 0\nT 0 1 0 0 0 0\n");
-        shows(Shows::AllStand, "T 0 1 0 0 0 0\n", "T 0 1 0 0 0 0\nT 1 0 0 0 0 0\n");
+        shows(Shows::Stands, "T 0 1 0 0 0 0 0\nT 1 0 0 0 0 0 0\n", "T 1 0 0 0 0 0 0\nT 0 1 0 0 0 0 0\n");
+        shows(Shows::AllStand, "T 0 1 0 0 0 0 0\n", "T 0 1 0 0 0 0 0\nT 1 0 0 0 0 0 0\n");
         shows(Shows::Answers(vec![None, Some("A 0 1".to_string())]), "U 0 0\nA 0 1\nend\n", "A 0 1\nU 0 0\n");
+    }
+
+    #[test]
+    fn a_closing_line_counts_the_packets_turned_away() {
+        let text = |number: u8, fields: &str| format!("R 0 7 11\nR 0 7 {number}\nR 9 14 15\nEND 9 1 1 0 0{fields}\n");
+        shows(Shows::End, &text(14, " 2"), &text(13, " 2"));
+        shows(Shows::End, &text(12, " 1"), &text(14, " 3"));
+        shows(Shows::End, &text(15, " 2"), &text(15, ""));
     }
 
     fn state(clock: u32) -> String {
@@ -247,11 +274,12 @@ mod tests {
         let text = |clock| format!("B 0 0 0 0 4 0\n{}{}O 26\n{}", state(8), state(9), state(clock));
         let lines = ["B 0 0 0 0 4 0", "state", "state", "O 26", "same"].map(str::to_string).to_vec();
         shows(Shows::Writes(lines), &text(9), &text(8));
+        shows(Shows::Same(vec![false, false, true]), &text(9), &text(8));
     }
 
     #[test]
     fn refusals_go_with_closing_numbers() {
-        let text = |begin: &str| format!("T 0 1 0 0 0 0\n{begin}\nT 1 0 0 0 0 0\nB 1 0 0 0 0 0\nS 0\nB 0\n");
+        let text = |begin: &str| format!("T 0 1 0 0 0 0 0\n{begin}\nT 1 0 0 0 0 0 0\nB 1 0 0 0 0 0\nS 0\nB 0\n");
         shows(Shows::Refused(25), &text("B 25 0 0 0 0 0"), &text("B 1 0 0 0 0 0"));
         shows(Shows::Refused(25), &text("B 25 0 0 0 0 0"), &text("B 25 0 0 0 0 1"));
         shows(Shows::Refused(26), "T 1 0\nO 1 0 0 0 0 0 0 0 0 0 0 0\n", "T 1 0\nS 1\n");
@@ -271,7 +299,7 @@ mod tests {
     #[test]
     fn a_broken_state_comes_back_as_it_was() {
         let refused = all_refused("9", 7);
-        let text = |stands: u8, after| format!("U 0 0\nT {stands} 9 0 0 0 0\n{}{refused}{}", state(9), state(after));
+        let text = |stands: u8, after| format!("U 0 0\nT {stands} 9 0 0 0 0 0\n{}{refused}{}", state(9), state(after));
         shows(Shows::Broken(7), &text(0, 9), &text(0, 10));
         shows(Shows::Broken(7), &text(0, 9), &text(1, 9));
     }

@@ -13,6 +13,8 @@ pub const LAST_SLOT: u32 = 1_073_741_824;
 pub const LAST_STEP: u32 = 1_073_737_728;
 /// The most packets that are admitted, which is the highest number of one.
 pub const LAST_NUMBER: u64 = 4_294_967_295;
+/// The most packets that are counted as turned away: there the count stops.
+pub const MOST_TURNED_AWAY: u64 = 4_294_967_295;
 /// The longest packet.
 pub const LONGEST_PACKET: u16 = 4_096;
 /// The places of a station's queue, and the stations of a full segment.

@@ -12,7 +12,7 @@ pub const SEED: u64 = 1;
 pub const SCENARIOS: usize = 4_000;
 pub const SCRIPTS: usize = 1_160;
 pub const FILES: usize = 40;
-pub const RUNS: usize = 420;
+pub const RUNS: usize = 480;
 
 /// Some cases of one kind. Scripts that end with whole commands can be joined to one.
 pub struct Set {
@@ -73,10 +73,13 @@ pub fn tables() -> Vec<Set> {
         Set::listed("faults of admissions, none or more", Kind::Script, script::admissions()),
         Set::listed("states of scripts/lent.table", Kind::Script, script::listed()),
         Set::listed("fields of lent states", Kind::Script, script::swept()),
-        Set::listed("rows of scripts/begin.table", Kind::Script, script::written()),
+        Set::listed("rows of scripts/begin.table", Kind::Script, script::written(script::BEGIN)),
         Set::listed("orders of 1, 25, 26 and 17", Kind::Script, script::orders()),
         Set::listed("contenders as a contention begins", Kind::Script, script::contenders()),
         Set::listed("steps, and begins and probes", Kind::Script, script::pairs()),
+        Set::listed("rows of scripts/turned-away.table", Kind::Script, script::written(script::TURNED_AWAY)),
+        Set::listed("admissions refused, by the count before", Kind::Script, script::refusals()),
+        Set::listed("stretches of refused admissions", Kind::Script, script::stretches()),
         Set { joins: false, ..Set::listed("odd texts", Kind::Script, script::odd_texts()) },
         Set::listed("losses of runs", Kind::Runs, batch::losses()),
         Set::listed("how many runs there are", Kind::Runs, batch::counts()),

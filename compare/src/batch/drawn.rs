@@ -1,6 +1,6 @@
 //! Seeded batches, for what no table foresees: of runs by classes, which go in rotation, and of seeded scenarios.
 
-use super::sheet::{bytes, Run, MOST_RUNS};
+use super::sheet::{bytes, turned_away_of, Loss, Run, BEFORE_RUNS, MOST_RUNS, RUN_BYTES};
 use crate::case::{Case, File, Holds, Shows};
 use crate::scenario;
 use crate::seeded::Numbers;
@@ -19,6 +19,7 @@ const CLASSES: &[Class] = &[
     Class("equal losses", equal, &[HIGHEST]),
     Class("losses next to each other", next_to, &[HIGHEST]),
     Class("any counts", |numbers, many| batch(&runs(many, || any(numbers))), &[HIGHEST]),
+    Class("losses past 64 bits", |numbers, many| batch(&runs(many, || large(numbers))), &[HIGHEST]),
     Class("runs that do not balance", unbalanced, &[UNBALANCED]),
     Class("counts and lengths of no batch", odd, &[]),
 ];
@@ -45,31 +46,39 @@ fn below(numbers: &mut Numbers, bound: u32) -> u32 {
 }
 
 fn small(numbers: &mut Numbers) -> Run {
-    let [sent, lost, waiting, wait] = [4, 4, 3, 20].map(|bound| below(numbers, bound));
-    Run::balanced(sent, lost, waiting, wait)
+    let [sent, lost, waiting, turned_away, wait] = [4, 4, 3, 3, 20].map(|bound| below(numbers, bound));
+    Run::balanced(sent, lost, waiting, wait).turning_away(turned_away)
 }
 
-/// Mostly nothing lost or sent, else mostly nothing lost.
+/// Mostly nothing lost, turned away or sent, else mostly nothing lost or turned away.
 fn few_figures(numbers: &mut Numbers) -> Run {
-    let [sent, lost, waiting, wait] = [3, 2, 99, 20].map(|bound| below(numbers, bound));
-    match numbers.below(8) {
-        0 => Run::balanced(sent, lost, waiting, wait),
+    let [sent, lost, waiting, turned_away, wait] = [3, 2, 99, 3, 20].map(|bound| below(numbers, bound));
+    match numbers.below(12) {
+        0 => Run::balanced(sent, lost, waiting, wait).turning_away(turned_away),
         1 => Run::balanced(sent, 0, waiting, wait),
+        2 => Run::balanced(0, 0, waiting, wait).turning_away(turned_away),
         _ => Run::balanced(0, 0, waiting, wait),
     }
 }
 
 /// Counts of any size, at least one lost.
 fn any(numbers: &mut Numbers) -> Run {
-    let most = u64::from(u32::MAX) >> numbers.below(32);
+    let [most, turned_away] = [(); 2].map(|()| u64::from(u32::MAX) >> numbers.below(32));
     let admitted = numbers.between((1, most));
     let lost = numbers.between((1, admitted));
     let sent = numbers.between((0, admitted - lost));
-    Run::balanced(sent as u32, lost as u32, (admitted - lost - sent) as u32, numbers.number() as u32)
+    let turned_away = numbers.below(turned_away + 1) as u32;
+    let run = Run::balanced(sent as u32, lost as u32, (admitted - lost - sent) as u32, numbers.number() as u32);
+    run.turning_away(turned_away)
 }
 
-/// A loss: the packets lost, and those lost or sent.
-type Loss = (u64, u64);
+/// Counts near the highest, so that losses have products past 64 bits.
+fn large(numbers: &mut Numbers) -> Run {
+    let near = |numbers: &mut Numbers| numbers.between((u64::from(u32::MAX) / 2, u32::MAX.into())) as u32;
+    let (ended, turned_away) = (near(numbers), near(numbers));
+    let sent = below(numbers, ended);
+    Run::balanced(sent, ended - sent, 0, 1).turning_away(numbers.pick(&[turned_away, turned_away, u32::MAX]))
+}
 
 /// Three losses, each of as many packets or of many more.
 fn equal(numbers: &mut Numbers, many: usize) -> Vec<u8> {
@@ -80,26 +89,36 @@ fn equal(numbers: &mut Numbers, many: usize) -> Vec<u8> {
     batch(&runs(many, || times(numbers, &losses)))
 }
 
-/// A run of one of some losses, with its packets some or many times over.
+/// A run of one of some losses, with its packets some or many times over, some, all or none of which are turned away.
 fn times(numbers: &mut Numbers, losses: &[Loss]) -> Run {
     let (lost, ended) = numbers.pick(losses);
-    let most = u64::from(u32::MAX) / ended;
+    let most = most_times((lost, ended));
     let (few, some) = (numbers.between((1, most.min(4))), numbers.between((1, most)));
     let times = numbers.pick(&[1, few, some, most]);
-    let waiting = numbers.between((0, 3)).min(u64::from(u32::MAX) - times * ended);
-    Run::balanced((times * (ended - lost)) as u32, (times * lost) as u32, waiting as u32, below(numbers, 1_000))
+    let loss = (times * lost, times * ended);
+    let (least, most) = turned_away_of(loss);
+    let any = numbers.between((least, most));
+    Run::of(loss, numbers.pick(&[least, any, most]), below(numbers, 4), below(numbers, 1_000))
+}
+
+/// How often a loss has room in a run: what is sent in 32 bits, what has ended in twice as much.
+fn most_times((lost, ended): Loss) -> u64 {
+    let most = u64::from(u32::MAX);
+    (2 * most / ended).min(most / (ended - lost).max(1))
 }
 
 /// Two losses whose products differ by 1, mostly of as many packets as may be. Such are 0/1 and 1/1, and each of two such ones
 /// with the loss between them that has the packets of both.
 fn next_to(numbers: &mut Numbers, many: usize) -> Vec<u8> {
-    let most = numbers.pick(&[1_000, u32::MAX, u32::MAX, u32::MAX]).into();
+    let most = numbers.pick(&[1_000, u64::MAX, u64::MAX, u64::MAX]);
     let (mut low, mut high): (Loss, Loss) = ((0, 1), (1, 1));
-    while low.1 + high.1 <= most {
+    loop {
         let between = (low.0 + high.0, low.1 + high.1);
+        if between.1 > most || most_times(between) == 0 {
+            return batch(&runs(many, || times(numbers, &[low, low, high])));
+        }
         *(if numbers.once_in(2) { &mut low } else { &mut high }) = between;
     }
-    batch(&runs(many, || times(numbers, &[low, low, high])))
 }
 
 /// Runs of small counts, of which one in four does not balance, and one does not for certain.
@@ -133,7 +152,7 @@ fn odd(numbers: &mut Numbers, many: usize) -> Vec<u8> {
     let count = numbers.pick(&[many as u64, many as u64, fewer, fewer, many as u64 + 1, MOST_RUNS as u64, far]);
     let mut input = bytes(count, &runs);
     let (cut, few) = (numbers.place(input.len()), numbers.place(many));
-    input.resize(numbers.pick(&[input.len(), cut, 8 + 20 * few, input.len() + 7]), 1);
+    input.resize(numbers.pick(&[input.len(), cut, BEFORE_RUNS + RUN_BYTES * few, input.len() + 7]), 1);
     input
 }
 
@@ -175,21 +194,26 @@ mod tests {
     use super::*;
     use std::collections::BTreeSet;
 
-    /// The runs of a hundred batches of a class, five numbers each.
-    fn batches(class: &'static str) -> Vec<Vec<[u64; 5]>> {
-        let numbers =
-            |run: &[u8]| [0, 4, 8, 12, 16].map(|at| (0..4).map(|byte| u64::from(run[at + byte]) << (8 * byte)).sum());
+    /// The run of some bytes.
+    fn read(bytes: &[u8]) -> Run {
+        let number = |at: usize| u32::from_le_bytes([0, 1, 2, 3].map(|byte| bytes[4 * at + byte]));
+        let [admitted, sent, lost, waiting, turned_away, wait] = [0, 1, 2, 3, 4, 5].map(number);
+        Run { admitted, sent, lost, waiting, turned_away, wait }
+    }
+
+    /// The runs of a hundred batches of a class.
+    fn batches(class: &'static str) -> Vec<Vec<Run>> {
         let cases = (0..100 * CLASSES.len()).map(|number| drawn_runs(1, number)).filter(|case| case.name == class);
-        cases.map(|case| case.input[8..].chunks_exact(20).map(numbers).collect()).collect()
+        cases.map(|case| case.input[BEFORE_RUNS..].chunks_exact(RUN_BYTES).map(read).collect()).collect()
     }
 
     /// The losses of a batch's runs that have a figure.
-    fn losses(runs: &[[u64; 5]]) -> Vec<Loss> {
-        runs.iter().map(|[_, sent, lost, ..]| (*lost, lost + sent)).filter(|(_, ended)| *ended > 0).collect()
+    fn losses(runs: &[Run]) -> Vec<Loss> {
+        runs.iter().map(Run::loss).filter(|(_, ended)| *ended > 0).collect()
     }
 
     /// How many of a class's batches are so.
-    fn many(class: &'static str, are: impl Fn(&[[u64; 5]]) -> bool) -> usize {
+    fn many(class: &'static str, are: impl Fn(&[Run]) -> bool) -> usize {
         batches(class).iter().filter(|runs| are(runs)).count()
     }
 
@@ -199,8 +223,12 @@ mod tests {
         losses.iter().filter(none_above).copied().collect()
     }
 
-    fn exactly((a, b): &Loss, (c, d): &Loss) -> (u64, u64) {
-        (a * d, c * b)
+    fn exactly(&(a, b): &Loss, &(c, d): &Loss) -> (u128, u128) {
+        (u128::from(a) * u128::from(d), u128::from(c) * u128::from(b))
+    }
+
+    fn modulo(&(a, b): &Loss, &(c, d): &Loss) -> (u64, u64) {
+        (a.wrapping_mul(d), c.wrapping_mul(b))
     }
 
     fn roughly((a, b): &Loss, (c, d): &Loss) -> (f64, f64) {
@@ -209,13 +237,13 @@ mod tests {
 
     #[test]
     fn the_highest_loss_is_often_that_of_several() {
-        let are = |runs: &[[u64; 5]]| highest(&losses(runs), exactly).into_iter().collect::<BTreeSet<_>>().len() > 1;
+        let are = |runs: &[Run]| highest(&losses(runs), exactly).into_iter().collect::<BTreeSet<_>>().len() > 1;
         assert!(many("equal losses", are) > 40 && many("small counts", are) > 10);
     }
 
     #[test]
     fn the_highest_loss_is_often_close_to_an_earlier_one() {
-        let are = |runs: &[[u64; 5]]| {
+        let are = |runs: &[Run]| {
             let losses = losses(runs);
             highest(&losses, roughly).first() != highest(&losses, exactly).first()
         };
@@ -223,16 +251,34 @@ mod tests {
     }
 
     #[test]
+    fn the_highest_loss_is_often_another_modulo_2_to_the_64() {
+        let are = |runs: &[Run]| {
+            let losses = losses(runs);
+            highest(&losses, modulo).first() != highest(&losses, exactly).first()
+        };
+        assert!(many("losses past 64 bits", are) > 40);
+        let past = |(a, b): (u128, u128)| a != b && a.min(b) > u64::MAX.into();
+        let pass = |runs: &[Run]| losses(runs).windows(2).any(|pair| past(exactly(&pair[0], &pair[1])));
+        assert!(many("losses next to each other", pass) > 20);
+    }
+
+    #[test]
+    fn packets_are_often_only_turned_away() {
+        let only = |run: &Run| run.turned_away > 0 && run.lost + run.sent == 0;
+        assert!(many("few figures", |runs| runs.iter().any(only)) > 20);
+    }
+
+    #[test]
     fn figures_are_often_missing() {
-        let first = |runs: &[[u64; 5]]| losses(&runs[..1]).is_empty() && !losses(runs).is_empty();
+        let first = |runs: &[Run]| losses(&runs[..1]).is_empty() && !losses(runs).is_empty();
         assert!(many("few figures", first) > 20 && many("few figures", |runs| losses(runs).is_empty()) > 20);
     }
 
     #[test]
     fn runs_do_not_balance_in_several_ways() {
-        let sum = |[_, sent, lost, waiting, _]: &[u64; 5]| sent + lost + waiting;
-        let first = |runs: &[[u64; 5]]| runs.iter().position(|run| run[0] != sum(run)).expect("one does not");
-        let around = |runs: &[[u64; 5]]| runs[first(runs)][0] == sum(&runs[first(runs)]) & u64::from(u32::MAX);
+        let sum = |run: &Run| u64::from(run.sent) + u64::from(run.lost) + u64::from(run.waiting);
+        let first = |runs: &[Run]| runs.iter().position(|run| sum(run) != run.admitted.into()).expect("one does not");
+        let around = |runs: &[Run]| runs[first(runs)].admitted == sum(&runs[first(runs)]) as u32;
         assert!(many("runs that do not balance", |runs| first(runs) > 0) > 20);
         assert!(many("runs that do not balance", around) > 5);
     }

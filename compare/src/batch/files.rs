@@ -2,7 +2,7 @@
 
 use super::sheet::{refused, sheet, Row, Run, MOST_RUNS};
 use crate::case::{Case, File, Holds, Shows};
-use crate::records::{Arrival, Scenario, PRI, RTDG};
+use crate::records::{Arrival, Scenario, PRI, QUEUE_PLACES, RTDG};
 use crate::scenario::{alone, plain, sizes};
 use Holds::{Bytes, Folder, Nothing};
 
@@ -69,6 +69,27 @@ fn waiting(packets: u32) -> Played {
     (Scenario { arrivals, steps: 1, ..plain(PRI) }, Run::balanced(0, 0, packets, 0))
 }
 
+/// So many packets turned away as late, and one sent: it takes ten slots, in which their times and latest starts pass.
+fn late(turned_away: u32) -> Played {
+    let late = vec![packet(2, 7, 9, 1); turned_away as usize];
+    let scenario = Scenario { arrivals: [vec![packet(0, 7, 0, 10)], late].concat(), ..plain(RTDG) };
+    (scenario, Run::balanced(1, 0, 0, 0).turning_away(turned_away))
+}
+
+/// So many packets turned away for want of a place, and one sent in each step, of sixteen.
+fn crowded(turned_away: u32, steps: u16) -> Played {
+    let arrivals = vec![packet(0, 7, 1, 1); QUEUE_PLACES + turned_away as usize];
+    let sent = u32::from(steps);
+    let run = Run::balanced(sent, 0, QUEUE_PLACES as u32 - sent, sent - 1).turning_away(turned_away);
+    (Scenario { arrivals, steps, ..plain(PRI) }, run)
+}
+
+/// So many packets turned away for want of a place, and none sent: in the only step two stations collide.
+fn only_turned_away(turned_away: u32) -> Played {
+    let arrivals = [crowded(turned_away, 1).0.arrivals, vec![packet(0, 263, 1, 1)]].concat();
+    (Scenario { arrivals, steps: 1, ..plain(PRI) }, Run::balanced(0, 0, 17, 0).turning_away(turned_away))
+}
+
 /// Some packets by discipline, and so many steps.
 fn run_of(discipline: u8, arrivals: &[Arrival], steps: u16, run: Run) -> Played {
     (Scenario { arrivals: arrivals.to_vec(), steps, ..plain(discipline) }, run)
@@ -76,7 +97,7 @@ fn run_of(discipline: u8, arrivals: &[Arrival], steps: u16, run: Run) -> Played 
 
 /// Sheets of files.
 pub fn sheets() -> Vec<Case> {
-    [waits(), refusals(), highest(), many()].concat()
+    [waits(), refusals(), highest(), turned_away(), many()].concat()
 }
 
 /// Runs of which the longest wait is that of the first success, of a middle one, or of the last; of one alone; in which packets
@@ -133,8 +154,8 @@ fn highest() -> Vec<Case> {
     let none = |packets| good(format!("{packets} wait"), waiting(packets));
     let absent = || unreadable("absent", Nothing);
     let lost = || good("all lost", all_lost());
-    let away = [packet(0, 7, 5, 1), packet(0, 8, 0, 1), packet(0, 7, 0, 0), packet(0, 7, 0, 9), packet(90, 7, 0, 1)];
-    let away = good("turned away", run_of(PRI, &away, 12, Run::balanced(1, 0, 0, 0)));
+    let others = [packet(0, 7, 5, 1), packet(0, 8, 0, 1), packet(0, 7, 0, 0), packet(0, 7, 0, 9), packet(90, 7, 0, 1)];
+    let others = good("refused", run_of(PRI, &others, 12, Run::balanced(1, 0, 0, 0)));
     vec![
         played("no file", &[], None),
         played("one file", &[loses(3, 4)], Some(0)),
@@ -150,7 +171,31 @@ fn highest() -> Vec<Case> {
         played("no figure between", &[loses(1, 2), none(4), loses(2, 4)], Some(0)),
         played("no figure at all", &[none(0), absent(), none(2)], None),
         played("absent first and last", &[absent(), loses(1, 3), loses(1, 1), absent()], Some(2)),
-        played("turned away and not reached", &[away, loses(0, 1)], Some(0)),
+        played("refused by other numbers and not reached", &[others, loses(0, 1)], Some(0)),
+    ]
+}
+
+/// Losses of which packets turned away are a part, or all.
+fn turned_away() -> Vec<Case> {
+    let loses = |lost, sent| good(format!("{lost} lost, {sent} sent"), losing(lost, sent));
+    let late = |away| good(format!("{away} late"), late(away));
+    let crowded = |away, steps| good(format!("{away} without a place, {steps} sent"), crowded(away, steps));
+    let only = |away| good(format!("{away} turned away, none sent"), only_turned_away(away));
+    let none = || good("4 wait", waiting(4));
+    let both = [packet(0, 7, 0, 10), packet(0, 7, 5, 1), packet(2, 7, 9, 1), packet(2, 7, 10, 1), packet(2, 8, 9, 1)];
+    let both = good("one lost, one late", run_of(RTDG, &both, 12, Run::balanced(2, 1, 0, 0).turning_away(1)));
+    vec![
+        played("late ones alone", &[late(0), late(1), late(3), late(2)], Some(2)),
+        played("ones without a place", &[crowded(0, 4), crowded(2, 4), crowded(1, 1), crowded(9, 16)], Some(2)),
+        played("late ones and lost ones, as many", &[loses(1, 1), late(1), crowded(3, 3)], Some(0)),
+        played("lost ones and late ones, as many", &[crowded(2, 2), loses(2, 2), late(1)], Some(0)),
+        played("more late than lost", &[loses(2, 1), late(3), loses(3, 2)], Some(1)),
+        played("more lost than late", &[late(2), loses(4, 1), crowded(9, 3)], Some(1)),
+        played("one lost and one late", &[loses(1, 2), both, late(0)], Some(1)),
+        played("only turned away", &[only(1)], Some(0)),
+        played("only turned away, after what loses most", &[loses(9, 1), none(), only(1), only(5)], Some(2)),
+        played("nothing turned away, lost or sent", &[only(0), none(), crowded(0, 1)], Some(2)),
+        played("4,000 without a place", &[loses(9, 1), crowded(4_000, 16), late(4_000)], Some(2)),
     ]
 }
 

@@ -111,21 +111,21 @@ pub fn sizes() -> Vec<Case> {
     };
     let line = |name: &str, input, line: &str| Case::new(name, input, vec![Shows::Line(line.to_string())]);
     vec![
-        Case::new("65,534 bytes", filled(3, LONGEST).bytes(), vec![Shows::End]),
+        line("65,534 bytes, 4,077 packets turned away", filled(3, LONGEST).bytes(), "END 56 16 16 0 0 4077"),
         refused("65,536 bytes, two after the run", long(3, LONGEST), 20, LONGEST - 2),
         refused("65,536 bytes, no run", long(2, LONGEST + 16)[..LONGEST].to_vec(), 18, LONGEST),
         refused("65,536 bytes, a cut arrival", long(3, LONGEST + 16)[..LONGEST].to_vec(), 18, LONGEST - 8),
         refused("65,537 bytes", long(3, LONGEST + 1), 22, 0),
         refused("300,000 bytes", long(2, 300_000), 22, 0),
-        line("no step", run(0, 0), "END 0 0 0 0 0"),
-        line("one step", run(1, 0), "END 1 0 0 0 0"),
-        line("arrivals due at the end", run(2, 3), "END 3 1 1 0 0"),
+        line("no step", run(0, 0), "END 0 0 0 0 0 0"),
+        line("one step", run(1, 0), "END 1 0 0 0 0 0"),
+        line("arrivals due at the end", run(2, 3), "END 3 1 1 0 0 0"),
         line("300 packets", each_slot(300, 300).bytes(), "299 P 0 8 S 263 300 1 0"),
         line("a packet that waits past slot 65,536", long_wait(), "65552 P 0 8 S 299 17 1 65552"),
         line("a packet admitted after its time", after_its_time(), "4096 P 0 8 S 263 2 1 0"),
         refused("time falls at the 100th", each_slot(100, 50).bytes(), 21, offset(&each_slot(100, 50).records(), 103)),
         line("a refused arrival at slot 65,536", late_arrival(), "R 65536 263 12"),
-        line("65,535 steps", run(u16::MAX, 0), "END 65535 0 0 0 0"),
+        line("65,535 steps", run(u16::MAX, 0), "END 65535 0 0 0 0 0"),
     ]
 }
 

@@ -64,8 +64,10 @@ impl Field {
             12 | 13 => format!("R {SLOT} 7 {refusal}"),
             _ => format!("REFUSED {refusal} {}", offset(records, record)),
         };
-        let shows = if good { Shows::Lacks(line) } else { Shows::Line(line) };
-        Case::new(format!("{name} {value}, discipline {discipline}"), changed.concat(), vec![shows])
+        let shown = if good { Shows::Lacks(line) } else { Shows::Line(line) };
+        let end = matches!(refusal, 11..=13).then_some(Shows::End);
+        let shows = [shown].into_iter().chain(end).collect();
+        Case::new(format!("{name} {value}, discipline {discipline}"), changed.concat(), shows)
     }
 }
 

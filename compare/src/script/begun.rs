@@ -1,39 +1,13 @@
-//! Tables of contentions that are begun and probed in calls of their own: the rows of scripts/begin.table, the order of
-//! refusals, who contends among many stations, and steps beside begins and probes.
+//! Tables of contentions that are begun and probed in calls of their own: the order of refusals, who contends among many
+//! stations, and steps beside begins and probes.
 
 use super::calls::{plain, values, LAST, NOW};
 use super::lent::{states, Lent, State, CLOCK, LAST_WINNER, WON};
-use super::table::{rows, Bases, BEGIN};
+use super::table::accepted;
 use super::text::{words, Script};
 use crate::case::{refused, step_report, Case, Shows};
 use crate::records::{LAST_STEP, PRI, QUEUE_PLACES, RTDG, RTVC, STATIONS};
 use crate::seeded::Numbers;
-
-/// Each row of the table.
-pub fn written() -> Vec<Case> {
-    let bases = Bases::read();
-    let case = |parts: Vec<&str>| {
-        let [name, base, calls, lines] = parts[..] else {
-            panic!("scripts/begin.table has a line that cannot be read: {parts:?}")
-        };
-        let (_, made) = bases.of(base);
-        let lines = accepted(&made).into_iter().chain(lines.split(", ").map(whole));
-        Case::new(name, format!("{made} {calls}"), vec![Shows::Writes(lines.collect())])
-    };
-    rows(BEGIN).map(case).collect()
-}
-
-/// A line with the zeros of a refusal.
-fn whole(line: &str) -> String {
-    let number = line.get(2..).and_then(|number| number.parse().ok());
-    number.map_or(line.to_string(), |number| refused(line.as_bytes()[0].into(), number))
-}
-
-/// What a set-up and the admissions of a script write where all are accepted.
-fn accepted(calls: &str) -> Vec<String> {
-    let admissions = 1..=calls.matches('A').count();
-    calls.matches('U').map(|_| "U 0 0".to_string()).chain(admissions.map(|number| format!("A 0 {number}"))).collect()
-}
 
 /// The calls of which the order of refusals is tried, and the clocks.
 const CALLS: [&str; 4] = ["B", "O", "S", "R 1 0 0"];

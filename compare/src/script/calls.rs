@@ -1,11 +1,13 @@
 //! Tables of calls: each number of a set-up, an admission and a clock at its edges and bits; each two faults of a set-up,
 //! and all faults of an admission, at once; texts that are odd.
 
-use super::lent::{ADMITTED, CLOCK, LAST_WINNER, SENT};
+use super::lent::{ADMITTED, CLOCK, LAST_WINNER, SENT, TURNED_AWAY};
 use super::text::{words, Script};
 use crate::case::{refused, Case, Shows};
 use crate::edges::{alone_and_with, edges, within};
-use crate::records::{LAST_NUMBER, LAST_SLOT, LAST_STEP, LONGEST, LONGEST_PACKET, PRI, QUEUE_PLACES, RTDG, RTVC};
+use crate::records::{
+    LAST_NUMBER, LAST_SLOT, LAST_STEP, LONGEST, LONGEST_PACKET, MOST_TURNED_AWAY, PRI, QUEUE_PLACES, RTDG, RTVC,
+};
 
 /// The numbers of a set-up in a script: discipline, D, A, q, N, the row's length, the pairs, and each station's two.
 pub(super) fn plain(discipline: u8) -> [u64; 13] {
@@ -80,18 +82,32 @@ fn admission(discipline: u8, [broken, full, spent, unknown, short]: [bool; 5], v
     if broken {
         script.edit(LAST_WINNER, 0, 1);
     }
-    script.admit(&asked);
-    script.put(format_args!("P R 1 1 1 {NOW} {}", words(&asked)));
     let late = discipline == RTDG && value == 1;
     let tests =
         [(broken, 1), (unknown, 11), (value > 0 && !late, 12), (short, 13), (late, 14), (full, 15), (spent, 16)];
-    let answer = match tests.into_iter().find(|(fault, _)| *fault) {
-        Some((_, number)) => format!("A {number} 0"),
-        None => format!("A 0 {}", waiting + 1),
-    };
+    let refusal = tests.into_iter().find(|(fault, _)| *fault).map(|(_, number)| number);
+    for count in COUNTS {
+        script.edit(TURNED_AWAY, 0, raised(count, 1, refusal));
+        script.put(format_args!("P E {TURNED_AWAY} 0 {count} A {} P", words(&asked)));
+    }
+    script.put(format_args!("R 1 1 1 {NOW} {}", words(&asked)));
+    let answer = |at| refusal.map_or_else(|| format!("A 0 {}", waiting + at), |number| refused('A', number));
     let name = format!("discipline {discipline}, broken {broken}, full {full}, spent {spent}, A {}", words(&asked));
-    let answers = [vec![None; waiting as usize + 1], vec![Some(answer), None]].concat();
-    Case::new(name, script.text, vec![Shows::Answers(answers)])
+    let answers = [vec![None; waiting as usize + 1], vec![Some(answer(1)), Some(answer(2)), None]].concat();
+    let same = refusal.is_some();
+    Case::new(name, script.text, vec![Shows::Answers(answers), Shows::Same(vec![false, same, false, same, broken])])
+}
+
+/// Counts of packets turned away before an admission: some, and the last.
+const COUNTS: [u64; 2] = [5, MOST_TURNED_AWAY];
+
+/// The count of packets turned away after so many admissions that are all refused with a number, or accepted: 14 and 15 raise
+/// it, up to the last; what is above that stays.
+pub(super) fn raised(count: u64, admissions: u64, refusal: Option<u8>) -> u64 {
+    match refusal {
+        Some(14 | 15) if count <= MOST_TURNED_AWAY => MOST_TURNED_AWAY.min(count + admissions),
+        _ => count,
+    }
 }
 
 /// A number of the plain set-up, of an admission after it or of the clock then: which word of the script it is, its bits, what
@@ -180,12 +196,13 @@ const TEXTS: &[&str] = &[
     "U 0 4 8 1 3 3 3 1 0 5 0 6 0 A 5 # 2 3 is read\nS",
     "U 1 8 16 10 1 1 1 1 0 E 8 0 99999999999999999999999 P T E 8 0 18446744073709551609 P E 8 0 18446744073709551610 P",
     "U 0 4 8 1 2 2 2 1 0 2 0 E 9 0 18446744073709551609 P E 10 0 18446744073709551615 P E 5 0 18446744073709551616 P T",
-    "U 0 4 8 1 2 2 2 1 0 2 0 E 0 0 1 E 32 0 1 E 1000 0 1 E 18446744073709551615 0 1 P S",
+    "U 0 4 8 1 2 2 2 1 0 2 0 E 0 0 1 E 33 0 1 E 64 0 1 E 1000 0 1 E 18446744073709551615 0 1 P S",
     "U 0 4 8 1 2 2 2 1 0 2 0 E 6 64 3 E 6 129 5 E 26 1024 7 E 27 1047 9 E 25 18446744073709551615 4 P",
     "E 29 65 3 E 30 1025 5 P E 22 1 4294967299 E 26 1 8589934597 E 29 1 4294967301 E 30 1 8589934599 P",
     "E 24 0 1 E 25 0 2 E 28 0 3 E 29 0 4 E 30 0 5 P E 29 0 0 P E 30 0 0 P",
     "E 31 9 18446744073709551609 P E 31 0 18446744073709551610 P E 31 18446744073709551615 99999999999999999999999 P E 31",
     "E 31 63 4294967298 P E 20 1 0 P E 20 65 1 P E 31 0 1 P E 21 40 3 E 31 1 9223372036854775808 P E 20 127 2 P",
+    "E 32 9 18446744073709551609 P E 32 0 18446744073709551610 P E 32 1 4294967296 P E 32 18446744073709551615 300 P E 32",
     "E 21 5 4294967296 E 25 3 8589934592 E 10 0 4294967296 P",
     "U 4294967296 4294967300 8 4294967297 1 1 1 4294967297 4294967296 A 1 0 1 R 4294967298 1 1 4294967296 4294967297 0 1 P",
     "B O P S B",

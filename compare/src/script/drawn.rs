@@ -1,6 +1,6 @@
 //! Seeded scripts, for what no table foresees. A class is a line; the classes go in rotation.
 
-use super::lent::{Lent, CLOCK, DISCIPLINE, LAST_FIELD, PHASES, WORD};
+use super::lent::{Lent, CLOCK, DISCIPLINE, LAST_FIELD, PHASES, TURNED, TURNED_AWAY, WORD};
 use super::text::{set_up_of, Admission, Script};
 use crate::case::{Case, Shows};
 use crate::records::{Scenario, LAST_NUMBER, LAST_SLOT, LAST_STEP};
@@ -28,13 +28,17 @@ pub fn drawn(seed: u64, number: usize) -> Case {
 /// The calls that take no numbers: a step, a begin or a probe, or a begin and a probe.
 const CALLS: &[&str] = &["S", "S", "B", "O", "O", "B O"];
 
-/// Admissions, most of which pass, calls, stretches, closing numbers and states.
+/// Admissions, most of which pass, calls, stretches, closing numbers and states; in one of three the count of packets turned
+/// away does not begin at 0.
 fn played(numbers: &mut Numbers, script: &mut Script) {
     let (discipline, wanted) = (numbers.below(3) as u8, numbers.between((1, 6)));
     let spaces = if numbers.once_in(4) { LARGE } else { SMALL };
     let scenario = bus(numbers, discipline, spaces, LAXITY_STEPS, wanted);
     let (fields, row) = set_up_of(&scenario);
     script.set_up(fields, row.len() as u64, row.len() as u64, &row);
+    if numbers.once_in(3) {
+        script.edit(TURNED_AWAY, 0, numbers.pick(TURNED));
+    }
     for slot in 0..numbers.between((20, 80)) {
         match numbers.below(10) {
             0..=3 => script.admit(&admission(numbers, &scenario, slot)),
@@ -80,7 +84,7 @@ fn drawn_state(numbers: &mut Numbers, script: &mut Script) -> Lent {
     let (discipline, phase, far) = (numbers.below(3) as u8, numbers.pick(&PHASES), numbers.below(LAST_STEP.into()));
     let clock = numbers.pick(&[0, 1, 100, far, u64::from(LAST_STEP) - 5, LAST_STEP.into()]);
     let (stations, lengths): (&[u64], &[u64]) =
-        if numbers.once_in(6) { (&[31, 32, 33, 63, 64], &[0, 1]) } else { (&[1, 2, 3, 3, 4, 6], &[0, 1, 1, 2, 3, 5]) };
+        if numbers.once_in(6) { (&[31, 32, 33, 63, 64], &[0, 1]) } else { (&[1, 2, 3, 3, 4, 6], &[0, 1, 1, 2, 3, 16]) };
     let stations = numbers.pick(stations);
     let lent = Lent::made(numbers, (discipline, phase), stations, clock, lengths);
     lent.write(script);
@@ -100,12 +104,13 @@ fn lent(numbers: &mut Numbers, script: &mut Script) {
     }
 }
 
-/// A lent state with one field after another edited, the word of contenders more often than others, an admission and one of the
-/// other calls on it, and the edit taken back.
+/// A lent state with one field after another edited, the word of contenders and the count of packets turned away more often than
+/// others, an admission and one of the other calls on it, and the edit taken back.
 fn edited(numbers: &mut Numbers, script: &mut Script) {
     let lent = drawn_state(numbers, script);
     for _ in 0..3 {
-        let field = if numbers.once_in(8) { WORD } else { numbers.between((DISCIPLINE, LAST_FIELD)) };
+        let any = numbers.between((DISCIPLINE, LAST_FIELD));
+        let field = numbers.pick(&[WORD, TURNED_AWAY, any, any, any, any, any, any]);
         let place = numbers.pick(&lent.spots(field));
         script.edit(field, place, lent.drawn(numbers, field, place));
         let admission = lent.admission(numbers);
@@ -123,6 +128,7 @@ fn edited(numbers: &mut Numbers, script: &mut Script) {
 #[cfg(test)]
 mod tests {
     use super::*;
+    use crate::records::MOST_TURNED_AWAY;
     use std::collections::BTreeSet;
 
     fn scripts() -> impl Iterator<Item = String> {
@@ -140,13 +146,26 @@ mod tests {
         assert!("ABOSR".chars().all(follows), "{pairs:?}");
     }
 
+    /// Whether a field that stands once is edited to more than 20 values that are so.
+    fn many(field: u64, is: fn(u64) -> bool) -> bool {
+        let edit = format!("E {field} 0 ");
+        let values = |text: &str| -> Vec<u64> {
+            text.lines().filter_map(|line| line.strip_prefix(&edit)?.parse().ok()).collect()
+        };
+        scripts().flat_map(|text| values(&text)).filter(|value| is(*value)).count() > 20
+    }
+
     #[test]
     fn words_of_contenders_are_drawn() {
-        let edit = format!("E {WORD} 0 ");
-        let words: Vec<u64> = scripts()
-            .flat_map(|text| text.lines().filter_map(|line| line.strip_prefix(&edit)?.parse().ok()).collect::<Vec<_>>())
-            .collect();
-        let many = |is: fn(u64) -> bool| words.iter().filter(|word| is(**word)).count() > 20;
-        assert!(many(|word| word >> 63 == 1) && many(|word| word >> 6 == 0) && many(|word| word.count_ones() > 20));
+        assert!(many(WORD, |word| word >> 63 == 1));
+        assert!(many(WORD, |word| word >> 6 == 0));
+        assert!(many(WORD, |word| word.count_ones() > 20));
+    }
+
+    #[test]
+    fn counts_of_packets_turned_away_are_drawn() {
+        assert!(many(TURNED_AWAY, |count| count < 1_000));
+        assert!(many(TURNED_AWAY, |count| (MOST_TURNED_AWAY - 3..=MOST_TURNED_AWAY).contains(&count)));
+        assert!(many(TURNED_AWAY, |count| count > MOST_TURNED_AWAY));
     }
 }

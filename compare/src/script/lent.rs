@@ -2,7 +2,9 @@
 
 use super::text::{set_up_of, Admission, Script};
 use crate::edges::{edges, Ranges};
-use crate::records::{LAST_NUMBER, LAST_SLOT, LAST_STEP, LONGEST_PACKET, PRI, QUEUE_PLACES, RTDG, RTVC, STATIONS};
+use crate::records::{
+    LAST_NUMBER, LAST_SLOT, LAST_STEP, LONGEST_PACKET, MOST_TURNED_AWAY, PRI, QUEUE_PLACES, RTDG, RTVC, STATIONS,
+};
 use crate::scenario::{bus, LAXITY_STEPS};
 use crate::seeded::Numbers;
 use std::collections::{BTreeMap, BTreeSet};
@@ -20,7 +22,7 @@ mod field {
     pub const OFFERED_NUMBER: u64 = 22; pub const OFFERED_VALUE: u64 = 23; pub const OFFERED_LENGTH: u64 = 24;
     pub const QUEUE: u64 = 25; pub const NUMBER: u64 = 26; pub const VALUE: u64 = 27; pub const LENGTH: u64 = 28;
     pub const OFFERED_ADMISSION: u64 = 29; pub const ADMISSION: u64 = 30; pub const WORD: u64 = 31;
-    pub const LAST_FIELD: u64 = WORD;
+    pub const TURNED_AWAY: u64 = 32; pub const LAST_FIELD: u64 = TURNED_AWAY;
 }
 pub use field::*;
 
@@ -37,7 +39,7 @@ pub fn places(field: u64) -> usize {
 pub fn bits(field: u64) -> u32 {
     match field {
         WON | BEGUN | SIDE | TIED | CONTENDS => 1,
-        LISTED | ADMITTED | SENT | LOST | START | SIZE | TIE_VALUE | PARAMETER | QUEUE | WORD => 64,
+        LISTED | ADMITTED | SENT | LOST | START | SIZE | TIE_VALUE | PARAMETER | QUEUE | WORD | TURNED_AWAY => 64,
         _ => 32,
     }
 }
@@ -59,6 +61,9 @@ pub const PHASES: [Phase; 3] = [Phase::Between, Phase::Parameters, Phase::Ties];
 pub fn states() -> Vec<State> {
     [PRI, RTDG, RTVC].into_iter().flat_map(|discipline| PHASES.map(|phase| (discipline, phase))).collect()
 }
+
+/// How many packets a state has turned away: none, some, or about as many as are counted.
+pub const TURNED: &[u64] = &[0, 0, 1, 70_000, MOST_TURNED_AWAY - 3, MOST_TURNED_AWAY - 1, MOST_TURNED_AWAY];
 
 /// More stations than this are many.
 const MANY: usize = 8;
@@ -124,6 +129,7 @@ impl Lent {
         row.iter().enumerate().for_each(|(place, station)| lent.set(ADDRESS, place, station));
         lent.set(CLOCK, 0, &[clock]);
         lent.queue_up(numbers, lengths);
+        lent.set(TURNED_AWAY, 0, &[numbers.pick(TURNED)]);
         if discipline == RTVC && numbers.once_in(2) {
             lent.set(WON, 0, &[1, numbers.pick(&row)[1]]);
         }
@@ -241,6 +247,7 @@ impl Lent {
             CAPABILITY | LAST_WINNER => others(CAPABILITY, stations).chain([(0, parameters - 1)]).collect(),
             CLOCK => vec![(0, LAST_SLOT.into()), (0, LAST_STEP.into())],
             ADMITTED | SENT | LOST => vec![(0, LAST_NUMBER)],
+            TURNED_AWAY => vec![(0, MOST_TURNED_AWAY)],
             START | SIZE => vec![(start, start + size), (size / 2, 2 * size), (parameters, addresses)],
             TIE_VALUE | PARAMETER => others(PARAMETER, stations).chain([(0, parameters - 1)]).collect(),
             OFFERED_NUMBER | NUMBER => others(NUMBER, self.filled(0)).chain([(1, admitted)]).collect(),

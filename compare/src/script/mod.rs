@@ -7,8 +7,11 @@ mod lent;
 mod states;
 mod table;
 mod text;
+mod turned;
 
-pub use begun::{contenders, orders, pairs, written};
+pub use begun::{contenders, orders, pairs};
 pub use calls::{admissions, asked, odd_texts, set_ups};
 pub use drawn::drawn;
 pub use states::{listed, swept};
+pub use table::{written, BEGIN, TURNED_AWAY};
+pub use turned::{refusals, stretches};
