@@ -54,7 +54,7 @@ pub enum Shows {
     /// Of a listing: a probe in the tie phase.
     Tie,
     /// Of a listing: an arrival that is refused with this number.
-    Turned(u8),
+    Refuses(u8),
     /// Of a script: the first closing numbers are those of a state that stands.
     Stands,
     /// Of a script: all closing numbers are.
@@ -100,7 +100,7 @@ impl Shows {
             Shows::End => is_closed(text),
             Shows::Drop => begins("D"),
             Shows::Tie => text.contains(" T "),
-            Shows::Turned(number) => turned(text).any(|other| other == number.to_string()),
+            Shows::Refuses(number) => refusals(text).any(|other| other == number.to_string()),
             Shows::Stands => closing(text).next() == Some(true),
             Shows::AllStand => closing(text).next().is_some() && closing(text).all(|stands| stands),
             Shows::Answers(answers) => are_answers(answers, text),
@@ -114,13 +114,13 @@ impl Shows {
 }
 
 /// The numbers by which arrivals of a listing are refused.
-fn turned(text: &str) -> impl Iterator<Item = &str> {
+fn refusals(text: &str) -> impl Iterator<Item = &str> {
     text.lines().filter(|line| line.starts_with("R ")).filter_map(|line| line.rsplit(' ').next())
 }
 
 /// Whether a listing has a closing line as `Shows::End` says.
 fn is_closed(text: &str) -> bool {
-    let away = turned(text).filter(|number| ["14", "15"].contains(number)).count();
+    let away = refusals(text).filter(|number| ["14", "15"].contains(number)).count();
     let words: Vec<&str> = text.lines().last().unwrap_or_default().split(' ').collect();
     matches!(words[..], ["END", _, _, _, _, _, last] if last == away.to_string())
 }
@@ -251,7 +251,7 @@ mod tests {
         shows(Shows::End, "0 P 0 4 I\nEND 1 0 0 0 0 0\n", "REFUSED 18 0\n");
         shows(Shows::Drop, "D 2\nEND 1 0 0 0 0 0\n", "END 1 0 0 0 0 0\n");
         shows(Shows::Tie, "4 T 0 8 C\n", "4 P 0 8 C\n");
-        shows(Shows::Turned(15), "R 0 7 15\n", "R 0 15 11\n");
+        shows(Shows::Refuses(15), "R 0 7 15\n", "R 0 15 11\n");
         shows(Shows::Stands, "T 0 1 0 0 0 0 0\nT 1 0 0 0 0 0 0\n", "T 1 0 0 0 0 0 0\nT 0 1 0 0 0 0 0\n");
         shows(Shows::AllStand, "T 0 1 0 0 0 0 0\n", "T 0 1 0 0 0 0 0\nT 1 0 0 0 0 0 0\n");
         shows(Shows::Answers(vec![None, Some("A 0 1".to_string())]), "U 0 0\nA 0 1\nend\n", "A 0 1\nU 0 0\n");

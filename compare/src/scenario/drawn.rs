@@ -3,7 +3,7 @@
 use crate::case::{Case, Shows};
 use crate::records::{Arrival, Scenario, SetUp, Station, LAST_SLOT, LONGEST_PACKET, PRI, RTDG, RTVC};
 use crate::seeded::Numbers;
-use Shows::{Drop, End, Tie, Turned};
+use Shows::{Drop, End, Refuses, Tie};
 use Sort::{Any, Damaged, Far, Near, Same, Steps, Upper};
 
 /// Spaces that are small, around one byte and around two, both, and those with room for 64 stations.
@@ -48,7 +48,7 @@ const CLASSES: &[Class] = &[
     Class("small spaces",          ALL,          SMALL, (1, 8),   (3, 20),        40,    Any,      SHORT,   60,    &[End]),
     Class("large spaces",          ALL,          LARGE, (1, 8),   (3, 20),        40,    Any,      SHORT,   60,    &[End]),
     Class("many stations",         ALL,          WIDE,  (16, 64), (30, 90),       30,    Any,      SHORT,   60,    &[End]),
-    Class("all queues full",       ALL,          WIDE,  (64, 64), (1_025, 1_090), 0,     Any,      &[1],    30,    &[End, Turned(15)]),
+    Class("all queues full",       ALL,          WIDE,  (64, 64), (1_025, 1_090), 0,     Any,      &[1],    30,    &[End, Refuses(15)]),
     Class("equal parameters",      &[PRI, RTDG], BOTH,  (2, 10),  (10, 24),       0,     Same,     SHORT,   70,    &[End, Tie]),
     Class("upper bytes",           ALL,          LARGE, (2, 6),   (4, 16),        20,    Upper,    SHORT,   90,    &[End]),
     Class("late packets",          &[RTDG],      BOTH,  (2, 8),   (12, 30),       0,     Near(4),  SHORT,   80,    &[End, Drop]),
@@ -57,8 +57,8 @@ const CLASSES: &[Class] = &[
     Class("latest starts far off", &[RTDG],      BOTH,  (2, 6),   (4, 12),        5,     Far,      SHORT,   70,    &[End]),
     Class("whole laxity steps",    &[RTDG],      BOTH,  (2, 6),   (6, 20),        10,    Steps,    &[1],    60,    &[End]),
     Class("queues filled again",   ALL,          SMALL, (1, 3),   (50, 70),       25,    Any,      &[1],    60,    &[End]),
-    Class("crowded stations",      ALL,          SMALL, (1, 2),   (60, 90),       20,    Far,      &[1, 2], 50,    &[End, Turned(15)]),
-    Class("late arrivals",         &[RTDG],      BOTH,  (1, 4),   (20, 50),       200,   Near(20), &[100],  60,    &[End, Turned(14)]),
+    Class("crowded stations",      ALL,          SMALL, (1, 2),   (60, 90),       20,    Far,      &[1, 2], 50,    &[End, Refuses(15)]),
+    Class("late arrivals",         &[RTDG],      BOTH,  (1, 4),   (20, 50),       200,   Near(20), &[100],  60,    &[End, Refuses(14)]),
     Class("a packet a slot",       ALL,          BOTH,  (2, 8),   (40, 60),       40,    Any,      &[1, 2], 100,   &[End]),
     Class("busy circuits",         &[RTVC],      BOTH,  (2, 8),   (8, 40),        10,    Any,      &[1],    120,   &[End]),
     Class("longest packets",       ALL,          SMALL, (1, 4),   (6, 14),        5_000, Any,      LONG,    60,    &[End]),

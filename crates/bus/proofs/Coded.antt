@@ -16,7 +16,7 @@ use Rattle.rules.specs.Bus.{Contention, Bus, nothing}
 use Rattle.rules.specs.SetUp.{Request, setUp}
 use Rattle.rules.specs.Standing.{Standing, stands}
 use Rattle.rules.specs.declared.Admitted.{Admitted}
-use Rattle.rules.specs.Admission.{Arrival, admissionTests, admissionRefusal, turns-away, TurnsAway, oneMore, turnedAfter, turnedAway, handedBack, admit}
+use Rattle.rules.specs.Admission.{Arrival, admissionTests, admissionRefusal, TurnsAway, turnedAfter, handedBack, admit}
 use Rattle.rules.specs.Begin.{begin}
 use Rattle.rules.specs.Probe.{Contender, Answer, refusedAnswer, dropping, Open, transmitters, unheard, heard}
 use Rattle.window.specs.declared.Side.{Side}
@@ -166,7 +166,7 @@ demand2-coded =
 pub promised-coded : Promised coded
 promised-coded = promised coded demand2-coded
 
--- ---- a refused call hands back the state as lent
+-- ---- a refused call hands back the state as lent, 14 and 15 but for the count of packets turned away
 
 -- a call whose refusals hand back their number and the bus
 module _ {X : Type 0} (number : X → ℕ) (refused : ℕ → X) (call : Bus → X × Bus) (one : number (refused 1) ≡ 1)
@@ -187,12 +187,7 @@ module _ {X : Type 0} (number : X → ℕ) (refused : ℕ → X) (call : Bus →
 
 -- an admission: the state as lent, but for the count of packets turned away where that is raised
 handed-form : (s : State) → Held s → padded s ≡ true → (n : ℕ) → form (handedBack (meaning s) n) ≡ stateTurned s (turnedAfter n (s .segment .turned))
-handed-form s held e n = go (turns-away n)
-  where
-    go :
-        (t : Bool) → form (cond t (turnedAway (meaning s)) (meaning s)) ≡ stateTurned s (cond t (oneMore (s .segment .turned)) (s .segment .turned))
-    go true = ap (λ (lent : State). stateTurned lent (oneMore (s .segment .turned))) (form-meaning s held e)
-    go false = form-meaning s held e
+handed-form s held e n = ap (λ (lent : State). stateTurned lent (turnedAfter n (s .segment .turned))) (form-meaning s held e)
 
 pub handed-admission :
     (s : State) → Held s → (a : Arrival) → ¬ (codedAdmit s a .0 .refusal ≡ 0)

@@ -102,11 +102,11 @@ module _ (s : State) (address : Address) (value len : ℕ) where
     of-rules : refusal ≡ admissionRefusal (meaning s) arrival
     of-rules = refusal-is s r (addressPlace s address) address refl value len
 
-    turned-away :
+    is-refused :
         ¬ (refusal ≡ 0)
         → _≡_ {A = Admission} (record { answer = answered refusal (s .segment .admitted); state = refusedIn s refusal .state })
         (admissionResult (codedAdmit s arrival))
-    turned-away n =
+    is-refused n =
         ap
         (λ (t : Bool). record { answer = record { refusal = refusal; number = cond t (s .segment .admitted + 1) 0 }; state = refusedIn s refusal .state })
         (ne-eqb refusal 0 n)
@@ -126,7 +126,7 @@ module _ (s : State) (address : Address) (value len : ℕ) where
           (t : Bool) → Sound t s → ¬ (askedOf t .answer .refusal ≡ 0)
           → _≡_ {A = Admission} (record { answer = askedOf t .answer; state = refusedIn s (askedOf t .answer .refusal) .state })
           (admissionResult (codedAdmit s arrival))
-      go true r n = turned-away r n
+      go true r n = is-refused r n
       go false r n = gives-1 s (r .0) arrival (r .1)
 
   -- or the packet has its place

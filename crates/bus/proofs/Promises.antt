@@ -12,7 +12,7 @@ use Rattle.rules.specs.SetUp.{Request}
 use Rattle.rules.specs.Admission.{Arrival, TurnsAway}
 use Rattle.rules.specs.Probe.{refusedAnswer, dropping}
 use Rattle.rules.specs.Step.{refusedBegun, step}
-use Rattle.rules.specs.Engine.{machine, Call, admission, one-begin, one-probe, one-step, replies, reach}
+use Rattle.rules.specs.Engine.{machine, Call, admission, one-begin, one-probe, one-step, next, replies, reach}
 use Rattle.rules.specs.Demands.{Demand2, Promised}
 use Rattle.bus.specs.Types.{State}
 use Rattle.state.specs.State.{Held, form, standing}
@@ -64,6 +64,10 @@ keeps-standing-probe s = SingleCalls.accepted-stands s one-probe
 
 pub keeps-standing-step : (s : State) → codedStep s .0 .refusal ≡ 0 → standing (codedStep s .1) ≡ true
 keeps-standing-step s = SingleCalls.accepted-stands s one-step
+
+-- and so does any other call on a state that stands, one refused with 14 or 15 too
+pub stands-after : (s : State) (c : Call) → standing s ≡ true → standing (next coded s c) ≡ true
+stands-after = Coded.next-stands
 
 -- refused calls hand back the state as lent, and zeros; 14 and 15 all of it but the count of packets turned away, which is one higher, up to its stop
 pub hands-back-admission :

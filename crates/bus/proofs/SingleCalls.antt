@@ -2,7 +2,7 @@
 -- that stands stands after it, and one that does not comes back as lent. Assumes nothing.
 use Prim.Native.Nat.{ℕ, zero, suc, _≤_}
 use mathlib.Core.Path.{_≡_, refl, sym, ap, ap₂, _∙_, subst}
-use mathlib.Core.Logic.{_⊎_, inl, inr}
+use mathlib.Core.Logic.{inl, inr}
 use mathlib.Core.Bool.{Bool, true, false, cond}
 use mathlib.Core.List.{List, [], _∷_, _++_, map}
 use native.Mathlib.Omega.{arith}
@@ -112,9 +112,9 @@ reply-refused s e one-probe = standing-exactly-probe s .1 e
 reply-refused s e one-step = standing-exactly-step s .1 e
 
 -- 1 turns no packet away
-keeps-none : {n : ℕ} → n ≡ 1 → ¬ TurnsAway n
-keeps-none one (inl e) = omega arith
-keeps-none one (inr e) = omega arith
+one-turns-none : {n : ℕ} → n ≡ 1 → ¬ TurnsAway n
+one-turns-none one (inl e) = omega arith
+one-turns-none one (inr e) = omega arith
 
 -- a call that is accepted was lent a state that stands, and leaves one
 pub accepted-stands : (s : State) (c : Call) → refusalIn (Engine.reply coded s c) ≡ 0 → standing (Engine.next coded s c) ≡ true
@@ -127,7 +127,7 @@ accepted-stands s c z = go (standing s) refl
 module _ (s : State) (held : Held s) (e : standing s ≡ false) where
   pub next-same : (c : Call) → Engine.next coded s c ≡ s
   next-same (admission a) =
-      ap (λ (o : Admitted × State). o .1) (hands-back-admission s held a (not-accepted (reply-refused s e (admission a))) (keeps-none (reply-refused s e (admission a))))
+      ap (λ (o : Admitted × State). o .1) (hands-back-admission s held a (not-accepted (reply-refused s e (admission a))) (one-turns-none (reply-refused s e (admission a))))
   next-same one-begin = ap (λ (o : Begun × State). o .1) (hands-back-begin s held (not-accepted (reply-refused s e one-begin)))
   next-same one-probe = ap (λ (o : Answer × State). o .1) (hands-back-probe s held (not-accepted (reply-refused s e one-probe)))
   next-same one-step = ap (λ (o : Answer × State). o .1) (hands-back-step s held (not-accepted (reply-refused s e one-step)))

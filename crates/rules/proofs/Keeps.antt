@@ -21,12 +21,14 @@ use Rattle.rules.specs.Lists.{bit, keep, count, Among, at-head, in-tail,
 use Rattle.rules.specs.Bus.{late, most-stations, least-space, most-space, clock-end, last-slot, Discipline, PRI, RTDG, RTVC, code, Packet, Offer, Station, Contention, Bus, amended, waiting, numbers}
 use Rattle.rules.specs.SetUp.{Asked, Request, Verdict, fault, step-outside, stationTests, rowTests, setUpVerdict, disciplineOf, freshStation, freshBus}
 use Rattle.rules.specs.Standing.{asked, askedFor, ValueFits, PacketStands, ParameterFits, OfferStands, StationStands, LastStands, WindowStands, ContentionStands, Standing}
-use Rattle.rules.specs.Admission.{Arrival, named, newPacket, queued, joined, withPacket, turnedAway}
+use Rattle.rules.specs.Admission.{Arrival, Admitted, named, admissionRefusal, newPacket, queued, joined, withPacket, TurnsAway, turnedAway, handedBack, admit}
 use Rattle.rules.specs.Begin.{choice, chosen, goes-before, parameterOf, sits-out, offers, inTime, entered, dropsOf, opening, begin}
 use Rattle.rules.specs.Probe.{Contender, contenders, lies-in, transmits, transmitters, Open, goesOn, withdrawn, left, lastWinner, won, tiedAt, split, unheard, heard, probe}
 use Rattle.rules.specs.Step.{openedBy, opened, stepRefusal, step}
 use Rattle.rules.specs.Demands.{KeepsStanding}
-use Rattle.rules.proofs.TurnedAway.{within}
+use Rattle.rules.proofs.TurnedAway.{turns-whether, within, turned-standing, turned-refused}
+use Rattle.rules.proofs.Tests.{told}
+use Rattle.rules.proofs.Refusals.{handsBack}
 use Rattle.rules.proofs.Laws.{and-true, or-false, among-left, among-append, all-cons, all-nil, keep-from, all-map, map-into, map-same, map-map, total-map, total-parts, count-some, kept-failed, total-none, total-count}
 use Rattle.rules.proofs.Numbers.{one-apart, same-apart, held, times, times-once, none-twice-kept, rising-suc, rising-append, rising-none, Fewer, fewer-all, fewer-keep, joined-waiting, joined-none-twice}
 use Rattle.rules.proofs.Standing.{SetUpStands, set-up-stands, accepted-set-up, AdmissionAccepted, accepted-admission, admission-accepted, admit-is, accepted-begin, begin-accepted, begin-is, accepted-probe, probe-accepted, probe-step, accepted-step, step-accepted, step-is}
@@ -445,6 +447,21 @@ turned-stands b h =
       window = contention-kept b (turnedAway b) refl refl (b .contention) (h .window);
     }
 
+-- it is turned away by a state that stands
+refused-standing : (b : Bus) (a : Arrival) → TurnsAway (admit b a .0 .refusal) → Standing b
+refused-standing b a t = go (eqb (admissionRefusal b a) 0) refl t
+  where
+    answer : Bool → Admitted × Bus
+    answer u =
+        cond
+        u
+        (record { refusal = 0; number = suc (b .admitted) }, withPacket b a)
+        (record { refusal = admissionRefusal b a; number = 0 }, handedBack b (admissionRefusal b a))
+
+    go : (u : Bool) → eqb (admissionRefusal b a) 0 ≡ u → TurnsAway (answer u .0 .refusal) → Standing b
+    go true e t = absurd (turned-refused 0 t refl)
+    go false e t = turned-standing b a (told (turns-whether (admissionRefusal b a)) t)
+
 -- ---- set-up
 
 -- the same set-up, without what stands past N
@@ -523,6 +540,7 @@ keepsStanding =
     record {
       set-up = λ r e. rw (accepted-set-up r e) (fresh-stands r e);
       admission = λ b a e. let ok = accepted-admission b a e in rw (admit-is b a ok) (admitted-stands b a (admission-accepted b a ok));
+      turned-away = λ b a t. rw (handsBack .turned-away b a t) (turned-stands b (refused-standing b a t));
       begin = λ b e. let ok = accepted-begin b e in rw (begin-is b ok) (begin-stands b (begin-accepted b ok .0));
       probe = λ b e. let ok = probe-accepted b (accepted-probe b e) in rw (probe-step b (ok .0)) (stepped-stands b (ok .1));
       step = λ b e. stepped-stands b (accepted-step b e);

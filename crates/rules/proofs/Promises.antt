@@ -38,7 +38,7 @@ keepsStanding = Keeps.keepsStanding
 pub reachedStands : ReachedStands
 reachedStands = Reach.reachedStands
 
--- refused calls hand back the state as lent, and zeros; the all-zero state does not stand
+-- refused calls hand back the state as lent, 14 and 15 but for the count of packets turned away, and zeros; the all-zero state does not stand
 pub handsBack : HandsBack
 handsBack = Refusals.handsBack
 

@@ -12,7 +12,7 @@ use Rattle.rules.specs.Bus.{Offer, Station, Contention, Bus}
 use Rattle.rules.specs.Admission.{Arrival, Admitted, admissionRefusal, withPacket, admit, handedBack}
 use Rattle.rules.specs.Begin.{begin}
 use Rattle.rules.specs.Probe.{Answer, Contender, contenderOf, contending, contenders, transmitters, Open, withdrawn, left, unheard, heard}
-use Rattle.rules.specs.Step.{Contends, contendsWith, Begun, beginCall, probeCall, opened, openedBy}
+use Rattle.rules.specs.Step.{Contends, contendsWith, Begun, probeCall, opened, openedBy}
 use Rattle.rules.specs.Demands.{contendersAt, present, shownAs, ContendersStay}
 use Rattle.rules.proofs.TurnedAway.{back-cases}
 use Rattle.rules.proofs.Standing.{begun-as, accepted-probe, probe-accepted, probe-step, step-is}

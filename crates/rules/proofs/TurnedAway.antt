@@ -1,7 +1,7 @@
 -- A packet turned away (P4): 14 and 15 leave the state as it was but for the count, which stays within its range. Assumes nothing.
 use Prim.Native.Nat.{ℕ, suc, _≤_}
 use mathlib.Core.Path.{_≡_, refl, ap}
-use mathlib.Core.Logic.{_⊎_, inl, inr}
+use mathlib.Core.Logic.{inl, inr}
 use mathlib.Core.Bool.{Bool, true, false, not, cond}
 use mathlib.Core.List.{_∷_}
 use native.Mathlib.Omega.{arith}
@@ -9,7 +9,7 @@ use lib.Dec.{ltb}
 use lib.ListN.{drop}
 use borrow.Author.Tests.{ltb-true}
 use Rattle.rules.specs.Lists.{firstOf}
-use Rattle.rules.specs.Bus.{most-turned, Bus}
+use Rattle.rules.specs.Bus.{most-turned, Bus, withTurned}
 use Rattle.rules.specs.Standing.{Standing, stands}
 use Rattle.rules.specs.Admission.{Arrival, admissionTests, admissionRefusal, turns-away, TurnsAway, oneMore, turnedAfter, turnedAway, handedBack}
 use Rattle.rules.proofs.Laws.{clash}
@@ -35,25 +35,6 @@ turned-standing b a = go (stands b) refl
     go true e h = tells (stands-exactly b) e
     go false e h = clash h refl
 
--- what a refused admission hands back, by whether its packet is turned away
-pub back-cases : (P : Bus → Type 0) (b : Bus) (n : ℕ) → (turns-away n ≡ false → P b) → (turns-away n ≡ true → P (turnedAway b)) → P (handedBack b n)
-back-cases P b n lent raised = go (turns-away n) refl
-  where
-    go : (t : Bool) → turns-away n ≡ t → P (cond t (turnedAway b) b)
-    go true e = raised e
-    go false e = lent e
-
-pub as-lent : (b : Bus) (n : ℕ) → ¬ TurnsAway n → handedBack b n ≡ b
-as-lent b n h = back-cases (λ x. x ≡ b) b n (λ e. refl) (λ e. absurd (h (tells (turns-whether n) e)))
-
-pub but-for-the-count : (b : Bus) (n : ℕ) → TurnsAway n → handedBack b n ≡ turnedAway b
-but-for-the-count b n h = back-cases (λ x. x ≡ turnedAway b) b n (λ e. clash (told (turns-whether n) h) e) (λ e. refl)
-
--- and it is refused
-pub turned-refused : (n : ℕ) → TurnsAway n → ¬ (n ≡ 0)
-turned-refused n (inl e) z = omega arith
-turned-refused n (inr e) z = omega arith
-
 -- the count, by whether the packet is turned away
 pub not-counted : (n count : ℕ) → ¬ TurnsAway n → turnedAfter n count ≡ count
 not-counted n count h = go (turns-away n) refl
@@ -64,3 +45,22 @@ not-counted n count h = go (turns-away n) refl
 
 pub is-counted : (n count : ℕ) → TurnsAway n → turnedAfter n count ≡ oneMore count
 is-counted n count h = ap (λ t. cond t (oneMore count) count) (told (turns-whether n) h)
+
+-- what a refused admission hands back, by the same
+pub back-cases : (P : Bus → Type 0) (b : Bus) (n : ℕ) → (turns-away n ≡ false → P b) → (turns-away n ≡ true → P (turnedAway b)) → P (handedBack b n)
+back-cases P b n lent raised = go (turns-away n) refl
+  where
+    go : (t : Bool) → turns-away n ≡ t → P (withTurned (cond t (oneMore (b .turned)) (b .turned)) b)
+    go true e = raised e
+    go false e = lent e
+
+pub as-lent : (b : Bus) (n : ℕ) → ¬ TurnsAway n → handedBack b n ≡ b
+as-lent b n h = ap (λ count. withTurned count b) (not-counted n (b .turned) h)
+
+pub but-for-the-count : (b : Bus) (n : ℕ) → TurnsAway n → handedBack b n ≡ turnedAway b
+but-for-the-count b n h = ap (λ count. withTurned count b) (is-counted n (b .turned) h)
+
+-- 14 and 15 are refusals
+pub turned-refused : (n : ℕ) → TurnsAway n → ¬ (n ≡ 0)
+turned-refused n (inl e) z = omega arith
+turned-refused n (inr e) z = omega arith

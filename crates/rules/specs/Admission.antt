@@ -84,7 +84,7 @@ TurnsAway refusal = (refusal ≡ 14) ⊎ (refusal ≡ 15)
 abbrev pub oneMore : ℕ → ℕ
 oneMore count = cond (ltb count most-turned) (suc count) count
 
--- 'raised by exactly the admissions refused with 14 or 15': the count after an admission that is refused so, or accepted with 0
+-- 'raised by exactly the admissions refused with 14 or 15': the count after an admission that is refused with this number, or accepted, with 0
 abbrev pub turnedAfter : ℕ → ℕ → ℕ
 turnedAfter refusal count = cond (turns-away refusal) (oneMore count) count
 
@@ -92,9 +92,9 @@ turnedAfter refusal count = cond (turns-away refusal) (oneMore count) count
 abbrev pub turnedAway : Bus → Bus
 turnedAway b = withTurned (oneMore (b .turned)) b
 
--- the state that an admission refused with this number hands back; any other than these two 'exactly as lent'
+-- the state that an admission refused with this number hands back: with any other than these two its count is as it was, and all of it 'exactly as lent'
 abbrev pub handedBack : Bus → ℕ → Bus
-handedBack b refusal = cond (turns-away refusal) (turnedAway b) b
+handedBack b refusal = withTurned (turnedAfter refusal (b .turned)) b
 
 -- 'Any other refusal hands back the number, zero in the answer's other fields, and the state ..'
 abbrev pub admit : Bus → Arrival → Admitted × Bus

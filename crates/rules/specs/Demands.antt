@@ -96,10 +96,11 @@ AddressesApart = (r : Request) (calls : List Call) → Distinct (map (λ s. s .a
 abbrev pub StandsExactly : Type 0
 StandsExactly = (b : Bus) → (stands b ≡ true) ↔ Standing b
 
--- 'Every call that accepts keeps these conditions.'
+-- 'Every call that accepts keeps these conditions', and so does an admission that turns its packet away; every other hands back what it was lent.
 pub record KeepsStanding : Type 0 where
   pub set-up : (r : Request) → setUp r .0 .refusal ≡ 0 → Standing (setUp r .1)
   pub admission : (b : Bus) (a : Arrival) → admit b a .0 .refusal ≡ 0 → Standing (admit b a .1)
+  pub turned-away : (b : Bus) (a : Arrival) → TurnsAway (admit b a .0 .refusal) → Standing (admit b a .1)
   pub begin : (b : Bus) → beginCall b .0 .refusal ≡ 0 → Standing (beginCall b .1)
   pub probe : (b : Bus) → probeCall b .0 .refusal ≡ 0 → Standing (probeCall b .1)
   pub step : (b : Bus) → step b .0 .refusal ≡ 0 → Standing (step b .1)
@@ -291,7 +292,7 @@ adds-slots (admitted a) = 0
 adds-slots (begun o) = 0
 adds-slots (probed a) = slotsOf a
 
--- the packets turned away by so many: 'The count stops at 4,294,967,295.'
+-- so many packets turned away, as they are counted: 'The count stops at 4,294,967,295.'
 abbrev pub upToTheStop : ℕ → ℕ
 upToTheStop n = min n most-turned
 

@@ -18,7 +18,7 @@ use Rattle.rules.specs.Admission.{Admitted, admissionRefusal, admit}
 use Rattle.rules.specs.Begin.{parameterOf}
 use Rattle.rules.specs.Probe.{withdrawn, parameter-phase, tie-phase, idle, collision, success, Answer, waitOf, dropping}
 use Rattle.rules.specs.Step.{Contends, Begun, beginRefusal, beginCall, probeRefusal, stepRefusal, step}
-use Rattle.rules.specs.Closing.{Totals}
+use Rattle.rules.specs.Closing.{Totals, closingCall}
 use Rattle.rules.specs.Engine.{machine, Call, admission, one-begin, one-probe, one-step, Reply, replies, reach, probesIn, admissionsIn, beginsIn}
 use Rattle.rules.specs.Demands.{probes, mostProbes, slotsBefore, contentionsIn, idleContentionsIn, slotsIn, sends, upTo, mostContentions, most-idle, mostSlots, fewerSlots, place, contentionsFor, idleFor, slotsFor, most-passes, most-idle-between, successesOf, untilSuccess, tallyOf, waits-after}
 
@@ -546,6 +546,10 @@ uncounted = let said = admit (sentAll 4_294_967_295) (record { address = 0; valu
 abbrev pub same-pair : ℕ × ℕ → ℕ × ℕ → Bool
 same-pair x y = eqb (x .0) (y .0) && eqb (x .1) (y .1)
 
+-- what it closes with, when so many packets have been turned away: the refusal and the count
+abbrev pub closes-with : ℕ → ℕ × ℕ → Bool
+closes-with turned said = same-pair (closingCall (crowded turned) .refusal, closingCall (crowded turned) .turned) said
+
 -- ---- the table, in eight parts
 
 -- the settled examples, traps and open points
@@ -957,7 +961,7 @@ turnedAways =
     (END 0 0 0 0 0 0)
     -- 81: nor 16
     ∷ fact (same-pair uncounted (16, 0))
-    -- 82: 14 before 15: late where no place is free, it is counted once
+    -- 82: late where no place is free: counted once
     ∷ closed (rtdg 2 1) (one-step ∷ map (λ n. arrives 0 5 1) (countUp 1 16) ++ (arrives 0 0 1 ∷ [])) (END 1 16 0 0 16 1)
     -- 83: between contentions, after a begin and midway, and through all that follows: latest starts 0 and 1 collide and are dropped
     ∷ closed
@@ -971,8 +975,8 @@ turnedAways =
     && same-pair (seventeenth 4_294_967_294) (15, 4_294_967_295)
     && same-pair (seventeenth 4_294_967_295) (15, 4_294_967_295)
     && same-pair (seventeenth 4_294_967_296) (1, 4_294_967_296))
-    -- 85: so that it stands within its range
-    ∷ fact (stands (crowded 4_294_967_295) && not (stands (crowded 4_294_967_296)))
+    -- 85: and what it closes with is refused with 1, zero in the other fields
+    ∷ fact (closes-with 4_294_967_295 (0, 4_294_967_295) && closes-with 4_294_967_296 (1, 0))
     ∷ []
 
 abbrev pub table : List Row

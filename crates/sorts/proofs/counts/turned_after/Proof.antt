@@ -1,5 +1,4 @@
 -- `counts::turned_after` meets its contract: 14 and 15 raise the count, any other number leaves it. Assumes nothing.
-use mathlib.Core.Path.{_∙_}
 use borrow.Author.Needs.{needs}
 use borrow.Author.Tests.{eq-eqb, ne-eqb}
 use Rattle.sorts.proofs.counts.turned_after.Statement.{statement}
