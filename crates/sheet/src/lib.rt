@@ -15,7 +15,6 @@ pub struct Run {
     pub sent: u32,
     pub lost: u32,
     pub waiting: u32,
-    // packets turned away
     pub turned: u32,
     pub wait: u32,
 }
