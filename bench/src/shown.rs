@@ -215,7 +215,10 @@ mod tests {
         assert_eq!(each(&shown, |contention| usize::from(contention.sent)), [1, 0]);
         assert_eq!(shown.contentions[0].smallest_tie, 1);
         assert_eq!((shown.refused, shown.slots()), (1, 5));
-        assert_eq!((shown.end.sent, shown.end.lost, shown.end.waiting, shown.end.turned_away), (1, 0, 16, 1));
+        assert_eq!(
+            (shown.end.sent, shown.end.lost, shown.end.waiting, shown.end.turned_away),
+            (1, 0, 16, 1)
+        );
     }
 
     /// The settled example of two packets that are late before either can be sent.
@@ -224,6 +227,9 @@ mod tests {
         let shown = shown(&small(RTDG, &[(0, 0), (1, 1)], 4));
         assert_eq!(each(&shown, |contention| contention.probes), [3, 1]);
         assert_eq!(each(&shown, |contention| contention.waiting), [2, 0]);
-        assert_eq!((shown.end.sent, shown.end.lost, shown.end.waiting, shown.end.turned_away), (0, 2, 0, 0));
+        assert_eq!(
+            (shown.end.sent, shown.end.lost, shown.end.waiting, shown.end.turned_away),
+            (0, 2, 0, 0)
+        );
     }
 }
