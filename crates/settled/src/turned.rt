@@ -25,9 +25,6 @@ fn raised() {
     lines::counted(b"14, one more than 7", s, 6, 7, 1);
     lines::counted(b"15, one more than 7", s, 5, 8, 1);
     lines::counted(b"14 before 15, counted once", s, 5, 7, 1);
-    let all = all_admitted();
-    lines::counted(b"14 before 16", all, 6, 7, 1);
-    lines::counted(b"15 before 16", all, 5, 8, 1);
 }
 
 // Any other admission leaves it, also of a late packet, or where no place is free.
@@ -37,23 +34,7 @@ fn left() {
     lines::counted(b"12, no place too", s, 5, 1_073_741_825, 1);
     lines::counted(b"13, late and no place too", s, 5, 7, 0);
     lines::counted(b"16, not counted", all_admitted(), 6, 8, 1);
-    let broken = edits::with_word(s, 1);
-    lines::counted(b"1, late and no place too", broken, 5, 7, 1);
     lines::counted(b"0, not counted", s, 6, 8, 1);
-}
-
-// The other calls leave it, refused or not; a packet that is dropped is lost.
-fn other_calls() {
-    let s = crowded();
-    let begun = segments::begin(s);
-    lines::counts(b"0, a begin drops 16", begun);
-    lines::counts(b"25, not counted", segments::begin(begun));
-    lines::counts(b"26, not counted", segments::probe(s));
-    let past = edits::with_clock(s, 1_073_737_729);
-    lines::counts(b"17, not counted", segments::step(past));
-    let one = segments::admit(segments::pri(), 5, 2, 1);
-    let sent = segments::step(edits::with_turned(one, 7));
-    lines::counts(b"0, a step sends one", sent);
 }
 
 // 'The count stops at 4,294,967,295.'
@@ -64,11 +45,8 @@ fn stop() {
     let at = edits::with_turned(s, 4_294_967_295);
     lines::counted(b"14, at the stop", at, 6, 7, 1);
     lines::counted(b"15, at the stop", at, 5, 8, 1);
-    lines::counted(b"0, at the stop", at, 6, 8, 1);
-    lines::after(b"0, a begin at the stop", at);
     let past = edits::with_turned(s, 4_294_967_296);
     lines::counted(b"1, past the stop", past, 5, 8, 1);
-    lines::after(b"1, a begin and a probe past the stop", past);
 }
 
 // A stretch counts as single calls do.
@@ -80,20 +58,11 @@ fn stretches() {
     lines::counts(b"three late in a stretch", segments::stretch(s, 3));
     let below = edits::with_turned(s, 4_294_967_294);
     lines::counts(b"and past the stop", segments::stretch(below, 3));
-    lines::counts(
-        b"eighteen for a station in a stretch",
-        segments::stretch(segments::pri(), 18),
-    );
-    let apart = edits::with_turned(segments::upper_bytes(), 7);
-    lines::counts(b"11 in a stretch", segments::stretch(apart, 3));
-    let on_time = edits::with_clock(all_admitted(), 0);
-    lines::counts(b"16 in a stretch", segments::stretch(on_time, 3));
 }
 
 pub fn each() {
     raised();
     left();
-    other_calls();
     stop();
     stretches();
 }
