@@ -3,7 +3,7 @@
 -- function is proved to meet its contract, and here stands what those functions are worth. What the words mean is in specs/ here and in the
 -- crate rules; docs/PROMISES.md says which sentence each theorem answers. Assumes nothing.
 use Prim.Native.Nat.{ℕ, _≤_}
-use mathlib.Core.Path.{_≡_}
+use mathlib.Core.Path.{_≡_, refl}
 use mathlib.Core.Logic.{_⊎_, _↔_}
 use mathlib.Core.Bool.{Bool, true, false}
 use mathlib.Core.List.{List, [], _++_, map}
@@ -16,7 +16,7 @@ use Rattle.rules.specs.Engine.{machine, Call, admission, one-begin, one-probe, 
 use Rattle.rules.specs.Demands.{Demand2, Promised}
 use Rattle.bus.specs.Types.{State}
 use Rattle.state.specs.State.{Held, form, standing}
-use Rattle.bus.specs.Coded.{onMeaning, codedAdmit, codedBegin, codedProbe, codedStep, coded, turnedIn, begunForm, begunOf, answerForm, answerOf}
+use Rattle.bus.specs.Coded.{onMeaning, codedAdmit, codedBegin, codedProbe, codedStep, codedClosing, coded, turnedIn, totalsOf, totalsSaid, begunForm, begunOf, answerForm, answerOf}
 use Rattle.bus.specs.Stretch.{course, stepReports, afterSteps, replyOf, refusalIn, Called}
 use Rattle.bus.specs.Types.{Arrival as Timed}
 use Rattle.bus.proofs.SingleCalls as SingleCalls
@@ -92,12 +92,15 @@ pub hands-back-step :
     (s : State) → Held s → ¬ (codedStep s .0 .refusal ≡ 0) → codedStep s ≡ (refusedAnswer (codedStep s .0 .refusal), s)
 hands-back-step = Coded.hands-back-step
 
--- an answer in the code's sorts says all that the engine's answer says; that to a begin, of as many stations as the state has
+-- an answer in the code's sorts says all that the engine's answer says, and so do the totals; that to a begin, of as many stations as the state has
 pub answer-read : (s : State) → answerOf (answerForm (codedStep s .0)) ≡ codedStep s .0
 answer-read = Coded.answer-read
 
 pub probe-read : (s : State) → answerOf (answerForm (codedProbe s .0)) ≡ codedProbe s .0
 probe-read = Coded.probe-read
+
+pub closing-read : (s : State) → totalsSaid (totalsOf s) ≡ codedClosing s
+closing-read s = refl
 
 pub begun-read : (s : State) → begunOf (s .segment .settings .n) (begunForm (codedBegin s .0)) ≡ codedBegin s .0
 begun-read = Calls.begun-read

@@ -181,6 +181,19 @@ totalsForm t =
 abbrev pub totalsOf : State → Totals
 totalsOf s = totalsForm (codedClosing s)
 
+-- what such totals say, as the rules have it
+abbrev pub totalsSaid : Totals → Closing.Totals
+totalsSaid t =
+    record {
+      refusal = t .refusal;
+      clock = t .clock .0;
+      admitted = t .admitted;
+      sent = t .sent;
+      lost = t .lost;
+      waiting = t .waiting;
+      turned = t .turned;
+    }
+
 -- ---- a packet turned away
 
 -- the segment, and the state, with another count of packets turned away
