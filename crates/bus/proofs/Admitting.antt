@@ -15,34 +15,34 @@ use Rattle.rules.specs.Lists.{some_of, first_of}
 use Rattle.rules.specs.Bus.{places, Station, Bus}
 use Rattle.rules.specs.Standing.{Standing}
 use Rattle.rules.specs.declared.Admitted.{Admitted}
-use Rattle.rules.specs.Admission.{Arrival, named, admissionRefusal, newPacket, queued, joined, withPacket, turnedAfter, admit}
+use Rattle.rules.specs.Admission.{Arrival, named, admission_refusal, new_packet, queued, joined, with_packet, turned_after, admit}
 use Rattle.rules.proofs.Tests.{told}
-use Rattle.rules.proofs.Standing.{stands-exactly, admission-accepted, admit-is}
+use Rattle.rules.proofs.Standing.{stands_exactly, admission_accepted, admit_is}
 use Rattle.bus.specs.Types.{Address, Packet, Queues, State, Queue}
-use Rattle.state.specs.State.{Held, recordedIn, queueAt, stationWith, stationAt, valuesFrom, stationsOf, meaning, form, standing, nobody}
-use Rattle.bus.specs.Coded.{Admission, arrivalOf, codedAdmit, admissionResult, stateTurned}
-use Rattle.state.specs.Parts.{queueOf}
-use Rattle.bus.specs.Parts.{queueForm, firstPlace, refusalTests, refusalAt, segmentCounting}
-use Rattle.state.proofs.Rows.{among-values}
-use Rattle.bus.proofs.FirstPlace.{first-place-holds, first-place-before}
-use Rattle.state.proofs.Form.{parts-padded, queue-length, to-form}
-use Rattle.bus.proofs.Coded.{handed-admission, admit-bears, standing-exactly-admission}
-use Rattle.bus.proofs.QueueLaws.{form-joined, withQueue}
+use Rattle.state.specs.State.{Held, recorded_in, queue_at, station_with, station_at, values_from, stations_of, meaning, form, standing, nobody}
+use Rattle.bus.specs.Coded.{Admission, arrival_of, coded_admit, admission_result, state_turned}
+use Rattle.state.specs.Parts.{queue_of}
+use Rattle.bus.specs.Parts.{queue_form, first_place, refusal_tests, refusal_at, segment_counting}
+use Rattle.state.proofs.Rows.{among_values}
+use Rattle.bus.proofs.FirstPlace.{first_place_holds, first_place_before}
+use Rattle.state.proofs.Form.{parts_padded, queue_length, to_form}
+use Rattle.bus.proofs.Coded.{handed-admission, admit_bears, standing_exactly_admission}
+use Rattle.bus.proofs.QueueLaws.{form-joined, with_queue}
 use Rattle.state.proofs.Stands.{Lent}
-use Rattle.bus.proofs.Changed.{queue-formed, address-of, own-address, recounted, requeued, requeued-held, requeued-padded, stations-now}
+use Rattle.bus.proofs.Changed.{queue_formed, address_of, own-address, recounted, requeued, requeued_held, requeued_padded, stations-now}
 
 -- ---- a test of some value
 
 module _ {X : Type 0} (t : X → Bool) (f : ℕ → X) where
   -- no value passes
-  none_passes : (i k : ℕ) → ((j : ℕ) → i ≤ j → j < i + k → t (f j) ≡ false) → some_of t (valuesFrom f i k) ≡ false
+  none_passes : (i k : ℕ) → ((j : ℕ) → i ≤ j → j < i + k → t (f j) ≡ false) → some_of t (values_from f i k) ≡ false
   none_passes i zero h = refl
   none_passes i (suc k) h = rw (h i (omega arith) (omega arith)) (none_passes (suc i) k (λ j l m. h j (omega arith) (omega arith)))
 
   -- none but that of place j passes
   one_passes :
       (i k j : ℕ) → i ≤ j → j < i + k → ((m : ℕ) → i ≤ m → m < i + k → ¬ (m ≡ j) → t (f m) ≡ false)
-      → some_of t (valuesFrom f i k) ≡ t (f j)
+      → some_of t (values_from f i k) ≡ t (f j)
   one_passes i zero j l h others = absurd (omega arith)
   one_passes i (suc k) j l h others =
       go (eqb j i) refl (λ later. one_passes (suc i) k j later (omega arith) (λ m n o. others m (omega arith) (omega arith)))
@@ -52,7 +52,7 @@ module _ {X : Type 0} (t : X → Bool) (f : ℕ → X) where
       alone false = refl
 
       rest : Bool
-      rest = some_of t (valuesFrom f (suc i) k)
+      rest = some_of t (values_from f (suc i) k)
 
       go : (u : Bool) → eqb j i ≡ u → (suc i ≤ j → rest ≡ t (f j)) → (t (f i) || rest) ≡ t (f j)
       go true e later =
@@ -67,91 +67,91 @@ module _ {X : Type 0} (t : X → Bool) (f : ℕ → X) where
 -- ---- the station with an address
 
 -- the place of the station with an address; N where there is none
-abbrev pub addressPlace : State → Address → ℕ
-addressPlace s address =
-    firstPlace (λ i. eqb address.0 (get_or s.segment.listed i nobody).address.0) 0 s.segment.settings.n
+abbrev pub address_place : State → Address → ℕ
+address_place s address =
+    first_place (λ i. eqb address.0 (get_or s.segment.listed i nobody).address.0) 0 s.segment.settings.n
 
 -- whether station j has it
 abbrev named_by : State → Address → ℕ → Bool
-named_by s address j = eqb address.0 (address-of s j)
+named_by s address j = eqb address.0 (address_of s j)
 
 module _ (s : State) (address : Address) where
   -- where no station has the address
-  none_named : s.segment.settings.n ≤ addressPlace s address → some_of (λ x. eqb address.0 x.address) (stationsOf s) ≡ false
+  none_named : s.segment.settings.n ≤ address_place s address → some_of (λ x. eqb address.0 x.address) (stations_of s) ≡ false
   none_named past =
       none_passes
       (λ x. eqb address.0 x.address)
-      (stationAt s)
+      (station_at s)
       0
       s.segment.settings.n
-      (λ j l m. first-place-before (named_by s address) 0 s.segment.settings.n j l (omega arith))
+      (λ j l m. first_place_before (named_by s address) 0 s.segment.settings.n j l (omega arith))
 
   -- the station at its place has it
-  has-it : addressPlace s address < s.segment.settings.n → address.0 ≡ address-of s (addressPlace s address)
-  has-it here =
+  has_it : address_place s address < s.segment.settings.n → address.0 ≡ address_of s (address_place s address)
+  has_it here =
       let n = s.segment.settings.n in
       let whole : n - 0 ≡ n = omega arith in
       eqb-true
       address.0
-      (address-of s (addressPlace s address))
+      (address_of s (address_place s address))
       (subst
-      (λ k. firstPlace (named_by s address) 0 k < n → named_by s address (firstPlace (named_by s address) 0 k) ≡ true)
+      (λ k. first_place (named_by s address) 0 k < n → named_by s address (first_place (named_by s address) 0 k) ≡ true)
       whole
-      (first-place-holds (named_by s address) 0 n (omega arith))
+      (first_place_holds (named_by s address) 0 n (omega arith))
       here)
 
   -- and no other
   named-at :
-      Standing (meaning s) → addressPlace s address < s.segment.settings.n → (j : ℕ) → j < s.segment.settings.n
-      → named_by s address j ≡ eqb j (addressPlace s address)
+      Standing (meaning s) → address_place s address < s.segment.settings.n → (j : ℕ) → j < s.segment.settings.n
+      → named_by s address j ≡ eqb j (address_place s address)
   named-at h here j there =
-      ap (λ a. eqb a (address-of s j)) (has-it here) ∙ own-address s h (addressPlace s address) j here there
+      ap (λ a. eqb a (address_of s j)) (has_it here) ∙ own-address s h (address_place s address) j here there
 
 -- the state with another count of admitted packets
 abbrev pub counted : State → ℕ → State
 counted s admitted =
     record {
-      segment = segmentCounting s.segment admitted s.segment.lost s.segment.contention (recordedIn s.segment);
+      segment = segment_counting s.segment admitted s.segment.lost s.segment.contention (recorded_in s.segment);
       queues = s.queues;
     }
 
 -- an arrival at the address of which this is the place
-module _ (s : State) (r : Lent s) (place : ℕ) (address : Address) (sought : place ≡ addressPlace s address) (value len : ℕ) where
+module _ (s : State) (r : Lent s) (place : ℕ) (address : Address) (sought : place ≡ address_place s address) (value len : ℕ) where
   abbrev arrival : Arrival
-  arrival = arrivalOf address value len
+  arrival = arrival_of address value len
 
   -- ---- refusals 11 to 16
 
   -- the tests as the code makes them
   abbrev tests : List (ℕ × Bool)
-  tests = refusalTests s.segment.settings s.segment.clock s.segment.admitted s.queues.lengths place value len
+  tests = refusal_tests s.segment.settings s.segment.clock s.segment.admitted s.queues.lengths place value len
 
-  refused-11 : s.segment.settings.n ≤ place → 11 ≡ admissionRefusal (meaning s) arrival
-  refused-11 past = rw (told (stands-exactly (meaning s)) r.stands, none_named s address (omega arith))
+  refused_11 : s.segment.settings.n ≤ place → 11 ≡ admission_refusal (meaning s) arrival
+  refused_11 past = rw (told (stands_exactly (meaning s)) r.stands, none_named s address (omega arith))
 
   -- where no refusal is given, a station has the address
-  at-station : admissionRefusal (meaning s) arrival ≡ 0 → place < s.segment.settings.n
-  at-station none! = go (ltb place s.segment.settings.n) refl
+  at_station : admission_refusal (meaning s) arrival ≡ 0 → place < s.segment.settings.n
+  at_station none! = go (ltb place s.segment.settings.n) refl
     where
       go : (t : Bool) → ltb place s.segment.settings.n ≡ t → place < s.segment.settings.n
       go true e = ltb-true place s.segment.settings.n e
-      go false e = let given = refused-11 (ltb-false place s.segment.settings.n e) in absurd (omega arith)
+      go false e = let given = refused_11 (ltb-false place s.segment.settings.n e) in absurd (omega arith)
 
   module _ (here : place < s.segment.settings.n) where
-    named_here : (j : ℕ) → j < s.segment.settings.n → named arrival (stationAt s j) ≡ eqb j place
+    named_here : (j : ℕ) → j < s.segment.settings.n → named arrival (station_at s j) ≡ eqb j place
     named_here j there = named-at s address r.stands (omega arith) j there ∙ ap (eqb j) (sym sought)
 
-    has-name : named arrival (stationAt s place) ≡ true
-    has-name = named_here place here ∙ eq-eqb place place refl
+    has_name : named arrival (station_at s place) ≡ true
+    has_name = named_here place here ∙ eq-eqb place place refl
 
     -- a test that no other station passes
     tested-here :
-        (test : Station → Bool) → ((j : ℕ) → named arrival (stationAt s j) ≡ false → test (stationAt s j) ≡ false)
-        → some_of test (stationsOf s) ≡ test (stationAt s place)
+        (test : Station → Bool) → ((j : ℕ) → named arrival (station_at s j) ≡ false → test (station_at s j) ≡ false)
+        → some_of test (stations_of s) ≡ test (station_at s place)
     tested-here test others =
         one_passes
         test
-        (stationAt s)
+        (station_at s)
         0
         s.segment.settings.n
         place
@@ -159,33 +159,33 @@ module _ (s : State) (r : Lent s) (place : ℕ) (address : Address) (sought : pl
         (omega arith)
         (λ j l m other. others j (named_here j (omega arith) ∙ ne_eqb j place other))
 
-    some-named : some_of (named arrival) (stationsOf s) ≡ true
-    some-named = tested-here (named arrival) (λ j other. other) ∙ has-name
+    some_named : some_of (named arrival) (stations_of s) ≡ true
+    some_named = tested-here (named arrival) (λ j other. other) ∙ has_name
 
     -- a test of the station with the address
-    some-such : (test : Station → Bool) → some_of (λ x. named arrival x && test x) (stationsOf s) ≡ test (stationAt s place)
-    some-such test =
-        tested-here (λ x. named arrival x && test x) (λ j other. ap (λ u. u && test (stationAt s j)) other)
-        ∙ ap (λ u. u && test (stationAt s place)) has-name
+    some_such : (test : Station → Bool) → some_of (λ x. named arrival x && test x) (stations_of s) ≡ test (station_at s place)
+    some_such test =
+        tested-here (λ x. named arrival x && test x) (λ j other. ap (λ u. u && test (station_at s j)) other)
+        ∙ ap (λ u. u && test (station_at s place)) has_name
 
-    waiting-here : length (queueAt s.queues place) ≡ get_or s.queues.lengths place 0
-    waiting-here = queue-length s r.held r.zeros place (omega arith)
+    waiting_here : length (queue_at s.queues place) ≡ get_or s.queues.lengths place 0
+    waiting_here = queue_length s r.held r.zeros place (omega arith)
 
-    refused-later : first_of 0 (drop 1 tests) ≡ admissionRefusal (meaning s) arrival
-    refused-later =
+    refused_later : first_of 0 (drop 1 tests) ≡ admission_refusal (meaning s) arrival
+    refused_later =
         rw (
-          told (stands-exactly (meaning s)) r.stands,
-          some-named,
-          some-such (λ x. leb places (length x.queue)) ∙ ap (leb places) waiting-here,
+          told (stands_exactly (meaning s)) r.stands,
+          some_named,
+          some_such (λ x. leb places (length x.queue)) ∙ ap (leb places) waiting_here,
         )
 
     -- where no refusal is given, there is room
-    room-left : admissionRefusal (meaning s) arrival ≡ 0 → get_or s.queues.lengths place 0 < places
-    room-left none! =
-        let n = waiting-here in
-        let mine = eqb-true address.0 (address-of s place) has-name in
-        let among = among-values (stationAt s) 0 s.segment.settings.n place (omega arith) (omega arith) in
-        omega (arith, (admission-accepted (meaning s) arrival none!).room (stationAt s place) among mine)
+    room_left : admission_refusal (meaning s) arrival ≡ 0 → get_or s.queues.lengths place 0 < places
+    room_left none! =
+        let n = waiting_here in
+        let mine = eqb-true address.0 (address_of s place) has_name in
+        let among = among_values (station_at s) 0 s.segment.settings.n place (omega arith) (omega arith) in
+        omega (arith, (admission_accepted (meaning s) arrival none!).room (station_at s place) among mine)
 
     -- ---- the packet joins its station's queue
 
@@ -194,99 +194,99 @@ module _ (s : State) (r : Lent s) (place : ℕ) (address : Address) (sought : pl
       packet = record { number = number; value = value; length = len; admission = s.segment.clock }
 
       abbrev longer : List Packet
-      longer = queueAt s.queues place ++ (packet ∷ [])
+      longer = queue_at s.queues place ++ (packet ∷ [])
 
       -- each station is as the rules have it
       station-joined :
           (j : ℕ) → j < s.segment.settings.n
-          → stationWith s.segment j (cond (eqb j place) longer (queueAt s.queues j)) ≡ joined (meaning s) arrival (stationAt s j)
+          → station_with s.segment j (cond (eqb j place) longer (queue_at s.queues j)) ≡ joined (meaning s) arrival (station_at s j)
       station-joined j there =
           go (eqb j place) refl
-          ∙ ap (λ u. cond u (queued (newPacket (meaning s) arrival) (stationAt s j)) (stationAt s j)) (sym (named_here j there))
+          ∙ ap (λ u. cond u (queued (new_packet (meaning s) arrival) (station_at s j)) (station_at s j)) (sym (named_here j there))
         where
           go :
               (t : Bool) → eqb j place ≡ t
-              → stationWith s.segment j (cond t longer (queueAt s.queues j))
-              ≡ cond t (queued (newPacket (meaning s) arrival) (stationAt s j)) (stationAt s j)
+              → station_with s.segment j (cond t longer (queue_at s.queues j))
+              ≡ cond t (queued (new_packet (meaning s) arrival) (station_at s j)) (station_at s j)
           go true e =
               ap₂
-              (λ i n. stationWith s.segment j (queueAt s.queues i ++ (record { number = n; value = value; length = len; admission = s.segment.clock } ∷ [])))
+              (λ i n. station_with s.segment j (queue_at s.queues i ++ (record { number = n; value = value; length = len; admission = s.segment.clock } ∷ [])))
               (sym (eqb-true j place e))
               next
           go false e = refl
 
       fits : length longer ≤ places
-      fits = let n = waiting-here in omega (arith, length-append (queueAt s.queues place) (packet ∷ []))
+      fits = let n = waiting_here in omega (arith, length-append (queue_at s.queues place) (packet ∷ []))
 
-      means : meaning (requeued (counted s number) place longer) ≡ withPacket (meaning s) arrival
+      means : meaning (requeued (counted s number) place longer) ≡ with_packet (meaning s) arrival
       means =
           let f = joined (meaning s) arrival in
-          let stations = stations-now (counted s number) r.held r.zeros r.few place here longer fits f (stationAt s) station-joined in
+          let stations = stations-now (counted s number) r.held r.zeros r.few place here longer fits f (station_at s) station-joined in
           λ i. recounted (meaning s) (stations i) (next i) (meaning s).lost (meaning s).contention
 
-      pub state-joined : requeued (counted s number) place longer ≡ form (withPacket (meaning s) arrival)
-      state-joined =
+      pub state_joined : requeued (counted s number) place longer ≡ form (with_packet (meaning s) arrival)
+      state_joined =
           let next-state = requeued (counted s number) place longer in
-          to-form
+          to_form
           next-state
-          (withPacket (meaning s) arrival)
-          (requeued-held (counted s number) r.held r.zeros r.few place here longer fits)
-          (parts-padded next-state (requeued-padded (counted s number) r.held r.zeros r.few place here longer fits))
+          (with_packet (meaning s) arrival)
+          (requeued_held (counted s number) r.held r.zeros r.few place here longer fits)
+          (parts_padded next-state (requeued_padded (counted s number) r.held r.zeros r.few place here longer fits))
           means
 
 -- the refusal of the code is that of the rules
 pub refusal_is :
-    (s : State) (r : Lent s) (place : ℕ) (address : Address) (sought : place ≡ addressPlace s address) (value len : ℕ)
-    → refusalAt s.segment.settings s.segment.clock s.segment.admitted s.queues.lengths place value len
-    ≡ admissionRefusal (meaning s) (arrivalOf address value len)
+    (s : State) (r : Lent s) (place : ℕ) (address : Address) (sought : place ≡ address_place s address) (value len : ℕ)
+    → refusal_at s.segment.settings s.segment.clock s.segment.admitted s.queues.lengths place value len
+    ≡ admission_refusal (meaning s) (arrival_of address value len)
 refusal_is s r place address sought value len = go (leb s.segment.settings.n place) refl
   where
     later : List (ℕ × Bool)
-    later = drop 1 (refusalTests s.segment.settings s.segment.clock s.segment.admitted s.queues.lengths place value len)
+    later = drop 1 (refusal_tests s.segment.settings s.segment.clock s.segment.admitted s.queues.lengths place value len)
 
     go :
         (t : Bool) → leb s.segment.settings.n place ≡ t
-        → first_of 0 ((11, t) ∷ later) ≡ admissionRefusal (meaning s) (arrivalOf address value len)
-    go true e = refused-11 s r place address sought value len (leb-true s.segment.settings.n place e)
-    go false e = refused-later s r place address sought value len (leb-false s.segment.settings.n place e)
+        → first_of 0 ((11, t) ∷ later) ≡ admission_refusal (meaning s) (arrival_of address value len)
+    go true e = refused_11 s r place address sought value len (leb-true s.segment.settings.n place e)
+    go false e = refused_later s r place address sought value len (leb-false s.segment.settings.n place e)
 
 -- an accepted admission
 abbrev pub accepted : State → Arrival → Admission
 accepted s a =
-    record { answer = record { refusal = 0; number = suc s.segment.admitted }; state = form (withPacket (meaning s) a) }
+    record { answer = record { refusal = 0; number = suc s.segment.admitted }; state = form (with_packet (meaning s) a) }
 
 -- ---- what a call gives back
 
 -- a refused call's answer and state: its number, and the state as lent but for the count of packets turned away
-abbrev pub refusedIn : State → ℕ → Admission
-refusedIn s refusal = admissionResult (record { refusal = refusal; number = 0 }, stateTurned s (turnedAfter refusal s.segment.turned))
+abbrev pub refused_in : State → ℕ → Admission
+refused_in s refusal = admission_result (record { refusal = refusal; number = 0 }, state_turned s (turned_after refusal s.segment.turned))
 
 handed-back :
-    (s : State) → Held s → (a : Arrival) (refusal : ℕ) → (codedAdmit s a).0.refusal ≡ refusal → ¬ (refusal ≡ 0)
-    → refusedIn s refusal ≡ admissionResult (codedAdmit s a)
+    (s : State) → Held s → (a : Arrival) (refusal : ℕ) → (coded_admit s a).0.refusal ≡ refusal → ¬ (refusal ≡ 0)
+    → refused_in s refusal ≡ admission_result (coded_admit s a)
 handed-back s held a refusal e given =
-    sym (ap admissionResult (handed-admission s held a (λ z. given (sym e ∙ z))) ∙ ap (refusedIn s) e)
+    sym (ap admission_result (handed-admission s held a (λ z. given (sym e ∙ z))) ∙ ap (refused_in s) e)
 
-pub gives-1 : (s : State) → Held s → (a : Arrival) → standing s ≡ false → refusedIn s 1 ≡ admissionResult (codedAdmit s a)
-gives-1 s held a e = handed-back s held a 1 ((standing-exactly-admission s a).1 e) (λ z. omega arith)
+pub gives_1 : (s : State) → Held s → (a : Arrival) → standing s ≡ false → refused_in s 1 ≡ admission_result (coded_admit s a)
+gives_1 s held a e = handed-back s held a 1 ((standing_exactly_admission s a).1 e) (λ z. omega arith)
 
 module _ (s : State) (r : Lent s) (a : Arrival) where
   -- it is the call of the rules
-  of-rules : codedAdmit s a ≡ ((admit (meaning s) a).0, form (admit (meaning s) a).1)
-  of-rules =
+  of_rules : coded_admit s a ≡ ((admit (meaning s) a).0, form (admit (meaning s) a).1)
+  of_rules =
       ap
       (λ t. cond t ((admit (meaning s) a).0, form (admit (meaning s) a).1) (record { refusal = 1; number = 0 }, s))
-      (parts-padded s r.zeros)
+      (parts_padded s r.zeros)
 
   pub gives-refusal :
-      (refusal : ℕ) → refusal ≡ admissionRefusal (meaning s) a → ¬ (refusal ≡ 0) → refusedIn s refusal ≡ admissionResult (codedAdmit s a)
+      (refusal : ℕ) → refusal ≡ admission_refusal (meaning s) a → ¬ (refusal ≡ 0) → refused_in s refusal ≡ admission_result (coded_admit s a)
   gives-refusal refusal e =
-      handed-back s r.held a refusal (ap (λ (o : Admitted × State). o.0.refusal) of-rules ∙ admit-bears (meaning s) a ∙ sym e)
+      handed-back s r.held a refusal (ap (λ (o : Admitted × State). o.0.refusal) of_rules ∙ admit_bears (meaning s) a ∙ sym e)
 
-  takes-in : admissionRefusal (meaning s) a ≡ 0 → accepted s a ≡ admissionResult (codedAdmit s a)
-  takes-in none! =
+  takes_in : admission_refusal (meaning s) a ≡ 0 → accepted s a ≡ admission_result (coded_admit s a)
+  takes_in none! =
       sym
-      (ap admissionResult of-rules ∙ ap (λ (o : Admitted × Bus). admissionResult (o.0, form o.1)) (admit-is (meaning s) a none!))
+      (ap admission_result of_rules ∙ ap (λ (o : Admitted × Bus). admission_result (o.0, form o.1)) (admit_is (meaning s) a none!))
 
 -- ---- the packet joins in place
 
@@ -306,8 +306,8 @@ set-part (x ∷ xs) (suc f) m j p h l =
     ∙ ap (λ n. (x ∷ (take f xs ++ set (take m (drop f xs)) j p)) ++ drop n (x ∷ xs)) (sym (suc-add f m))
 
 -- the row in which a packet has taken the first free place of station i's
-abbrev pub rowWith : Queues → ℕ → Packet → Queues
-rowWith qs i p =
+abbrev pub row_with : Queues → ℕ → Packet → Queues
+row_with qs i p =
     record {
       lengths = set qs.lengths i (get_or qs.lengths i 0 + 1);
       packets = set qs.packets (16 * i + get_or qs.lengths i 0) p;
@@ -315,24 +315,24 @@ rowWith qs i p =
 
 -- it is the row with the longer queue put back
 pub row-joined :
-    (qs : Queues) (i : ℕ) (p : Packet) → i < 64 → length qs.packets ≡ 1024 → queueOf qs i ≡ queueForm (queueAt qs i)
-    → get_or qs.lengths i 0 < 16 → rowWith qs i p ≡ withQueue qs i (queueForm (queueAt qs i ++ (p ∷ [])))
+    (qs : Queues) (i : ℕ) (p : Packet) → i < 64 → length qs.packets ≡ 1024 → queue_of qs i ≡ queue_form (queue_at qs i)
+    → get_or qs.lengths i 0 < 16 → row_with qs i p ≡ with_queue qs i (queue_form (queue_at qs i ++ (p ∷ [])))
 row-joined qs i p h row e room =
     let n = get_or qs.lengths i 0 in
     let m = ap (λ (queue : Queue). queue.length) e in
     let here = set-part qs.packets (16 * i) 16 n p (omega arith) room in
     ap (λ ps. made_row (set qs.lengths i (n + 1)) ps) here
-    ∙ ap (withQueue qs i) (form-joined (queueOf qs i) (queueAt qs i) p e (omega arith))
+    ∙ ap (with_queue qs i) (form-joined (queue_of qs i) (queue_at qs i) p e (omega arith))
   where
     made_row : List ℕ → List Packet → Queues
     made_row lengths packets = record { lengths = lengths; packets = packets }
 
 -- the state in which a packet of this number has taken the first free place of the station at a place
-abbrev pub joinedAt : State → ℕ → ℕ → ℕ → ℕ → State
-joinedAt s place number value len =
+abbrev pub joined_at : State → ℕ → ℕ → ℕ → ℕ → State
+joined_at s place number value len =
     record {
       segment = (counted s number).segment;
-      queues = rowWith s.queues place (record { number = number; value = value; length = len; admission = s.segment.clock });
+      queues = row_with s.queues place (record { number = number; value = value; length = len; admission = s.segment.clock });
     }
 
 -- what is given back with this number and this state
@@ -345,27 +345,27 @@ module _
     (r : Lent s)
     (place : ℕ)
     (address : Address)
-    (sought : place ≡ addressPlace s address)
+    (sought : place ≡ address_place s address)
     (value len : ℕ)
-    (none! : admissionRefusal (meaning s) (arrivalOf address value len) ≡ 0)
+    (none! : admission_refusal (meaning s) (arrival_of address value len) ≡ 0)
   where
     here! : place < s.segment.settings.n
-    here! = at-station s r place address sought value len none!
+    here! = at_station s r place address sought value len none!
 
-    pub in-row : place < 64
-    in-row = let h = here! in omega (arith, r.few)
+    pub within_row : place < 64
+    within_row = let h = here! in omega (arith, r.few)
 
     pub room_at : get_or s.queues.lengths place 0 < 16
-    room_at = room-left s r place address sought value len here! none!
+    room_at = room_left s r place address sought value len here! none!
 
     pub joined-in-place :
         (number : ℕ) → number ≡ s.segment.admitted + 1
-        → taken number (joinedAt s place number value len) ≡ admissionResult (codedAdmit s (arrivalOf address value len))
+        → taken number (joined_at s place number value len) ≡ admission_result (coded_admit s (arrival_of address value len))
     joined-in-place number e =
         let next = e ∙ add-one s.segment.admitted in
         let packet : Packet = record { number = number; value = value; length = len; admission = s.segment.clock } in
-        let formed = queue-formed s r.held r.zeros place in-row in
+        let formed = queue_formed s r.held r.zeros place within_row in
         ap (λ queues. taken number (record { segment = (counted s number).segment; queues = queues }))
-        (row-joined s.queues place packet in-row r.held.packets formed room_at)
-        ∙ ap₂ taken next (state-joined s r place address sought value len here! number next room_at)
-        ∙ takes-in s r (arrivalOf address value len) none!
+        (row-joined s.queues place packet within_row r.held.packets formed room_at)
+        ∙ ap₂ taken next (state_joined s r place address sought value len here! number next room_at)
+        ∙ takes_in s r (arrival_of address value len) none!

@@ -12,34 +12,34 @@ use lib.ListN.{length, get_or}
 use borrow.Author.Tests.{eqb-true, ne_eqb}
 use Rattle.window.specs.declared.Side.{Side}
 use Rattle.window.specs.declared.Side.TheVariants.{Left, Right}
-use Rattle.word.specs.Word.{bit_at, placesFrom, placed, first_or}
-use Rattle.word.proofs.Laws.{members-word, places_same, places-none, places-split}
+use Rattle.word.specs.Word.{bit_at, places_from, placed, first_or}
+use Rattle.word.proofs.Laws.{members_word, places_same, places_none, places_split}
 use Rattle.window.specs.Splitting as Splitting
-use Rattle.window.specs.Splitting.{firstWindow, left_half, moveRight, movedRight, inWindow}
-use Rattle.window.proofs.Facts.{moved-right}
+use Rattle.window.specs.Splitting.{first_window, left_half, move_right, moved_right, in_window}
+use Rattle.window.proofs.Facts.{moved_right_free}
 use Rattle.rules.specs.Lists.{kept, keep, Among}
 use Rattle.rules.specs.Bus as Machine
-use Rattle.rules.specs.Bus.{Discipline, PRI, RTDG, RTVC, Station, Bus, places, most-stations, late}
-use Rattle.rules.specs.SetUp.{disciplineOf}
+use Rattle.rules.specs.Bus.{Discipline, PRI, RTDG, RTVC, Station, Bus, places, most_stations, late}
+use Rattle.rules.specs.SetUp.{discipline_of}
 use Rattle.rules.specs.Standing.{OfferStands, StationStands, WindowStands, ContentionStands}
 use Rattle.rules.specs.Probe as Probe
-use Rattle.rules.specs.Probe.{contending, contenders, lies_in, able, transmits, transmitters, phaseOf, tie-phase, parameter-phase, idle, collision, success, waitOf, answered, unsent, sentBy, goesOn, withdrawn, unwon, left, lastWinner, tiedAt, split, heard, probe}
-use Rattle.rules.proofs.Laws.{and-true, true-and, count-some, count-le, total-among}
+use Rattle.rules.specs.Probe.{contending, contenders, lies_in, able, transmits, transmitters, phase_of, tie_phase, parameter_phase, idle, collision, success, wait_of, answered, unsent, sent_by, going_further, withdrawn, unwon, left, last_winner, tied_at, split, heard, probe}
+use Rattle.rules.proofs.Laws.{and-true, true-and, count_some, count-le, total_among}
 use Rattle.bus.specs.Types.{Packet, Address, Capability, Contention, Round, Segment, Queues, State}
-use Rattle.state.specs.State.{Held, recordedIn, recordedAt, place_in, noPacket, noContender, noRound, noContention, nobody, queueAt, offerOf, stationWith, stationAt, valuesFrom, stationsOf, last_of, tie_of, contentionOf, meaning, form, contender-padded, no-station, round-padded, no-window, contention-padded}
-use Rattle.bus.specs.Coded.{Answer, Stepped, answerForm, stepResult}
-use Rattle.bus.specs.Parts.{Progress, Moved, Sent, stays, queueForm, contenderAt, liesIn, addressesOf, answerAt, splitOf, collidedOn, unheardOn, roundAfter, wonOn, movedBy, segmentWith, withMoved, progressOf, Sole, noSole, soleAt, sole_of, heardIn}
-use Rattle.state.specs.Parts.{noContenders}
-use Rattle.state.proofs.Rows.{values-map, values_same, row_at, among-values}
-use Rattle.state.proofs.Contenders.{recorded-held, place-recorded}
-use Rattle.state.proofs.Form.{Padded, parts-padded, to-form, bits-past-N}
-use Rattle.bus.proofs.QueueLaws.{kept-length, withQueue}
+use Rattle.state.specs.State.{Held, recorded_in, recorded_at, place_in, no_packet, no_contender, no_round, no_contention, nobody, queue_at, offer_of, station_with, station_at, values_from, stations_of, last_of, tie_of, contention_of, meaning, form, contender_padded, has_no_station, round_padded, no_window, contention_padded}
+use Rattle.bus.specs.Coded.{Answer, Stepped, answer_form, step_result}
+use Rattle.bus.specs.Parts.{Progress, Moved, Sent, stays, queue_form, contender_at, lies_within, addresses_of, answer_at, split_of, collided_on, unheard_on, round_after, won_on, moved_by, segment_with, with_moved, progress_of, Sole, no_sole, sole_at, sole_of, heard_in}
+use Rattle.state.specs.Parts.{no_contenders}
+use Rattle.state.proofs.Rows.{values_map, values_same, row_at, among_values}
+use Rattle.state.proofs.Contenders.{recorded_held, place_recorded}
+use Rattle.state.proofs.Form.{Padded, parts_padded, to_form, bits_past_n}
+use Rattle.bus.proofs.QueueLaws.{kept_length, with_queue}
 use Rattle.state.proofs.Stands.{Lent}
-use Rattle.bus.proofs.Changed.{own-address, requeued, requeued-held, requeued-padded, stations-now}
+use Rattle.bus.proofs.Changed.{own-address, requeued, requeued_held, requeued_padded, stations-now}
 
 -- the bus as it is probed, with the contention that has begun
-abbrev pub openOf : State → ℕ → Probe.Open
-openOf s drops =
+abbrev pub open_of : State → ℕ → Probe.Open
+open_of s drops =
     record {
       bus = meaning s;
       contention = record { window = s.segment.contention.window; tie = tie_of s.segment.contention };
@@ -54,57 +54,57 @@ pub record Probed : Type 0 where
   pub segment : Segment
   pub winner : ℕ
 
-abbrev probedWith : Segment → Moved → ℕ → Probed
-probedWith g m place =
-    record { answer = m.answer; segment = withMoved g m; winner = cond (eqb m.answer.event success) place 0 }
+abbrev probed_with : Segment → Moved → ℕ → Probed
+probed_with g m place =
+    record { answer = m.answer; segment = with_moved g m; winner = cond (eqb m.answer.event success) place 0 }
 
 -- two or more have no sole winner
-pub sole-more : (g : Segment) (i j : ℕ) (places : List ℕ) → sole_of g (i ∷ j ∷ places) ≡ noSole
-sole-more g i j places = ap (λ t. cond t (soleAt g i) noSole) (ne_eqb (suc (suc (length places))) 1 (λ e. omega arith))
+pub sole_more : (g : Segment) (i j : ℕ) (places : List ℕ) → sole_of g (i ∷ j ∷ places) ≡ no_sole
+sole_more g i j places = ap (λ t. cond t (sole_at g i) no_sole) (ne_eqb (suc (suc (length places))) 1 (λ e. omega arith))
 
-abbrev probedBy : Segment → ℕ → List ℕ → Probed
-probedBy g drops places =
-    probedWith
+abbrev probed_by : Segment → ℕ → List ℕ → Probed
+probed_by g drops places =
+    probed_with
     g
-    (movedBy g.settings (progressOf g) drops (length places) (sole_of g places).listed (sole_of g places).packet)
+    (moved_by g.settings (progress_of g) drops (length places) (sole_of g places).listed (sole_of g places).packet)
     (sole_of g places).place
 
 probed-more :
     (g : Segment) (drops i j : ℕ) (places : List ℕ)
-    → probedBy g drops (i ∷ j ∷ places) ≡ probedWith g (collidedOn g.settings.a (progressOf g) drops) 0
+    → probed_by g drops (i ∷ j ∷ places) ≡ probed_with g (collided_on g.settings.a (progress_of g) drops) 0
 probed-more g drops i j places =
     ap
-    (λ (x : Sole). probedWith g (movedBy g.settings (progressOf g) drops (suc (suc (length places))) x.listed x.packet) x.place)
-    (sole-more g i j places)
+    (λ (x : Sole). probed_with g (moved_by g.settings (progress_of g) drops (suc (suc (length places))) x.listed x.packet) x.place)
+    (sole_more g i j places)
     ∙ ap₂
     (λ none one.
-    probedWith
+    probed_with
     g
     (cond
     none
-    (unheardOn (progressOf g) drops g.contention.window.side)
+    (unheard_on (progress_of g) drops g.contention.window.side)
     (cond
     one
-    (wonOn (disciplineOf g.settings.discipline) (progressOf g) drops nobody noPacket)
-    (collidedOn g.settings.a (progressOf g) drops)))
+    (won_on (discipline_of g.settings.discipline) (progress_of g) drops nobody no_packet)
+    (collided_on g.settings.a (progress_of g) drops)))
     0)
     (ne_eqb (suc (suc (length places))) 0 (λ e. omega arith))
     (ne_eqb (suc (suc (length places))) 1 (λ e. omega arith))
 
 abbrev pub probed : Segment → ℕ → Probed
-probed g drops = probedBy g drops (heardIn g)
+probed g drops = probed_by g drops (heard_in g)
 
 -- ---- who transmits
 
 -- the first of the places for which a test holds is one of them
 pub first-in :
-    (f : ℕ → Bool) (i k : ℕ) {m : ℕ} {ms : List ℕ} → placesFrom f i k ≡ m ∷ ms → (i ≤ m) × (m < i + k) × (f m ≡ true)
+    (f : ℕ → Bool) (i k : ℕ) {m : ℕ} {ms : List ℕ} → places_from f i k ≡ m ∷ ms → (i ≤ m) × (m < i + k) × (f m ≡ true)
 first-in f i zero e = let n = ap length e in absurd (omega arith)
 first-in f i (suc k) {m} {ms} e = go (f i) refl e (first-in f (suc i) k)
   where
     go :
-        (t : Bool) → f i ≡ t → placed t i (placesFrom f (suc i) k) ≡ m ∷ ms
-        → (placesFrom f (suc i) k ≡ m ∷ ms → (suc i ≤ m) × (m < suc i + k) × (f m ≡ true)) → (i ≤ m) × (m < i + suc k) × (f m ≡ true)
+        (t : Bool) → f i ≡ t → placed t i (places_from f (suc i) k) ≡ m ∷ ms
+        → (places_from f (suc i) k ≡ m ∷ ms → (suc i ≤ m) × (m < suc i + k) × (f m ≡ true)) → (i ≤ m) × (m < i + suc k) × (f m ≡ true)
     go true h q later = let same = ap first_or q in (omega arith, omega arith, ap f (sym same) ∙ h)
     go false h q later = let r = later q in (omega (arith, r.0), omega (arith, r.1), r.2)
 
@@ -113,39 +113,39 @@ module _ (s : State) where
   n = s.segment.settings.n
 
   -- the contention under way
-  abbrev under-way : Machine.Contention
-  under-way = record { window = s.segment.contention.window; tie = tie_of s.segment.contention }
+  abbrev under_way : Machine.Contention
+  under_way = record { window = s.segment.contention.window; tie = tie_of s.segment.contention }
 
   -- whether station i contends and transmits
-  abbrev pub transmitsAt : ℕ → Bool
-  transmitsAt i = (recordedAt s.segment i).contends && transmits (meaning s) under-way (contenderAt s.segment i)
+  abbrev pub transmits_at : ℕ → Bool
+  transmits_at i = (recorded_at s.segment i).contends && transmits (meaning s) under_way (contender_at s.segment i)
 
   -- which is what the numbers that a probe is lent say
   lent_same :
-      (i : ℕ) → i < most-stations
+      (i : ℕ) → i < most_stations
       → (bit_at s.segment.contenders i
-      && (liesIn s.segment.contention (get_or s.segment.parameters i 0) (get_or (addressesOf s.segment.listed) i 0)
+      && (lies_within s.segment.contention (get_or s.segment.parameters i 0) (get_or (addresses_of s.segment.listed) i 0)
       && not (late (meaning s).discipline s.segment.clock.0 (get_or s.segment.values i 0))))
-      ≡ transmitsAt i
+      ≡ transmits_at i
   lent_same i l =
       ap
       (λ (a : ℕ).
       bit_at s.segment.contenders i
-      && (liesIn s.segment.contention (get_or s.segment.parameters i 0) a
+      && (lies_within s.segment.contention (get_or s.segment.parameters i 0) a
       && not (late (meaning s).discipline s.segment.clock.0 (get_or s.segment.values i 0))))
-      (row_at most-stations (λ j. (get_or s.segment.listed j nobody).address.0) i 0 l)
+      (row_at most_stations (λ j. (get_or s.segment.listed j nobody).address.0) i 0 l)
       ∙ go s.segment.contention.tied
     where
       x : Probe.Contender
-      x = contenderAt s.segment i
+      x = contender_at s.segment i
 
       go :
           (t : Bool)
           → (bit_at s.segment.contenders i
           && (cond
           t
-          (eqb x.parameter s.segment.contention.tie && inWindow s.segment.contention.window x.address)
-          (inWindow s.segment.contention.window x.parameter)
+          (eqb x.parameter s.segment.contention.tie && in_window s.segment.contention.window x.address)
+          (in_window s.segment.contention.window x.parameter)
           && able (meaning s).discipline s.segment.clock.0 x))
           ≡ (bit_at s.segment.contenders i
           && (lies_in s.segment.contention.window (cond t (some s.segment.contention.tie) none) x
@@ -154,71 +154,71 @@ module _ (s : State) where
       go false = refl
 
   -- those who transmit of the k stations from place i on
-  abbrev heardFrom : ℕ → ℕ → List Probe.Contender
-  heardFrom i k = keep (transmits (meaning s) under-way) (contenders (valuesFrom (stationAt s) i k))
+  abbrev heard_from : ℕ → ℕ → List Probe.Contender
+  heard_from i k = keep (transmits (meaning s) under_way) (contenders (values_from (station_at s) i k))
 
   -- the station at a place comes first, if it transmits
-  heard-place : (i k : ℕ) → heardFrom i (suc k) ≡ kept (transmitsAt i) (contenderAt s.segment i) (heardFrom (suc i) k)
-  heard-place i k = go (recordedAt s.segment i).contends
+  heard_place : (i k : ℕ) → heard_from i (suc k) ≡ kept (transmits_at i) (contender_at s.segment i) (heard_from (suc i) k)
+  heard_place i k = go (recorded_at s.segment i).contends
     where
       x : Probe.Contender
-      x = contenderAt s.segment i
+      x = contender_at s.segment i
 
       go :
           (t : Bool)
           → keep
-          (transmits (meaning s) under-way)
+          (transmits (meaning s) under_way)
           (contending
-          (stationAt s i)
+          (station_at s i)
           (cond t (some (record { parameter = x.parameter; packet = x.packet })) none)
-          (contenders (valuesFrom (stationAt s) (suc i) k)))
-          ≡ kept (t && transmits (meaning s) under-way x) x (heardFrom (suc i) k)
+          (contenders (values_from (station_at s) (suc i) k)))
+          ≡ kept (t && transmits (meaning s) under_way x) x (heard_from (suc i) k)
       go true = refl
       go false = refl
 
-  heard-places : (i k : ℕ) → heardFrom i k ≡ map (contenderAt s.segment) (placesFrom transmitsAt i k)
-  heard-places i zero = refl
-  heard-places i (suc k) = heard-place i k ∙ go (transmitsAt i) (heard-places (suc i) k)
+  heard_places : (i k : ℕ) → heard_from i k ≡ map (contender_at s.segment) (places_from transmits_at i k)
+  heard_places i zero = refl
+  heard_places i (suc k) = heard_place i k ∙ go (transmits_at i) (heard_places (suc i) k)
     where
       go :
-          (t : Bool) → heardFrom (suc i) k ≡ map (contenderAt s.segment) (placesFrom transmitsAt (suc i) k)
-          → kept t (contenderAt s.segment i) (heardFrom (suc i) k)
-          ≡ map (contenderAt s.segment) (placed t i (placesFrom transmitsAt (suc i) k))
-      go true more = ap (λ xs. contenderAt s.segment i ∷ xs) more
+          (t : Bool) → heard_from (suc i) k ≡ map (contender_at s.segment) (places_from transmits_at (suc i) k)
+          → kept t (contender_at s.segment i) (heard_from (suc i) k)
+          ≡ map (contender_at s.segment) (placed t i (places_from transmits_at (suc i) k))
+      go true more = ap (λ xs. contender_at s.segment i ∷ xs) more
       go false more = more
 
   -- the word's members are the stations that transmit: bits at N and above are clear
   module _ (r : Lent s) where
-    nobody-sends : (j : ℕ) → n ≤ j → j < most-stations → transmitsAt j ≡ false
-    nobody-sends j m l =
-        ap (λ t. t && transmits (meaning s) under-way (contenderAt s.segment j)) (bits-past-N s r.held r.zeros j m)
+    nobody_sends : (j : ℕ) → n ≤ j → j < most_stations → transmits_at j ≡ false
+    nobody_sends j m l =
+        ap (λ t. t && transmits (meaning s) under_way (contender_at s.segment j)) (bits_past_n s r.held r.zeros j m)
 
-    pub members-are : heardIn s.segment ≡ placesFrom transmitsAt 0 n
-    members-are =
+    pub members_are : heard_in s.segment ≡ places_from transmits_at 0 n
+    members_are =
         let few = r.few in
-        let all : n + (most-stations - n) ≡ most-stations = omega arith in
-        members-word lent-test
-        ∙ places_same lent-test transmitsAt 0 most-stations (λ j l m. lent_same j (omega arith))
-        ∙ ap (placesFrom transmitsAt 0) (sym all)
-        ∙ places-split transmitsAt 0 n (most-stations - n)
+        let all : n + (most_stations - n) ≡ most_stations = omega arith in
+        members_word lent_test
+        ∙ places_same lent_test transmits_at 0 most_stations (λ j l m. lent_same j (omega arith))
+        ∙ ap (places_from transmits_at 0) (sym all)
+        ∙ places_split transmits_at 0 n (most_stations - n)
         ∙ ap
-        (λ ms. placesFrom transmitsAt 0 n ++ ms)
-        (places-none transmitsAt (0 + n) (most-stations - n) (λ j l m. nobody-sends j (omega arith) (omega arith)))
-        ∙ append-nil (placesFrom transmitsAt 0 n)
+        (λ ms. places_from transmits_at 0 n ++ ms)
+        (places_none transmits_at (0 + n) (most_stations - n) (λ j l m. nobody_sends j (omega arith) (omega arith)))
+        ∙ append-nil (places_from transmits_at 0 n)
       where
-        lent-test : ℕ → Bool
-        lent-test i =
+        lent_test : ℕ → Bool
+        lent_test i =
             bit_at s.segment.contenders i
-            && (liesIn s.segment.contention (get_or s.segment.parameters i 0) (get_or (addressesOf s.segment.listed) i 0)
-            && not (late (disciplineOf s.segment.settings.discipline) s.segment.clock.0 (get_or s.segment.values i 0)))
+            && (lies_within s.segment.contention (get_or s.segment.parameters i 0) (get_or (addresses_of s.segment.listed) i 0)
+            && not (late (discipline_of s.segment.settings.discipline) s.segment.clock.0 (get_or s.segment.values i 0)))
 
     -- all who transmit, as the rules have them
-    all-heard : transmitters (meaning s) under-way ≡ map (contenderAt s.segment) (heardIn s.segment)
-    all-heard = heard-places 0 n ∙ sym (ap (map (contenderAt s.segment)) members-are)
+    all_heard : transmitters (meaning s) under_way ≡ map (contender_at s.segment) (heard_in s.segment)
+    all_heard = heard_places 0 n ∙ sym (ap (map (contender_at s.segment)) members_are)
 
     -- the first of them is a station that transmits
-    pub first-sends : {m : ℕ} {ms : List ℕ} → heardIn s.segment ≡ m ∷ ms → (m < n) × (transmitsAt m ≡ true)
-    first-sends e = let r = first-in transmitsAt 0 n (sym members-are ∙ e) in (omega (arith, r.1), r.2)
+    pub first_sends : {m : ℕ} {ms : List ℕ} → heard_in s.segment ≡ m ∷ ms → (m < n) × (transmits_at m ≡ true)
+    first_sends e = let r = first-in transmits_at 0 n (sym members_are ∙ e) in (omega (arith, r.1), r.2)
 
 -- ---- what a probe makes of a bus: other stations, clock, sent count, last winner and contention
 
@@ -245,27 +245,27 @@ moved b stations clock sent last contention =
 abbrev onward : State → Contention → State
 onward s c =
     let g = s.segment in
-    record { segment = segmentWith g (g.clock.0 + 1) g.sent g.round c (recordedIn g); queues = s.queues }
+    record { segment = segment_with g (g.clock.0 + 1) g.sent g.round c (recorded_in g); queues = s.queues }
 
 goes_on :
-    (s : State) → Lent s → (c : Contention) (m : Machine.Contention) → contention-padded c ≡ true → contentionOf c ≡ some m
-    → onward s c ≡ form (goesOn (meaning s) m)
+    (s : State) → Lent s → (c : Contention) (m : Machine.Contention) → contention_padded c ≡ true → contention_of c ≡ some m
+    → onward s c ≡ form (going_further (meaning s) m)
 goes_on s r c m z e =
-    to-form
+    to_form
     next
-    (goesOn (meaning s) m)
+    (going_further (meaning s) m)
     (record { listed = h.listed; contenders = h.contenders; lengths = h.lengths; packets = h.packets })
-    (parts-padded
+    (parts_padded
     next
     (record {
       discipline = p.discipline;
       queues = p.queues;
       contenders = p.contenders;
-      past-N = p.past-N;
+      past_n = p.past_n;
       round = p.round;
       contention = z;
     }))
-    (λ i. moved (meaning s) (stationsOf s) (add-one s.segment.clock.0 i) s.segment.sent (meaning s).last (e i))
+    (λ i. moved (meaning s) (stations_of s) (add-one s.segment.clock.0 i) s.segment.sent (meaning s).last (e i))
   where
     h : Held s
     h = r.held
@@ -281,230 +281,230 @@ module _ (s : State) where
   now = s.segment.contention
 
   -- what a collision makes of the contention
-  abbrev splitNow : Contention
-  splitNow = splitOf s.segment.settings.a now (leb 2 now.window.size) now.tied
+  abbrev split_now : Contention
+  split_now = split_of s.segment.settings.a now (leb 2 now.window.size) now.tied
 
   -- is what the machine makes of it
-  split-is : contentionOf splitNow ≡ some (split (meaning s) (under-way s))
-  split-is = go (leb 2 now.window.size) now.tied
+  split_is : contention_of split_now ≡ some (split (meaning s) (under_way s))
+  split_is = go (leb 2 now.window.size) now.tied
     where
-      tie-value : Bool → Option ℕ
-      tie-value tied = cond tied (some now.tie) none
+      tie_value : Bool → Option ℕ
+      tie_value tied = cond tied (some now.tie) none
 
       go :
           (large tied : Bool)
-          → contentionOf (splitOf s.segment.settings.a now large tied)
+          → contention_of (split_of s.segment.settings.a now large tied)
           ≡ some
           (cond
           large
-          (record { window = left_half now.window; tie = tie-value tied })
-          (record { window = firstWindow s.segment.settings.a; tie = some (tiedAt now.window (tie-value tied)) }))
+          (record { window = left_half now.window; tie = tie_value tied })
+          (record { window = first_window s.segment.settings.a; tie = some (tied_at now.window (tie_value tied)) }))
       go true tied = refl
       go false true = refl
       go false false = refl
 
   -- outside the tie phase the tie value is zero, and it stays so
-  tie-padded : Lent s → (now.tied || eqb now.tie 0) ≡ true
-  tie-padded r = (and-true (now.begun || (no-window now.window && not now.tied)) (now.tied || eqb now.tie 0) r.zeros.contention).1
+  tie_padded : Lent s → (now.tied || eqb now.tie 0) ≡ true
+  tie_padded r = (and-true (now.begun || (no_window now.window && not now.tied)) (now.tied || eqb now.tie 0) r.zeros.contention).1
 
-  split-padded : Lent s → contention-padded splitNow ≡ true
-  split-padded r = go (leb 2 now.window.size)
+  split_padded : Lent s → contention_padded split_now ≡ true
+  split_padded r = go (leb 2 now.window.size)
     where
-      go : (large : Bool) → contention-padded (splitOf s.segment.settings.a now large now.tied) ≡ true
-      go true = tie-padded r
+      go : (large : Bool) → contention_padded (split_of s.segment.settings.a now large now.tied) ≡ true
+      go true = tie_padded r
       go false = refl
 
 -- ---- the contention ends
 
-nobody-contends : (j : ℕ) → j < most-stations → place_in noContenders j ≡ noContender
-nobody-contends j l = place-recorded (λ i. noContender) j l
+nobody_contends : (j : ℕ) → j < most_stations → place_in no_contenders j ≡ no_contender
+nobody_contends j l = place_recorded (λ i. no_contender) j l
 
 -- the round after a success
-last-is : (d : Discipline) (c : Capability) (x : Probe.Contender) → c.0 ≡ x.capability → last_of (roundAfter d c) ≡ lastWinner d x
+last-is : (d : Discipline) (c : Capability) (x : Probe.Contender) → c.0 ≡ x.capability → last_of (round_after d c) ≡ last_winner d x
 last-is PRI c x e = refl
 last-is RTDG c x e = refl
 last-is RTVC c x e = ap some e
 
-round-zeros : (d : Discipline) (c : Capability) → round-padded (roundAfter d c) ≡ true
-round-zeros PRI c = refl
-round-zeros RTDG c = refl
-round-zeros RTVC c = refl
+round_zeros : (d : Discipline) (c : Capability) → round_padded (round_after d c) ≡ true
+round_zeros PRI c = refl
+round_zeros RTDG c = refl
+round_zeros RTVC c = refl
 
 -- station i is one of the stations, and stands
-station-listed : (s : State) (i : ℕ) → i < n s → Among (stationAt s i) (stationsOf s)
-station-listed s i l = among-values (stationAt s) 0 (n s) i (omega arith) (omega arith)
+station_listed : (s : State) (i : ℕ) → i < n s → Among (station_at s i) (stations_of s)
+station_listed s i l = among_values (station_at s) 0 (n s) i (omega arith) (omega arith)
 
-station-stands : (s : State) → Lent s → (i : ℕ) → i < n s → StationStands (meaning s) (stationAt s i)
-station-stands s r i l = r.stands.each-station (stationAt s i) (station-listed s i l)
+station_stands : (s : State) → Lent s → (i : ℕ) → i < n s → StationStands (meaning s) (station_at s i)
+station_stands s r i l = r.stands.each_station (station_at s i) (station_listed s i l)
 
 -- the state with no contention, and another clock, sent count and round
 abbrev ended : State → ℕ → ℕ → Round → State
 ended s clock sent round =
-    record { segment = segmentWith s.segment clock sent round noContention noContenders; queues = s.queues }
+    record { segment = segment_with s.segment clock sent round no_contention no_contenders; queues = s.queues }
 
 module _ (s : State) (r : Lent s) where
   ended_held : (clock sent : ℕ) (round : Round) → Held (ended s clock sent round)
   ended_held clock sent round =
       record {
         listed = r.held.listed;
-        contenders = recorded-held (λ i. noContender);
+        contenders = recorded_held (λ i. no_contender);
         lengths = r.held.lengths;
         packets = r.held.packets;
       }
 
-  ended-padded : (clock sent : ℕ) (round : Round) → round-padded round ≡ true → Padded (ended s clock sent round)
-  ended-padded clock sent round z =
+  ended_padded : (clock sent : ℕ) (round : Round) → round_padded round ≡ true → Padded (ended s clock sent round)
+  ended_padded clock sent round z =
       record {
         discipline = r.zeros.discipline;
         queues = r.zeros.queues;
-        contenders = λ j l. ap contender-padded (nobody-contends j l);
-        past-N = nobody-past;
+        contenders = λ j l. ap contender_padded (nobody_contends j l);
+        past_n = nobody_past;
         round = z;
         contention = refl;
       }
     where
-      nobody-past : (i : ℕ) → n s ≤ i → i < most-stations → no-station (ended s clock sent round) i ≡ true
-      nobody-past i m l =
+      nobody_past : (i : ℕ) → n s ≤ i → i < most_stations → has_no_station (ended s clock sent round) i ≡ true
+      nobody_past i m l =
           let who = get_or s.segment.listed i nobody in
-          let none-there = eqb who.address.0 0 && eqb who.capability.0 0 && eqb (get_or s.queues.lengths i 0) 0 in
+          let none_there = eqb who.address.0 0 && eqb who.capability.0 0 && eqb (get_or s.queues.lengths i 0) 0 in
           true-and
-          (and-true none-there (not (recordedAt s.segment i).contends) (r.zeros.past-N i m l)).0
-          (ap (λ c. not c.contends) (nobody-contends i l))
+          (and-true none_there (not (recorded_at s.segment i).contends) (r.zeros.past_n i m l)).0
+          (ap (λ c. not c.contends) (nobody_contends i l))
 
   -- without a winner: the stations withdraw
-  unwon-is : ended s (s.segment.clock.0 + 1) s.segment.sent noRound ≡ form (unwon (meaning s))
-  unwon-is =
-      to-form
+  unwon_is : ended s (s.segment.clock.0 + 1) s.segment.sent no_round ≡ form (unwon (meaning s))
+  unwon_is =
+      to_form
       next
       (unwon (meaning s))
-      (ended_held later s.segment.sent noRound)
-      (parts-padded next (ended-padded later s.segment.sent noRound refl))
+      (ended_held later s.segment.sent no_round)
+      (parts_padded next (ended_padded later s.segment.sent no_round refl))
       (λ i. moved (meaning s) (stations i) (add-one s.segment.clock.0 i) s.segment.sent none none)
     where
       later : ℕ
       later = s.segment.clock.0 + 1
 
       next : State
-      next = ended s later s.segment.sent noRound
+      next = ended s later s.segment.sent no_round
 
-      withdraws : (j : ℕ) → j < most-stations → stationAt next j ≡ withdrawn (stationAt s j)
+      withdraws : (j : ℕ) → j < most_stations → station_at next j ≡ withdrawn (station_at s j)
       withdraws j l =
           λ i.
           record {
-            address = (stationAt s j).address;
-            capability = (stationAt s j).capability;
-            queue = (stationAt s j).queue;
-            offer = offerOf (nobody-contends j l i);
+            address = (station_at s j).address;
+            capability = (station_at s j).capability;
+            queue = (station_at s j).queue;
+            offer = offer_of (nobody_contends j l i);
           }
 
-      stations : stationsOf next ≡ map withdrawn (stationsOf s)
+      stations : stations_of next ≡ map withdrawn (stations_of s)
       stations =
           let few = r.few in
-          values_same (stationAt next) (λ j. withdrawn (stationAt s j)) 0 (n s) (λ j l m. withdraws j (omega arith))
-          ∙ sym (values-map withdrawn (stationAt s) 0 (n s))
+          values_same (station_at next) (λ j. withdrawn (station_at s j)) 0 (n s) (λ j l m. withdraws j (omega arith))
+          ∙ sym (values_map withdrawn (station_at s) 0 (n s))
 
   -- station i has sent its packet, which leaves its queue
   module _ (i : ℕ) (here : i < n s) where
     abbrev winner : Probe.Contender
-    winner = contenderAt s.segment i
+    winner = contender_at s.segment i
 
     abbrev clock : ℕ
     clock = s.segment.clock.0 + winner.packet.length
 
-    abbrev its-capability : Capability
-    its-capability = (get_or s.segment.listed i nobody).capability
+    abbrev its_capability : Capability
+    its_capability = (get_or s.segment.listed i nobody).capability
 
     abbrev round : Round
-    round = roundAfter (meaning s).discipline its-capability
+    round = round_after (meaning s).discipline its_capability
 
     abbrev next : State
     next = ended s clock (s.segment.sent + 1) round
 
     -- what stays of a queue
     abbrev staying : ℕ → List Packet
-    staying j = keep (stays (Sent winner.packet.number)) (queueAt s.queues j)
+    staying j = keep (stays (Sent winner.packet.number)) (queue_at s.queues j)
 
     room : length (staying i) ≤ places
     room =
-        let own = (station-stands s r i here).room in
-        omega (arith, kept-length (stays (Sent winner.packet.number)) (queueAt s.queues i))
+        let own = (station_stands s r i here).room in
+        omega (arith, kept_length (stays (Sent winner.packet.number)) (queue_at s.queues i))
 
     held : Held next
     held = ended_held clock (s.segment.sent + 1) round
 
     zeros : Padded next
-    zeros = ended-padded clock (s.segment.sent + 1) round (round-zeros (meaning s).discipline its-capability)
+    zeros = ended_padded clock (s.segment.sent + 1) round (round_zeros (meaning s).discipline its_capability)
 
     left_is :
         (j : ℕ) → j < n s
-        → stationWith next.segment j (cond (eqb j i) (staying i) (queueAt s.queues j)) ≡ left winner (stationAt s j)
+        → station_with next.segment j (cond (eqb j i) (staying i) (queue_at s.queues j)) ≡ left winner (station_at s j)
     left_is j l =
         let few = r.few in
         λ k.
         record {
-          address = (stationAt s j).address;
-          capability = (stationAt s j).capability;
-          queue = (go (eqb j i) refl ∙ sym (ap (λ t. cond t (staying j) (queueAt s.queues j)) (own-address s r.stands i j here l))) k;
-          offer = offerOf (nobody-contends j (omega arith) k);
+          address = (station_at s j).address;
+          capability = (station_at s j).capability;
+          queue = (go (eqb j i) refl ∙ sym (ap (λ t. cond t (staying j) (queue_at s.queues j)) (own-address s r.stands i j here l))) k;
+          offer = offer_of (nobody_contends j (omega arith) k);
         }
       where
-        go : (t : Bool) → eqb j i ≡ t → cond t (staying i) (queueAt s.queues j) ≡ cond t (staying j) (queueAt s.queues j)
+        go : (t : Bool) → eqb j i ≡ t → cond t (staying i) (queue_at s.queues j) ≡ cond t (staying j) (queue_at s.queues j)
         go true e = ap staying (sym (eqb-true j i e))
         go false e = refl
 
-    won-is : requeued next i (staying i) ≡ form (Probe.won (meaning s) winner)
-    won-is =
-        to-form
+    won_is : requeued next i (staying i) ≡ form (Probe.won (meaning s) winner)
+    won_is =
+        to_form
         (requeued next i (staying i))
         (Probe.won (meaning s) winner)
-        (requeued-held next held zeros r.few i here (staying i) room)
-        (parts-padded (requeued next i (staying i)) (requeued-padded next held zeros r.few i here (staying i) room))
+        (requeued_held next held zeros r.few i here (staying i) room)
+        (parts_padded (requeued next i (staying i)) (requeued_padded next held zeros r.few i here (staying i) room))
         (λ k.
         moved
         (meaning s)
-        (stations-now next held zeros r.few i here (staying i) room (left winner) (stationAt s) left_is k)
+        (stations-now next held zeros r.few i here (staying i) room (left winner) (station_at s) left_is k)
         clock
         (add-one s.segment.sent k)
-        (last-is (meaning s).discipline its-capability winner refl k)
+        (last-is (meaning s).discipline its_capability winner refl k)
         none)
 
 -- ---- one probe
 
 -- the queues without the winner's packet
-abbrev pub queuesAfter : State → Probed → Queues
-queuesAfter s p =
-    withQueue s.queues p.winner (queueForm (keep (stays (Sent p.answer.number)) (queueAt s.queues p.winner)))
+abbrev pub queues_after : State → Probed → Queues
+queues_after s p =
+    with_queue s.queues p.winner (queue_form (keep (stays (Sent p.answer.number)) (queue_at s.queues p.winner)))
 
 -- what a probe of the segment makes of these queues
-abbrev pub slotWith : Probed → Queues → Stepped
-slotWith p queues = record { answer = p.answer; state = record { segment = p.segment; queues = queues } }
+abbrev pub slot_with : Probed → Queues → Stepped
+slot_with p queues = record { answer = p.answer; state = record { segment = p.segment; queues = queues } }
 
 -- on success the packet leaves the winner's queue
 abbrev pub slot_of : State → Probed → Stepped
-slot_of s p = slotWith p (cond (eqb p.answer.event success) (queuesAfter s p) s.queues)
+slot_of s p = slot_with p (cond (eqb p.answer.event success) (queues_after s p) s.queues)
 
 -- the same of the machine's answer and bus
 abbrev pub stepped : Probe.Answer × Bus → Stepped
-stepped r = stepResult (r.0, form r.1)
+stepped r = step_result (r.0, form r.1)
 
-phase-is : (c : Contention) → cond c.tied tie-phase parameter-phase ≡ phaseOf (tie_of c)
-phase-is c = go c.tied
+phase_is : (c : Contention) → cond c.tied tie_phase parameter_phase ≡ phase_of (tie_of c)
+phase_is c = go c.tied
   where
-    go : (t : Bool) → cond t tie-phase parameter-phase ≡ phaseOf (cond t (some c.tie) none)
+    go : (t : Bool) → cond t tie_phase parameter_phase ≡ phase_of (cond t (some c.tie) none)
     go true = refl
     go false = refl
 
 answer-is :
     (s : State) (drops event : ℕ) (address : Address) (number length wait ended : ℕ)
-    → answerAt (progressOf s.segment) drops event address number length wait (not (eqb ended 0))
-    ≡ answerForm (answered (openOf s drops) event address.0 number length wait ended)
+    → answer_at (progress_of s.segment) drops event address number length wait (not (eqb ended 0))
+    ≡ answer_form (answered (open_of s drops) event address.0 number length wait ended)
 answer-is s drops event address number length wait ended =
     λ i.
     record {
       refusal = 0;
       drops = drops;
       slot = s.segment.clock;
-      phase = phase-is s.segment.contention i;
+      phase = phase_is s.segment.contention i;
       start = s.segment.contention.window.start;
       size = s.segment.contention.window.size;
       event = event;
@@ -517,68 +517,68 @@ answer-is s drops event address number length wait ended =
 
 module _ (s : State) (drops : ℕ) where
   abbrev progress : Progress
-  progress = progressOf s.segment
+  progress = progress_of s.segment
 
-  abbrev its-side : Side
-  its-side = s.segment.contention.window.side
+  abbrev its_side : Side
+  its_side = s.segment.contention.window.side
 
 -- the winner is a station, and 0 stands for none
-pub winner-there : (s : State) → Lent s → (drops : ℕ) (p : Probed) → p ≡ probed s.segment drops → p.winner < most-stations
-winner-there s r drops p is =
-    subst (λ (q : Probed). q.winner < most-stations) (sym is) (go (heardIn s.segment) refl (its-side s drops))
+pub winner_there : (s : State) → Lent s → (drops : ℕ) (p : Probed) → p ≡ probed s.segment drops → p.winner < most_stations
+winner_there s r drops p is =
+    subst (λ (q : Probed). q.winner < most_stations) (sym is) (go (heard_in s.segment) refl (its_side s drops))
   where
-    by_side : (side : Side) → (probedWith s.segment (unheardOn (progress s drops) drops side) 0).winner < most-stations
+    by_side : (side : Side) → (probed_with s.segment (unheard_on (progress s drops) drops side) 0).winner < most_stations
     by_side Left = omega arith
     by_side Right = omega arith
 
-    go : (ms : List ℕ) → heardIn s.segment ≡ ms → (side : Side) → (probedBy s.segment drops ms).winner < most-stations
-    go [] e side = by_side (its-side s drops)
-    go (i ∷ []) e side = omega (arith, (first-sends s r e).0, r.few)
-    go (i ∷ j ∷ ms) e side = subst (λ (q : Probed). q.winner < most-stations) (sym (probed-more s.segment drops i j ms)) (omega arith)
+    go : (ms : List ℕ) → heard_in s.segment ≡ ms → (side : Side) → (probed_by s.segment drops ms).winner < most_stations
+    go [] e side = by_side (its_side s drops)
+    go (i ∷ []) e side = omega (arith, (first_sends s r e).0, r.few)
+    go (i ∷ j ∷ ms) e side = subst (λ (q : Probed). q.winner < most_stations) (sym (probed-more s.segment drops i j ms)) (omega arith)
 
 module _ (s : State) (r : Lent s) (begun : s.segment.contention.begun ≡ true) where
   -- the window is placed in the space of the phase
   window_placed : (space : ℕ) × (Splitting.placed space (now s).window ≡ true)
   window_placed =
-      go (now s).tied (subst (λ t. ContentionStands (meaning s) (cond t (some (under-way s)) none)) begun r.stands.window)
+      go (now s).tied (subst (λ t. ContentionStands (meaning s) (cond t (some (under_way s)) none)) begun r.stands.window)
     where
       go :
-          (t : Bool) → WindowStands (meaning s) (under-way s) (cond t (some (now s).tie) none)
+          (t : Bool) → WindowStands (meaning s) (under_way s) (cond t (some (now s).tie) none)
           → (space : ℕ) × (Splitting.placed space (now s).window ≡ true)
       go true w = ((meaning s).A, w.1)
       go false w = ((meaning s).D, w)
 
-  module _ (i : ℕ) (here : i < n s) (sends : transmitsAt s i ≡ true) where
+  module _ (i : ℕ) (here : i < n s) (sends : transmits_at s i ≡ true) where
     -- a station that transmits does so with a packet of its queue
-    queued : Among (contenderAt s.segment i).packet (queueAt s.queues i)
+    queued : Among (contender_at s.segment i).packet (queue_at s.queues i)
     queued =
-        let c = recordedAt s.segment i in
+        let c = recorded_at s.segment i in
         (subst₂
         (λ (t u : Bool).
         OfferStands
         (meaning s)
-        (stationAt s i)
-        (cond t (some (under-way s)) none)
+        (station_at s i)
+        (cond t (some (under_way s)) none)
         (cond u (some (record { parameter = c.parameter; packet = c.packet })) none))
         begun
-        (and-true c.contends (transmits (meaning s) (under-way s) (contenderAt s.segment i)) sends).0
-        (station-stands s r i here).offered
+        (and-true c.contends (transmits (meaning s) (under_way s) (contender_at s.segment i)) sends).0
+        (station_stands s r i here).offered
         ).0
 
     -- which is not too long, and which is not counted as sent yet
-    pub sent-short : (contenderAt s.segment i).packet.length ≤ 4096
-    sent-short = ((station-stands s r i here).packets (contenderAt s.segment i).packet queued).most
+    pub sent_short : (contender_at s.segment i).packet.length ≤ 4096
+    sent_short = ((station_stands s r i here).packets (contender_at s.segment i).packet queued).most
 
-    pub sent-counted : s.segment.sent < 4294967295
-    sent-counted =
-        let one = count-some (λ (q : Packet). true) (queueAt s.queues i) queued refl in
-        let its = count-le (λ (q : Packet). true) (queueAt s.queues i) in
-        let all = total-among (λ (x : Station). length x.queue) (stationsOf s) (station-listed s i here) in
-        omega (arith, r.stands.counts, r.stands.admitted-in)
+    pub sent_counted : s.segment.sent < 4294967295
+    sent_counted =
+        let one = count_some (λ (q : Packet). true) (queue_at s.queues i) queued refl in
+        let its = count-le (λ (q : Packet). true) (queue_at s.queues i) in
+        let all = total_among (λ (x : Station). length x.queue) (stations_of s) (station_listed s i here) in
+        omega (arith, r.stands.counts, r.stands.admitted_in)
 
   module _ (drops : ℕ) where
     unheard-is :
-        (side : Side) → slot_of s (probedWith s.segment (unheardOn (progress s drops) drops side) 0) ≡ stepped (Probe.unheard (openOf s drops) side)
+        (side : Side) → slot_of s (probed_with s.segment (unheard_on (progress s drops) drops side) 0) ≡ stepped (Probe.unheard (open_of s drops) side)
     unheard-is Left =
         let c = now s in
         λ i.
@@ -588,40 +588,40 @@ module _ (s : State) (r : Lent s) (begun : s.segment.contention.begun ≡ true) 
               goes_on
               s
               r
-              (record { begun = true; window = movedRight c.window; tied = c.tied; tie = c.tie })
-              (record { window = moveRight c.window; tie = tie_of c })
-              (tie-padded s r)
-              (ap (λ w. some (record { window = w; tie = tie_of c })) (moved-right window_placed.0 c.window window_placed.1))
+              (record { begun = true; window = moved_right c.window; tied = c.tied; tie = c.tie })
+              (record { window = move_right c.window; tie = tie_of c })
+              (tie_padded s r)
+              (ap (λ w. some (record { window = w; tie = tie_of c })) (moved_right_free window_placed.0 c.window window_placed.1))
               i;
         }
     unheard-is Right =
         λ i.
         record {
           answer = answer-is s drops idle (record { 0 = 0 }) 0 0 0 1 i;
-          state = unwon-is s r i;
+          state = unwon_is s r i;
         }
 
     collided-is :
-        slot_of s (probedWith s.segment (collidedOn s.segment.settings.a (progress s drops) drops) 0)
-        ≡ stepped (unsent (openOf s drops) collision 0, goesOn (meaning s) (split (meaning s) (under-way s)))
+        slot_of s (probed_with s.segment (collided_on s.segment.settings.a (progress s drops) drops) 0)
+        ≡ stepped (unsent (open_of s drops) collision 0, going_further (meaning s) (split (meaning s) (under_way s)))
     collided-is =
         λ i.
         record {
           answer = answer-is s drops collision (record { 0 = 0 }) 0 0 0 0 i;
-          state = goes_on s r (splitNow s) (split (meaning s) (under-way s)) (split-padded s r) (split-is s) i;
+          state = goes_on s r (split_now s) (split (meaning s) (under_way s)) (split_padded s r) (split_is s) i;
         }
 
     sent_is :
         (k : ℕ) → k < n s
         → slot_of
         s
-        (probedWith
+        (probed_with
         s.segment
-        (wonOn (meaning s).discipline (progress s drops) drops (soleAt s.segment k).listed (soleAt s.segment k).packet)
+        (won_on (meaning s).discipline (progress s drops) drops (sole_at s.segment k).listed (sole_at s.segment k).packet)
         k)
-        ≡ stepped (sentBy (openOf s drops) (contenderAt s.segment k), Probe.won (meaning s) (contenderAt s.segment k))
+        ≡ stepped (sent_by (open_of s drops) (contender_at s.segment k), Probe.won (meaning s) (contender_at s.segment k))
     sent_is k l =
-        let x = contenderAt s.segment k in
+        let x = contender_at s.segment k in
         λ i.
         record {
           answer =
@@ -632,22 +632,22 @@ module _ (s : State) (r : Lent s) (begun : s.segment.contention.begun ≡ true) 
               (get_or s.segment.listed k nobody).address
               x.packet.number
               x.packet.length
-              (waitOf x.packet s.segment.clock.0)
+              (wait_of x.packet s.segment.clock.0)
               1
               i;
-          state = won-is s r k l i;
+          state = won_is s r k l i;
         }
 
     -- by the places of those who transmit
-    pub probed-is : (p : Probed) → p ≡ probed s.segment drops → slot_of s p ≡ stepped (probe (openOf s drops))
-    probed-is p is =
+    pub probed_is : (p : Probed) → p ≡ probed s.segment drops → slot_of s p ≡ stepped (probe (open_of s drops))
+    probed_is p is =
         ap (slot_of s) is
-        ∙ go (heardIn s.segment) refl
-        ∙ sym (ap (λ xs. stepped (heard (openOf s drops) xs)) (all-heard s r))
+        ∙ go (heard_in s.segment) refl
+        ∙ sym (ap (λ xs. stepped (heard (open_of s drops) xs)) (all_heard s r))
       where
         go :
-            (ms : List ℕ) → heardIn s.segment ≡ ms
-            → slot_of s (probedBy s.segment drops ms) ≡ stepped (heard (openOf s drops) (map (contenderAt s.segment) ms))
-        go [] e = unheard-is (its-side s drops)
-        go (k ∷ []) e = sent_is k (first-sends s r e).0
+            (ms : List ℕ) → heard_in s.segment ≡ ms
+            → slot_of s (probed_by s.segment drops ms) ≡ stepped (heard (open_of s drops) (map (contender_at s.segment) ms))
+        go [] e = unheard-is (its_side s drops)
+        go (k ∷ []) e = sent_is k (first_sends s r e).0
         go (k ∷ j ∷ ms) e = ap (slot_of s) (probed-more s.segment drops k j ms) ∙ collided-is

@@ -14,33 +14,33 @@ use lib.Dec.{leb, ltb, eqb}
 use lib.ListN.{get_or}
 use Rattle.window.specs.declared.Side.TheVariants.{Right}
 use Rattle.window.specs.declared.Window.{Window}
-use Rattle.window.specs.Splitting.{inWindow}
+use Rattle.window.specs.Splitting.{in_window}
 use Rattle.word.specs.Word.{bits, bit_at, word_of, set_at}
-use Rattle.word.proofs.Laws.{set_next, word-stays, word-bits, word_same, word_none, bit-none, both_of, both-with}
+use Rattle.word.proofs.Laws.{set_next, word_stays, word_bits, word_same, word_none, bit_none, both_of, both_with}
 use Rattle.rules.specs.Bus.{Discipline, late}
-use Rattle.rules.specs.SetUp.{disciplineOf}
-use Rattle.sorts.proofs.DisciplineCases.{is-rtdg, by-discipline}
+use Rattle.rules.specs.SetUp.{discipline_of}
+use Rattle.sorts.proofs.DisciplineCases.{is_rtdg, by_discipline}
 use Rattle.bus.specs.Types.{Slot, Contention}
-use Rattle.bus.specs.Parts.{liesIn, transmittersOf}
+use Rattle.bus.specs.Parts.{lies_within, transmitters_of}
 
 -- ---- a word set bit by bit
 
-pub word-start : (test : ℕ → Bool) → 0 ≡ word_of test 0
+pub word_start : (test : ℕ → Bool) → 0 ≡ word_of test 0
 unfolding word_of
-word-start test = refl
+word_start test = refl
 
 module _ (test : ℕ → Bool) (i found next : ℕ) where
   pub word_set : i < bits → found ≡ word_of test i → test i ≡ true → next ≡ set_at found i → next ≡ word_of test (i + 1)
   word_set l e t n = n ∙ ap (λ (w : ℕ). set_at w i) e ∙ set_next test i l t ∙ ap (word_of test) (sym (add-one i))
 
-  pub word-left : found ≡ word_of test i → test i ≡ false → next ≡ found → next ≡ word_of test (i + 1)
-  word-left e t n = n ∙ e ∙ sym (word-stays test i t) ∙ ap (word_of test) (sym (add-one i))
+  pub word_left : found ≡ word_of test i → test i ≡ false → next ≡ found → next ≡ word_of test (i + 1)
+  word_left e t n = n ∙ e ∙ sym (word_stays test i t) ∙ ap (word_of test) (sym (add-one i))
 
 -- ---- the tests
 
 -- the window of one number alone
-pub tie-window : (tie n : ℕ) → inWindow (record { start = tie; size = 1; side = Right }) n ≡ eqb n tie
-tie-window tie n = go (eqb n tie) refl
+pub tie_window : (tie n : ℕ) → in_window (record { start = tie; size = 1; side = Right }) n ≡ eqb n tie
+tie_window tie n = go (eqb n tie) refl
   where
     apart : (n ≡ tie → ⊥) → Dec (tie ≤ n) → (leb tie n && ltb n (tie + 1)) ≡ false
     apart d (yes l) = ap (λ (t : Bool). leb tie n && t) (le-ltb n (tie + 1) (omega arith)) ∙ and-false (leb tie n)
@@ -52,38 +52,38 @@ tie-window tie n = go (eqb n tie) refl
         ap₂ ◌&&◌ (le-leb tie n (omega arith)) (lt-ltb n (tie + 1) (omega arith))
     go false e = apart (eqb-false n tie e) (dec_le tie n)
 
-never-late : (discipline slot value : ℕ) → (discipline ≡ 1 → ⊥) → late (disciplineOf discipline) slot value ≡ false
-never-late discipline slot value n =
-    by-discipline (λ (d : Discipline). late d slot value ≡ false) discipline (λ e. refl) (λ e. absurd (n e)) (λ h. refl)
+never_late : (discipline slot value : ℕ) → (discipline ≡ 1 → ⊥) → late (discipline_of discipline) slot value ≡ false
+never_late discipline slot value n =
+    by_discipline (λ (d : Discipline). late d slot value ≡ false) discipline (λ e. refl) (λ e. absurd (n e)) (λ h. refl)
 
 -- ---- those who transmit
 
 module _ (discipline : ℕ) (clock : Slot) (contenders : ℕ) (values : List ℕ) where
   -- whether a station's packet is not late, and whether it contends with such a packet
   abbrev timely : ℕ → Bool
-  timely i = not (late (disciplineOf discipline) clock.0 (get_or values i 0))
+  timely i = not (late (discipline_of discipline) clock.0 (get_or values i 0))
 
-  abbrev pub ableAt : ℕ → Bool
-  ableAt i = bit_at contenders i && timely i
+  abbrev pub able_at : ℕ → Bool
+  able_at i = bit_at contenders i && timely i
 
-  pub able-timed : contenders < 2 ^ 64 → discipline ≡ 1 → bit_and contenders (word_of (λ i. not (ltb (get_or values i 0) clock.0)) 64) ≡ word_of ableAt 64
-  able-timed h e =
-      both-with 64 contenders (λ i. not (ltb (get_or values i 0) clock.0)) h
-      ∙ ap (λ (d : Discipline). word_of (λ i. bit_at contenders i && not (late d clock.0 (get_or values i 0))) 64) (sym (is-rtdg e))
+  pub able_timed : contenders < 2 ^ 64 → discipline ≡ 1 → bit_and contenders (word_of (λ i. not (ltb (get_or values i 0) clock.0)) 64) ≡ word_of able_at 64
+  able_timed h e =
+      both_with 64 contenders (λ i. not (ltb (get_or values i 0) clock.0)) h
+      ∙ ap (λ (d : Discipline). word_of (λ i. bit_at contenders i && not (late d clock.0 (get_or values i 0))) 64) (sym (is_rtdg e))
 
-  pub able-untimed : contenders < 2 ^ 64 → (discipline ≡ 1 → ⊥) → contenders ≡ word_of ableAt 64
-  able-untimed h n =
-      sym (word-bits 64 contenders h)
-      ∙ word_same (bit_at contenders) ableAt 64
+  pub able_untimed : contenders < 2 ^ 64 → (discipline ≡ 1 → ⊥) → contenders ≡ word_of able_at 64
+  able_untimed h n =
+      sym (word_bits 64 contenders h)
+      ∙ word_same (bit_at contenders) able_at 64
       (λ i l.
       sym
-      (ap (λ (t : Bool). bit_at contenders i && not t) (never-late discipline clock.0 (get_or values i 0) n)
+      (ap (λ (t : Bool). bit_at contenders i && not t) (never_late discipline clock.0 (get_or values i 0) n)
       ∙ and-true (bit_at contenders i)))
 
   module _ (contention : Contention) (parameters addresses : List ℕ) where
     -- the word of those who transmit
     abbrev all : ℕ
-    all = transmittersOf discipline clock contention contenders parameters values addresses
+    all = transmitters_of discipline clock contention contenders parameters values addresses
 
     -- the window of the tied parameter alone
     abbrev only : Window
@@ -91,33 +91,33 @@ module _ (discipline : ℕ) (clock : Slot) (contenders : ℕ) (values : List ℕ
 
     -- the tests of a parameter and an address
     abbrev lies : ℕ → Bool
-    lies i = liesIn contention (get_or parameters i 0) (get_or addresses i 0)
+    lies i = lies_within contention (get_or parameters i 0) (get_or addresses i 0)
 
-    abbrev parameter-in : Window → ℕ → Bool
-    parameter-in w i = inWindow w (get_or parameters i 0)
+    abbrev parameter_in : Window → ℕ → Bool
+    parameter_in w i = in_window w (get_or parameters i 0)
 
-    abbrev address-in : ℕ → Bool
-    address-in i = inWindow contention.window (get_or addresses i 0)
+    abbrev address_in : ℕ → Bool
+    address_in i = in_window contention.window (get_or addresses i 0)
 
-    pub none-transmit : contenders ≡ 0 → 0 ≡ all
-    none-transmit e =
+    pub none_transmit : contenders ≡ 0 → 0 ≡ all
+    none_transmit e =
         sym
         (word_same (λ i. bit_at contenders i && (lies i && timely i)) (λ i. false) 64
-        (λ i l. ap (λ (t : Bool). t && (lies i && timely i)) (ap (λ (w : ℕ). bit_at w i) e ∙ bit-none i))
+        (λ i l. ap (λ (t : Bool). t && (lies i && timely i)) (ap (λ (w : ℕ). bit_at w i) e ∙ bit_none i))
         ∙ word_none 64)
 
     pub untied-transmit :
-        {able lying : ℕ} → contention.tied ≡ false → able ≡ word_of ableAt 64
-        → lying ≡ word_of (parameter-in contention.window) 64 → bit_and able lying ≡ all
+        {able lying : ℕ} → contention.tied ≡ false → able ≡ word_of able_at 64
+        → lying ≡ word_of (parameter_in contention.window) 64 → bit_and able lying ≡ all
     untied-transmit t a b =
-        ap₂ bit_and a b ∙ both_of ableAt (parameter-in contention.window) 64
-        ∙ word_same (λ i. ableAt i && parameter-in contention.window i) _ 64
+        ap₂ bit_and a b ∙ both_of able_at (parameter_in contention.window) 64
+        ∙ word_same (λ i. able_at i && parameter_in contention.window i) _ 64
         (λ i l.
-        order (bit_at contenders i) (timely i) (parameter-in contention.window i)
+        order (bit_at contenders i) (timely i) (parameter_in contention.window i)
         ∙ ap
         (λ (tied : Bool).
         bit_at contenders i
-        && (cond tied (eqb (get_or parameters i 0) contention.tie && address-in i) (parameter-in contention.window i) && timely i))
+        && (cond tied (eqb (get_or parameters i 0) contention.tie && address_in i) (parameter_in contention.window i) && timely i))
         (sym t))
       where
         order : (b l w : Bool) → (b && l && w) ≡ (b && (w && l))
@@ -125,18 +125,18 @@ module _ (discipline : ℕ) (clock : Slot) (contenders : ℕ) (values : List ℕ
         order false l w = refl
 
     pub tied-transmit :
-        {able same lying : ℕ} → contention.tied ≡ true → able ≡ word_of ableAt 64
-        → same ≡ word_of (parameter-in only) 64 → lying ≡ word_of address-in 64 → bit_and (bit_and able same) lying ≡ all
+        {able same lying : ℕ} → contention.tied ≡ true → able ≡ word_of able_at 64
+        → same ≡ word_of (parameter_in only) 64 → lying ≡ word_of address_in 64 → bit_and (bit_and able same) lying ≡ all
     tied-transmit t a b c =
         (λ j. bit_and (bit_and (a j) (b j)) (c j))
-        ∙ ap (λ (w : ℕ). bit_and w (word_of address-in 64)) (both_of ableAt (parameter-in only) 64)
-        ∙ both_of (λ i. ableAt i && parameter-in only i) address-in 64
-        ∙ word_same (λ i. ableAt i && parameter-in only i && address-in i) _ 64
+        ∙ ap (λ (w : ℕ). bit_and w (word_of address_in 64)) (both_of able_at (parameter_in only) 64)
+        ∙ both_of (λ i. able_at i && parameter_in only i) address_in 64
+        ∙ word_same (λ i. able_at i && parameter_in only i && address_in i) _ 64
         (λ i l.
-        order (bit_at contenders i) (timely i) (parameter-in only i) (address-in i)
+        order (bit_at contenders i) (timely i) (parameter_in only i) (address_in i)
         ∙ ap₂
-        (λ (here tied : Bool). bit_at contenders i && (cond tied (here && address-in i) (parameter-in contention.window i) && timely i))
-        (tie-window contention.tie (get_or parameters i 0))
+        (λ (here tied : Bool). bit_at contenders i && (cond tied (here && address_in i) (parameter_in contention.window i) && timely i))
+        (tie_window contention.tie (get_or parameters i 0))
         (sym t))
       where
         order : (b l s w : Bool) → (b && l && s && w) ≡ (b && (s && w && l))

@@ -9,20 +9,20 @@ use Rattle.bus.proofs.step.Reads as step
 use Rattle.bus.proofs.play.Reads as play
 use Rattle.bus.proofs.closing.Reads as closing
 
-pub admit-determined : Determines admit.Learnt
-admit-determined κs args r r' end end' = unique
+pub admit_determined : Determines admit.Learnt
+admit_determined κs args r r' end end' = unique
 
-pub begin-determined : Determines begin.Learnt
-begin-determined κs args r r' end end' = unique
+pub begin_determined : Determines begin.Learnt
+begin_determined κs args r r' end end' = unique
 
-pub probe-determined : Determines probe.Learnt
-probe-determined κs args r r' end end' = unique
+pub probe_determined : Determines probe.Learnt
+probe_determined κs args r r' end end' = unique
 
-pub step-determined : Determines step.Learnt
-step-determined κs args r r' end end' = unique
+pub step_determined : Determines step.Learnt
+step_determined κs args r r' end end' = unique
 
-pub play-determined : Determines play.Learnt
-play-determined κs args r r' end end' = unique
+pub play_determined : Determines play.Learnt
+play_determined κs args r r' end end' = unique
 
-pub closing-determined : Determines closing.Learnt
-closing-determined κs args r r' end end' = unique
+pub closing_determined : Determines closing.Learnt
+closing_determined κs args r r' end end' = unique

@@ -3,56 +3,56 @@
 use Rattle.std.specs.Prelude.{ℕ, zero, suc, ◌+◌, ◌-◌, ◌≡◌, Bool, true, false, cond, List, [], ◌∷◌, ◌++◌, map, leb, length, take, replicate}
 use Rattle.rules.specs.declared.Admitted.{Admitted}
 use Rattle.rules.specs.Admission as Rules
-use Rattle.rules.specs.Probe.{refusedAnswer}
+use Rattle.rules.specs.Probe.{refused_answer}
 use Rattle.rules.specs.Engine as Engine
 use Rattle.rules.specs.Engine.{Call, Reply, replies}
 use Rattle.bus.specs.Types.{State, Arrival}
-use Rattle.bus.specs.Coded.{Answer, arrivalOf, answerForm, answer_of, codedAdmit, codedStep, coded}
+use Rattle.bus.specs.Coded.{Answer, arrival_of, answer_form, answer_of, coded_admit, coded_step, coded}
 pub use Rattle.bus.specs.declared.Arrivals.{Arrivals}
 pub use Rattle.bus.specs.declared.Report.{Report}
 pub use Rattle.bus.specs.declared.Stretch.{Stretch}
 
 -- how many calls a stretch has at the most
-abbrev pub most-calls : ℕ
-most-calls = 512
+abbrev pub most_calls : ℕ
+most_calls = 512
 
 -- the places of a row of arrivals
-abbrev pub row-places : ℕ
-row-places = 64
+abbrev pub row_places : ℕ
+row_places = 64
 
 -- what an arrival asks for
 abbrev pub asks : Arrival → Rules.Arrival
-asks a = arrivalOf a.address a.value a.length
+asks a = arrival_of a.address a.value a.length
 
 -- 'whose time is not above the clock'
 abbrev pub due : ℕ → Arrival → Bool
 due clock a = leb a.time.0 clock
 
 -- a place of the row that no arrival fills
-abbrev pub noArrival : Arrival
-noArrival = record { time = record { 0 = 0 }; address = record { 0 = 0 }; value = 0; length = 0 }
+abbrev pub no_arrival : Arrival
+no_arrival = record { time = record { 0 = 0 }; address = record { 0 = 0 }; value = 0; length = 0 }
 
 -- ---- what is said of a call
 
-abbrev pub noAdmitted : Admitted
-noAdmitted = record { refusal = 0; number = 0 }
+abbrev pub no_admitted : Admitted
+no_admitted = record { refusal = 0; number = 0 }
 
-abbrev pub noAnswer : Answer
-noAnswer = answerForm (refusedAnswer 0)
+abbrev pub no_answer : Answer
+no_answer = answer_form (refused_answer 0)
 
 -- a place that no report fills
-abbrev pub noReport : Report
-noReport = record { arrival = false; clock = record { 0 = 0 }; address = record { 0 = 0 }; admitted = noAdmitted; answer = noAnswer }
+abbrev pub no_report : Report
+no_report = record { arrival = false; clock = record { 0 = 0 }; address = record { 0 = 0 }; admitted = no_admitted; answer = no_answer }
 
 -- an arrival was admitted or refused, at a clock
-abbrev pub arrivalReport : State → Arrival → Admitted → Report
-arrivalReport s a admitted =
-    record { arrival = true; clock = s.segment.clock; address = a.address; admitted = admitted; answer = noAnswer }
+abbrev pub arrival_report : State → Arrival → Admitted → Report
+arrival_report s a admitted =
+    record { arrival = true; clock = s.segment.clock; address = a.address; admitted = admitted; answer = no_answer }
 
 -- a step was made, at a clock
-abbrev pub stepReport : State → Answer → Report
-stepReport s answer =
-    record { arrival = false; clock = s.segment.clock; address = record { 0 = 0 }; admitted = noAdmitted; answer = answer }
+abbrev pub step_report : State → Answer → Report
+step_report s answer =
+    record { arrival = false; clock = s.segment.clock; address = record { 0 = 0 }; admitted = no_admitted; answer = answer }
 
 -- ---- the calls
 
@@ -73,51 +73,51 @@ after reports taken c =
     record { reports = reports ++ c.reports; taken = taken + c.taken; left = c.left; state = c.state }
 
 -- one step, and then a course
-abbrev pub stepThen : State → Course → Course
-stepThen s c = after (stepReport s (answerForm (codedStep s).0) ∷ []) 0 c
+abbrev pub step_then : State → Course → Course
+step_then s c = after (step_report s (answer_form (coded_step s).0) ∷ []) 0 c
 
 -- So many calls at the most. 'Before each step it admits, in file order, the arrivals whose time is not above the clock.' A stretch ends
 -- where no step is left; or where its arrivals have been used up and there may be more, which it does not know.
 unfoldable pub course : ℕ → State → List Arrival → Bool → ℕ → Course
 course zero s arrivals more left = rests s left
 course (suc calls) s arrivals more zero = rests s zero
-course (suc calls) s [] more (suc left) = cond more (rests s (suc left)) (stepThen s (course calls (codedStep s).1 [] more left))
+course (suc calls) s [] more (suc left) = cond more (rests s (suc left)) (step_then s (course calls (coded_step s).1 [] more left))
 course (suc calls) s (a ∷ arrivals) more (suc left) =
     cond
     (due s.segment.clock.0 a)
     (after
-    (arrivalReport s a (codedAdmit s (asks a)).0 ∷ [])
+    (arrival_report s a (coded_admit s (asks a)).0 ∷ [])
     1
-    (course calls (codedAdmit s (asks a)).1 arrivals more (suc left)))
-    (stepThen s (course calls (codedStep s).1 (a ∷ arrivals) more left))
+    (course calls (coded_admit s (asks a)).1 arrivals more (suc left)))
+    (step_then s (course calls (coded_step s).1 (a ∷ arrivals) more left))
 
 -- the arrivals in a row, and whether there may be more: the row is full
 abbrev pub in_row : Arrivals → List Arrival
 in_row x = take x.length x.row
 
-abbrev pub mayBeMore : Arrivals → Bool
-mayBeMore x = leb row-places x.length
+abbrev pub may_be_more : Arrivals → Bool
+may_be_more x = leb row_places x.length
 
 -- a stretch from a state, by the arrivals that come next and the steps that are left
-abbrev pub stretchOf : State → Arrivals → ℕ → Course
-stretchOf s arrivals steps = course most-calls s (in_row arrivals) (mayBeMore arrivals) steps
+abbrev pub stretch_of : State → Arrivals → ℕ → Course
+stretch_of s arrivals steps = course most_calls s (in_row arrivals) (may_be_more arrivals) steps
 
 -- so many steps, one after the other: what is said of each, and the state after them
-abbrev pub stepReports : ℕ → State → List Report
-stepReports zero s = []
-stepReports (suc steps) s = stepReport s (answerForm (codedStep s).0) ∷ stepReports steps (codedStep s).1
+abbrev pub step_reports : ℕ → State → List Report
+step_reports zero s = []
+step_reports (suc steps) s = step_report s (answer_form (coded_step s).0) ∷ step_reports steps (coded_step s).1
 
-abbrev pub afterSteps : ℕ → State → State
-afterSteps zero s = s
-afterSteps (suc steps) s = afterSteps steps (codedStep s).1
+abbrev pub after_steps : ℕ → State → State
+after_steps zero s = s
+after_steps (suc steps) s = after_steps steps (coded_step s).1
 
 -- ---- what comes back
 
 -- the reports in their row, and zeros past them
-abbrev pub stretchForm : Course → Stretch
-stretchForm c =
+abbrev pub stretch_form : Course → Stretch
+stretch_form c =
     record {
-      reports = c.reports ++ replicate (most-calls - length c.reports) noReport;
+      reports = c.reports ++ replicate (most_calls - length c.reports) no_report;
       made = length c.reports;
       taken = c.taken;
       left = c.left;
@@ -127,17 +127,17 @@ stretchForm c =
 -- ---- the single calls that a stretch is
 
 -- what a report says that the engine replied
-abbrev pub replyOf : Report → Reply
-replyOf r = cond r.arrival (Engine.admitted r.admitted) (Engine.probed (answer_of r.answer))
+abbrev pub reply_of : Report → Reply
+reply_of r = cond r.arrival (Engine.admitted r.admitted) (Engine.probed (answer_of r.answer))
 
 -- the refusal number in a reply, 0 where the call was accepted
-abbrev pub refusalIn : Reply → ℕ
-refusalIn (Engine.admitted a) = a.refusal
-refusalIn (Engine.begun o) = o.refusal
-refusalIn (Engine.probed a) = a.refusal
+abbrev pub refusal_in : Reply → ℕ
+refusal_in (Engine.admitted a) = a.refusal
+refusal_in (Engine.begun o) = o.refusal
+refusal_in (Engine.probed a) = a.refusal
 
 -- the calls of a course from a state: it comes to the state that they come to, and its reports say what is replied to them
 pub record Called (s : State) (c : Course) : Type 0 where
   pub calls : List Call
   pub state : c.state ≡ Engine.after coded s calls
-  pub replied : map replyOf c.reports ≡ replies coded s calls
+  pub replied : map reply_of c.reports ≡ replies coded s calls

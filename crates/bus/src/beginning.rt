@@ -1,10 +1,10 @@
 // Beginning a contention: late packets are counted lost, each station offers one packet, and parameters and the first window are fixed.
 ghost use Rattle.std.specs.Prelude.{ℕ, ◌+◌, ◌-◌, ◌<◌, ◌≤◌, ◌≡◌, false, ◌||◌, cond, eqb, get_or};
-ghost use Rattle.rules.specs.SetUp.{disciplineOf};
-ghost use Rattle.rules.specs.Begin.{sits-out};
-ghost use Rattle.state.specs.State.{last_of, waitingIn};
-ghost use Rattle.bus.specs.Parts.{contenderFor, openingOf, offersOf, begunWith, contendingOf, shownOf};
-ghost use Rattle.state.specs.Parts.{packetsOf};
+ghost use Rattle.rules.specs.SetUp.{discipline_of};
+ghost use Rattle.rules.specs.Begin.{sits_out};
+ghost use Rattle.state.specs.State.{last_of, waiting_in};
+ghost use Rattle.bus.specs.Parts.{contender_for, opening_of, offers_of, begun_with, contending_of, shown_of};
+ghost use Rattle.state.specs.Parts.{packets_of};
 
 use crate::{Begun, offering, waiting};
 use rules::Slot;
@@ -15,7 +15,7 @@ use state::{
 
 // Whether a station has no packet, or sits out.
 pub fn offers_nothing(discipline: u32, round: Round, capability: Capability, length: usize) -> bool
-    ensures { result ≡ (eqb length 0 || sits-out (disciplineOf discipline) (last_of round) capability.0) }
+    ensures { result ≡ (eqb length 0 || sits_out (discipline_of discipline) (last_of round) capability.0) }
 {
     if length == 0 {
         return true;
@@ -34,8 +34,8 @@ fn contender_for(
     requires length_bound { queue.length ≤ 16 }
     requires le_q { 1 ≤ settings.q }
     requires le_d { 1 ≤ settings.d }
-    requires capability_value { sits-out (disciplineOf settings.discipline) (last_of round) l.capability.0 ≡ false }
-    ensures { result ≡ contenderFor settings clock round l (packetsOf queue) }
+    requires capability_value { sits_out (discipline_of settings.discipline) (last_of round) l.capability.0 ≡ false }
+    ensures { result ≡ contender_for settings clock round l (packets_of queue) }
 {
     let chosen = waiting::chosen(queue, settings.discipline);
     if !chosen.found {
@@ -57,7 +57,7 @@ fn offers_of(g: Segment, queues: Queues) -> Segment
     requires by_index { (i : ℕ) → i < g.settings.n → get_or queues.lengths i 0 ≤ 16 }
     requires le_q { 1 ≤ g.settings.q }
     requires le_d { 1 ≤ g.settings.d }
-    ensures { result ≡ offersOf g queues }
+    ensures { result ≡ offers_of g queues }
 {
     let settings = g.settings;
     let listed = g.listed;
@@ -114,7 +114,7 @@ pub fn dropping(discipline: u32, n: usize) -> usize
 
 // A contention's beginning: 'The window is the first window of D, start 0, side right.'
 pub fn opening(d: u32) -> Contention
-    ensures { result ≡ openingOf d }
+    ensures { result ≡ opening_of d }
 {
     let window = window::first_window(d);
     Contention {
@@ -127,8 +127,8 @@ pub fn opening(d: u32) -> Contention
 
 // How many packets have left the queues of the first n stations, by how many each had and has.
 pub fn dropped(before: [usize; 64], after: [usize; 64], n: usize) -> u64
-    requires { waitingIn after n ≤ waitingIn before n }
-    ensures { result ≡ waitingIn before n - waitingIn after n }
+    requires { waiting_in after n ≤ waiting_in before n }
+    ensures { result ≡ waiting_in before n - waiting_in after n }
 {
     (standing::waiting_in(before, n) - standing::waiting_in(after, n)) as u64
 }
@@ -140,7 +140,7 @@ pub fn begun(g: Segment, queues: Queues, drops: u64) -> Segment
     requires le_q { 1 ≤ g.settings.q }
     requires le_d { 1 ≤ g.settings.d }
     requires drops_bound { g.lost + drops ≤ 18446744073709551615 }
-    ensures { result ≡ begunWith g queues drops }
+    ensures { result ≡ begun_with g queues drops }
 {
     let settings = g.settings;
     let contention = opening(settings.d);
@@ -152,7 +152,7 @@ pub fn begun(g: Segment, queues: Queues, drops: u64) -> Segment
 
 // The addresses of those in a word, by station.
 fn contending(contenders: u64, listed: [Listed; 64]) -> [Address; 64]
-    ensures { result ≡ contendingOf contenders listed }
+    ensures { result ≡ contending_of contenders listed }
 {
     let mut addresses = [Address(0); 64];
     for i in 0..64 {
@@ -167,7 +167,7 @@ fn contending(contenders: u64, listed: [Listed; 64]) -> [Address; 64]
 
 // What a begin shows of the segment in which a contention has begun.
 pub fn shown(g: Segment, drops: u64) -> Begun
-    ensures { result ≡ shownOf g drops }
+    ensures { result ≡ shown_of g drops }
 {
     let contention = g.contention;
     let w = contention.window;

@@ -1,7 +1,7 @@
 // Admission: the station with an address, refusals 11 to 16, and the answer.
 ghost use Rattle.std.specs.Prelude.{◌≤◌, ◌≡◌, true, eqb, get_or};
 ghost use Rattle.state.specs.State.{nobody};
-ghost use Rattle.bus.specs.Parts.{firstPlace, refusalAt, askedIf};
+ghost use Rattle.bus.specs.Parts.{first_place, refusal_at, asked_if};
 
 use crate::Asked;
 use rules::{Admitted, Slot};
@@ -11,7 +11,7 @@ use state::{Listed, Settings, standing};
 // The place of the station with an address; n where there is none.
 fn station_of(listed: [Listed; 64], n: usize, address: Address) -> usize
     requires { n ≤ 64 }
-    ensures { result ≡ firstPlace (λ i. eqb address.0 (get_or listed i nobody).address.0) 0 n }
+    ensures { result ≡ first_place (λ i. eqb address.0 (get_or listed i nobody).address.0) 0 n }
 {
     for i in 0..n {
         let s = listed[i];
@@ -33,7 +33,7 @@ fn refusal(
     length: u32,
 ) -> u32
     requires { settings.n ≤ 64 }
-    ensures { result ≡ refusalAt settings clock admitted lengths place value length }
+    ensures { result ≡ refusal_at settings clock admitted lengths place value length }
 {
     if settings.n <= place {
         return 11;
@@ -70,7 +70,7 @@ pub fn asked(
     length: u32,
 ) -> Asked
     requires { stands ≡ true → settings.n ≤ 64 }
-    ensures { result ≡ askedIf stands settings listed clock admitted lengths address value length }
+    ensures { result ≡ asked_if stands settings listed clock admitted lengths address value length }
 {
     if !stands {
         let answer = Admitted {

@@ -1,11 +1,11 @@
 // The engine: the calls on the state of a bus segment. Every call takes any input; bad input gets its number from the table of paper 01,
 // and the state comes back as lent, but for the count of packets turned away where an admission is refused with 14 or 15.
 ghost use Rattle.std.specs.Prelude.{◌≡◌, cond, ltb};
-ghost use Rattle.rules.specs.Bus.{last-slot};
-ghost use Rattle.rules.specs.Probe.{refusedAnswer};
-ghost use Rattle.rules.specs.Step.{refusedBegun};
-ghost use Rattle.bus.specs.Stretch.{stretchOf, stretchForm};
-ghost use Rattle.bus.specs.Coded.{codedAdmit, codedBegin, codedProbe, codedStep, admissionResult, beginResult, stepResult, arrivalOf, begunForm, answerForm, totalsOf};
+ghost use Rattle.rules.specs.Bus.{last_slot};
+ghost use Rattle.rules.specs.Probe.{refused_answer};
+ghost use Rattle.rules.specs.Step.{refused_begun};
+ghost use Rattle.bus.specs.Stretch.{stretch_of, stretch_form};
+ghost use Rattle.bus.specs.Coded.{coded_admit, coded_begin, coded_probe, coded_step, admission_result, begin_result, step_result, arrival_of, begun_form, answer_form, totals_of};
 
 use rules::{Admitted, Packet, Slot};
 use sorts::{Address, counts};
@@ -185,7 +185,7 @@ struct Heard {
 // 'Admission tries 1, then 11 to 16'; an accepted packet takes the first free place of its station's queue, and one that is refused with 14 or
 // 15 is counted.
 pub fn admit(s: State, address: Address, value: u32, length: u32) -> Admission
-    ensures { result ≡ admissionResult (codedAdmit s (arrivalOf address value length)) }
+    ensures { result ≡ admission_result (coded_admit s (arrival_of address value length)) }
 {
     let stands = standing::stands(s);
     let mut g = s.segment;
@@ -232,7 +232,7 @@ fn begin_refusal(stands: bool, begun: bool) -> u32
 
 // The answer to a refused begin: 'zero in the answer's other fields'.
 fn unbegun(refusal: u32) -> Begun
-    ensures { result ≡ begunForm (refusedBegun refusal) }
+    ensures { result ≡ begun_form (refused_begun refusal) }
 {
     Begun {
         refusal,
@@ -250,7 +250,7 @@ fn unbegun(refusal: u32) -> Begun
 // 'who contends and what was dropped before the first slot is spent': late packets leave, each station offers one packet, and parameters and the
 // first window are fixed. It takes no slot, and is accepted at any clock of a state that stands and has no contention under way.
 pub fn begin(mut s: State) -> Started
-    ensures { result ≡ beginResult (codedBegin s) }
+    ensures { result ≡ begin_result (coded_begin s) }
 {
     let stands = standing::stands(s);
     let under_way = s.segment.contention;
@@ -275,7 +275,7 @@ pub fn begin(mut s: State) -> Started
 
 // '26, probe while none is; .. after 1, and 26 before 17, which belongs to the probe': the refusal, or 0.
 fn probe_refusal(stands: bool, begun: bool, clock: Slot) -> u32
-    ensures { result ≡ cond stands (cond begun (cond (ltb last-slot clock.0) 17 0) 26) 1 }
+    ensures { result ≡ cond stands (cond begun (cond (ltb last_slot clock.0) 17 0) 26) 1 }
 {
     if !stands {
         return 1;
@@ -291,7 +291,7 @@ fn probe_refusal(stands: bool, begun: bool, clock: Slot) -> u32
 
 // Probes one slot of the contention under way: who transmits, what is heard, and what becomes of the window and the state.
 pub fn probe(mut s: State) -> Stepped
-    ensures { result ≡ stepResult (codedProbe s) }
+    ensures { result ≡ step_result (coded_probe s) }
 {
     let stands = standing::stands(s);
     let under_way = s.segment.contention;
@@ -314,7 +314,7 @@ pub fn probe(mut s: State) -> Stepped
 
 // 'a step tries 1, then 17': the refusal, or 0.
 fn step_refusal(stands: bool, clock: Slot) -> u32
-    ensures { result ≡ cond stands (cond (ltb last-slot clock.0) 17 0) 1 }
+    ensures { result ≡ cond stands (cond (ltb last_slot clock.0) 17 0) 1 }
 {
     if !stands {
         return 1;
@@ -327,7 +327,7 @@ fn step_refusal(stands: bool, clock: Slot) -> u32
 
 // The answer to a refused step or probe: 'zero in the answer's other fields'; with 0, that to no step.
 fn refused(refusal: u32) -> Answer
-    ensures { result ≡ answerForm (refusedAnswer refusal) }
+    ensures { result ≡ answer_form (refused_answer refusal) }
 {
     let mut answer = NO_ANSWER;
     answer.refusal = refusal;
@@ -337,7 +337,7 @@ fn refused(refusal: u32) -> Answer
 // A step is the two in one: it begins a contention if none is under way, and probes one slot; its answer is the probe's with the begin's drops.
 // 'a step tries 1, then 17', before it begins anything.
 pub fn step(mut s: State) -> Stepped
-    ensures { result ≡ stepResult (codedStep s) }
+    ensures { result ≡ step_result (coded_step s) }
 {
     let stands = standing::stands(s);
     let refusal = step_refusal(stands, s.segment.clock);
@@ -376,14 +376,14 @@ pub fn step(mut s: State) -> Stepped
 // ends before that where no step is left, or where all of a full row of arrivals have been taken. Each call's answer, and the state, are
 // those of `admit` and `step`.
 pub fn play(s: State, arrivals: Arrivals, steps: u32) -> Stretch
-    ensures { result ≡ stretchForm (stretchOf s arrivals steps) }
+    ensures { result ≡ stretch_form (stretch_of s arrivals steps) }
 {
     playing::calls(s, standing::stands(s), arrivals, steps)
 }
 
 // 'END clock admitted sent lost waiting' and the packets turned away, of a state that stands; 1 of any other.
 pub fn closing(s: State) -> Totals
-    ensures { result ≡ totalsOf s }
+    ensures { result ≡ totals_of s }
 {
     if !standing::stands(s) {
         return Totals {

@@ -1,10 +1,10 @@
 // What the three disciplines do differently as a contention begins: the order of offers, parameters, and who sits out.
 ghost use Rattle.std.specs.Prelude.{◌-◌, ◌/◌, ◌≤◌, min, ◌≡◌, ◌||◌, cond, ltb};
 ghost use Rattle.rules.specs.Bus.{late};
-ghost use Rattle.rules.specs.SetUp.{disciplineOf};
-ghost use Rattle.rules.specs.Begin.{smaller, goes_before, sits-out};
+ghost use Rattle.rules.specs.SetUp.{discipline_of};
+ghost use Rattle.rules.specs.Begin.{smaller, goes_before, sits_out};
 ghost use Rattle.state.specs.State.{last_of};
-ghost use Rattle.bus.specs.Parts.{parameterFor, rank_of};
+ghost use Rattle.bus.specs.Parts.{parameter_for, rank_of};
 
 use rules::{Packet, Slot};
 use sorts::{Capability, disciplines};
@@ -25,7 +25,7 @@ fn smaller(p: Packet, o: Packet) -> bool
 
 // Whether p is offered before o.
 pub fn goes_before(discipline: u32, p: Packet, o: Packet) -> bool
-    ensures { result ≡ goes_before (disciplineOf discipline) p o }
+    ensures { result ≡ goes_before (discipline_of discipline) p o }
 {
     if discipline < disciplines::RTVC {
         return smaller(p, o);
@@ -52,7 +52,7 @@ pub fn looked_at(discipline: u32, length: usize) -> usize
 
 // Whether a packet that is offered is late: this one, or one before it.
 pub fn late_offered(already: bool, discipline: u32, clock: Slot, value: u32) -> bool
-    ensures { result ≡ (already || late (disciplineOf discipline) clock.0 value) }
+    ensures { result ≡ (already || late (discipline_of discipline) clock.0 value) }
 {
     if already {
         return true;
@@ -78,7 +78,7 @@ fn laxity(settings: Settings, clock: Slot, latest: Slot) -> u32
 pub fn parameter(settings: Settings, clock: Slot, capability: Capability, packet: Packet) -> u64
     requires le_q { 1 ≤ settings.q }
     requires le_d { 1 ≤ settings.d }
-    ensures { result ≡ parameterFor (disciplineOf settings.discipline) settings clock capability packet }
+    ensures { result ≡ parameter_for (discipline_of settings.discipline) settings clock capability packet }
 {
     let discipline = settings.discipline;
     if discipline == disciplines::PRI {
@@ -93,7 +93,7 @@ pub fn parameter(settings: Settings, clock: Slot, capability: Capability, packet
 
 // 'if no circuit has won in this round or the capability is above the last winner's; otherwise the station sits out'
 pub fn sits_out(discipline: u32, round: Round, capability: Capability) -> bool
-    ensures { result ≡ sits-out (disciplineOf discipline) (last_of round) capability.0 }
+    ensures { result ≡ sits_out (discipline_of discipline) (last_of round) capability.0 }
 {
     if discipline < disciplines::RTVC {
         return false;

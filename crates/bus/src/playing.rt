@@ -1,6 +1,6 @@
 // A stretch of a run: arrivals and steps, one call after the other.
 ghost use Rattle.std.specs.Prelude.{◌+◌, ◌≡◌, true, false, ◌&&◌, leb, ltb};
-ghost use Rattle.bus.specs.Stretch.{most-calls, row-places, noAdmitted, noAnswer, stretchOf, stretchForm};
+ghost use Rattle.bus.specs.Stretch.{most_calls, row_places, no_admitted, no_answer, stretch_of, stretch_form};
 ghost use Rattle.state.specs.State.{standing};
 
 use crate::{
@@ -32,7 +32,7 @@ const NO_REPORT: Report = Report {
 
 // Whether a stretch goes on: there is room for a report, a place of the row that has not been passed, and a step left.
 fn goes_on(made: usize, taken: usize, left: u32) -> bool
-    ensures { result ≡ (ltb made most-calls && ltb taken row-places && ltb 0 left) }
+    ensures { result ≡ (ltb made most_calls && ltb taken row_places && ltb 0 left) }
 {
     if MOST_CALLS <= made {
         return false;
@@ -55,7 +55,7 @@ fn is_due(taken: usize, length: usize, time: Slot, clock: Slot) -> bool
 
 // What is said of an arrival.
 fn of_arrival(clock: Slot, address: Address, admitted: Admitted) -> Report
-    ensures { result ≡ record { arrival = true; clock = clock; address = address; admitted = admitted; answer = noAnswer } }
+    ensures { result ≡ record { arrival = true; clock = clock; address = address; admitted = admitted; answer = no_answer } }
 {
     Report {
         arrival: true,
@@ -68,7 +68,7 @@ fn of_arrival(clock: Slot, address: Address, admitted: Admitted) -> Report
 
 // What is said of a step.
 fn of_step(clock: Slot, answer: Answer) -> Report
-    ensures { result ≡ record { arrival = false; clock = clock; address = record { 0 = 0 }; admitted = noAdmitted; answer = answer } }
+    ensures { result ≡ record { arrival = false; clock = clock; address = record { 0 = 0 }; admitted = no_admitted; answer = answer } }
 {
     Report {
         arrival: false,
@@ -84,7 +84,7 @@ fn of_step(clock: Slot, answer: Answer) -> Report
 // small, or rows of plain numbers that are lent, and the row of packets goes by value only where late ones leave it.
 pub fn calls(s: State, stands: bool, arrivals: Arrivals, steps: u32) -> Stretch
     requires { stands ≡ standing s }
-    ensures { result ≡ stretchForm (stretchOf s arrivals steps) }
+    ensures { result ≡ stretch_form (stretch_of s arrivals steps) }
 {
     let mut g = s.segment;
     let mut queues = s.queues;

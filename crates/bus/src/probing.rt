@@ -1,9 +1,9 @@
 // Probing one slot: who transmits, what is heard, and what becomes of the window, the clock and the round.
 ghost use Rattle.std.specs.Prelude.{◌+◌, ◌<◌, ◌≤◌, ◌≡◌, not, leb, ltb, get_or};
-ghost use Rattle.window.specs.Splitting.{inWindow};
+ghost use Rattle.window.specs.Splitting.{in_window};
 ghost use Rattle.word.specs.Word.{word_of, count_of};
-ghost use Rattle.rules.specs.SetUp.{disciplineOf};
-ghost use Rattle.bus.specs.Parts.{addressesOf, transmittersOf, transmittersIn, answerAt, wentOn, splitOf, collidedOn, unheardOn, roundAfter, wonOn, movedBy, withMoved, sole_of, heardIn, heardOf};
+ghost use Rattle.rules.specs.SetUp.{discipline_of};
+ghost use Rattle.bus.specs.Parts.{addresses_of, transmitters_of, transmitters_in, answer_at, went_on, split_of, collided_on, unheard_on, round_after, won_on, moved_by, with_moved, sole_of, heard_in, heard_of};
 
 use crate::{Answer, Heard, Moved, Progress};
 use rules::{Packet, Slot};
@@ -20,11 +20,11 @@ pub const SUCCESS: u32 = 2;
 
 // The stations whose number in a row lies in a window, as a word.
 fn lying_in(w: Window, row: &[u64; 64]) -> u64
-    ensures { result ≡ word_of (λ i. inWindow w (get_or row.now i 0)) 64 }
+    ensures { result ≡ word_of (λ i. in_window w (get_or row.now i 0)) 64 }
 {
     let mut found = 0;
     for i in 0..64 {
-        if window::in_window(w, row[i]) {
+        if window::in_window_bounds(w, row[i]) {
             found = word::set(found, i);
         }
     }
@@ -46,7 +46,7 @@ fn in_time(slot: Slot, values: &[u32; 64]) -> u64
 
 // The addresses of the stations listed, as numbers that windows of addresses hold.
 pub fn addresses_of(listed: [Listed; 64]) -> [u64; 64]
-    ensures { result ≡ addressesOf listed }
+    ensures { result ≡ addresses_of listed }
 {
     let mut addresses = [0u64; 64];
     for i in 0..64 {
@@ -67,7 +67,7 @@ pub fn transmitters<'a>(
     values: &'a [u32; 64],
     addresses: &'a [u64; 64],
 ) -> u64
-    ensures { result ≡ transmittersOf discipline clock contention contenders parameters.now values.now addresses.now }
+    ensures { result ≡ transmitters_of discipline clock contention contenders parameters.now values.now addresses.now }
 {
     if contenders == 0 {
         return 0;
@@ -91,7 +91,7 @@ pub fn transmitters<'a>(
 
 // The answer to a probe without a winner.
 fn unsent(progress: Progress, drops: u64, event: u32, ended: bool) -> Answer
-    ensures { result ≡ answerAt progress drops event (record { 0 = 0 }) 0 0 0 ended }
+    ensures { result ≡ answer_at progress drops event (record { 0 = 0 }) 0 0 0 ended }
 {
     answer_to(progress, drops, event, Address(0), 0, 0, 0, ended)
 }
@@ -107,7 +107,7 @@ fn answer_to(
     wait: u32,
     ended: bool,
 ) -> Answer
-    ensures { result ≡ answerAt progress drops event address number length wait ended }
+    ensures { result ≡ answer_at progress drops event address number length wait ended }
 {
     let contention = progress.contention;
     let window = contention.window;
@@ -143,7 +143,7 @@ fn later(t: Slot, slots: u32) -> Slot
 // The contention goes on, one slot later.
 fn went_on(progress: Progress, c: Contention) -> Progress
     requires { progress.clock.0 + 1 ≤ 4294967295 }
-    ensures { result ≡ wentOn progress c }
+    ensures { result ≡ went_on progress c }
 {
     let clock = later(progress.clock, 1);
     let round = progress.round;
@@ -158,7 +158,7 @@ fn went_on(progress: Progress, c: Contention) -> Progress
 // 'A window of size 2 or more becomes its left half, side left. A window of size 1 starts the tie phase among the contenders of that
 // parameter: the first window of A, start 0, side right.'
 fn split(a: u32, c: Contention) -> Contention
-    ensures { result ≡ splitOf a c (leb 2 c.window.size) c.tied }
+    ensures { result ≡ split_of a c (leb 2 c.window.size) c.tied }
 {
     let w = c.window;
     if 2 <= w.size {
@@ -186,7 +186,7 @@ fn split(a: u32, c: Contention) -> Contention
 // 'Two or more: collision.'
 fn collided(a: u32, progress: Progress, drops: u64) -> Moved
     requires { progress.clock.0 + 1 ≤ 4294967295 }
-    ensures { result ≡ collidedOn a progress drops }
+    ensures { result ≡ collided_on a progress drops }
 {
     let c = split(a, progress.contention);
     let next = went_on(progress, c);
@@ -200,7 +200,7 @@ fn collided(a: u32, progress: Progress, drops: u64) -> Moved
 // 'None: idle. Side left: the window moves right by its size, side right. Side right: the contention ends without a winner.'
 fn unheard(progress: Progress, drops: u64) -> Moved
     requires { progress.clock.0 + 1 ≤ 4294967295 }
-    ensures { result ≡ unheardOn progress drops progress.contention.window.side }
+    ensures { result ≡ unheard_on progress drops progress.contention.window.side }
 {
     let c = progress.contention;
     let w = c.window;
@@ -240,7 +240,7 @@ fn unheard(progress: Progress, drops: u64) -> Moved
 
 // 'In RTVC the last winner is set.'
 fn round_after(discipline: u32, capability: Capability) -> Round
-    ensures { result ≡ roundAfter (disciplineOf discipline) capability }
+    ensures { result ≡ round_after (discipline_of discipline) capability }
 {
     if discipline < disciplines::RTVC {
         return zeros::NO_ROUND;
@@ -256,7 +256,7 @@ fn round_after(discipline: u32, capability: Capability) -> Round
 fn won(discipline: u32, progress: Progress, drops: u64, l: Listed, packet: Packet) -> Moved
     requires length_bound { progress.clock.0 + packet.length ≤ 4294967295 }
     requires sent_bound { progress.sent < 4294967295 }
-    ensures { result ≡ wonOn (disciplineOf discipline) progress drops l packet }
+    ensures { result ≡ won_on (discipline_of discipline) progress drops l packet }
 {
     let clock = later(progress.clock, packet.length);
     let round = round_after(discipline, l.capability);
@@ -296,7 +296,7 @@ pub fn moved(
     requires clock_bound { progress.clock.0 ≤ 1073741824 }
     requires length_bound { packet.length ≤ 4096 }
     requires sent_bound { (count ≡ 1) → progress.sent < 4294967295 }
-    ensures { result ≡ movedBy settings progress drops count listed packet }
+    ensures { result ≡ moved_by settings progress drops count listed packet }
 {
     if count == 0 {
         return unheard(progress, drops);
@@ -309,7 +309,7 @@ pub fn moved(
 
 // What a probe has moved, stored; no contenders where the contention has ended.
 fn with_moved(g: Segment, m: Moved) -> Segment
-    ensures { result ≡ withMoved g m }
+    ensures { result ≡ with_moved g m }
 {
     let answer = m.answer;
     let progress = m.progress;
@@ -339,9 +339,9 @@ fn with_moved(g: Segment, m: Moved) -> Segment
 // works on the segment alone: a function that took the state by value would hold one more copy of it.
 pub fn heard_in(g: Segment, drops: u64) -> Heard
     requires clock_bound { g.clock.0 ≤ 1073741824 }
-    requires g_bound { (sole_of g (heardIn g)).packet.length ≤ 4096 }
-    requires sent_bound { count_of (transmittersIn g) ≡ 1 → g.sent < 4294967295 }
-    ensures { result ≡ heardOf g drops }
+    requires g_bound { (sole_of g (heard_in g)).packet.length ≤ 4096 }
+    requires sent_bound { count_of (transmitters_in g) ≡ 1 → g.sent < 4294967295 }
+    ensures { result ≡ heard_of g drops }
 {
     let settings = g.settings;
     let clock = g.clock;

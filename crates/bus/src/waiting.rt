@@ -1,11 +1,11 @@
 // Packets that wait: they leave the row of queues, and of a station's queue one is chosen to be offered.
 ghost use Rattle.std.specs.Prelude.{ℕ, ◌<◌, ◌≤◌, ◌≡◌, ◌&&◌, cond, leb, ltb, get_or};
 ghost use Rattle.rules.specs.Lists.{keep};
-ghost use Rattle.rules.specs.SetUp.{disciplineOf};
+ghost use Rattle.rules.specs.SetUp.{discipline_of};
 ghost use Rattle.rules.specs.Begin.{choice};
-ghost use Rattle.state.specs.State.{queueAt};
-ghost use Rattle.state.specs.Parts.{queueOf, packetsOf};
-ghost use Rattle.bus.specs.Parts.{queueForm, stays, chosenForm};
+ghost use Rattle.state.specs.State.{queue_at};
+ghost use Rattle.state.specs.Parts.{queue_of, packets_of};
+ghost use Rattle.bus.specs.Parts.{queue_form, stays, chosen_form};
 
 use crate::{Chosen, Leaving, offering};
 use rules::Packet;
@@ -26,9 +26,9 @@ fn stays(leaving: Leaving, p: Packet) -> bool
 // cleared. Each packet is taken out, and one that stays is put back in the first free place.
 pub fn without(mut queues: Queues, from: usize, to: usize, leaving: Leaving) -> Queues
     requires to_bound { to ≤ 64 }
-    requires by_index { (j : ℕ) → j < 64 → queueOf queues j ≡ queueForm (queueAt queues j) }
+    requires by_index { (j : ℕ) → j < 64 → queue_of queues j ≡ queue_form (queue_at queues j) }
     requires by_index_2 { (j : ℕ) → j < 64 → get_or queues.lengths j 0 ≤ 16 }
-    ensures { (j : ℕ) → j < 64 → queueOf result j ≡ cond (leb from j && ltb j to) (queueForm (keep (stays leaving) (queueAt queues j))) (queueOf queues j) }
+    ensures { (j : ℕ) → j < 64 → queue_of result j ≡ cond (leb from j && ltb j to) (queue_form (keep (stays leaving) (queue_at queues j))) (queue_of queues j) }
 {
     for i in from..to {
         let length = queues.lengths[i];
@@ -53,7 +53,7 @@ pub fn without(mut queues: Queues, from: usize, to: usize, leaving: Leaving) -> 
 // far, and fetches that packet at its end.
 pub fn chosen(queue: Queue, discipline: u32) -> Chosen
     requires { queue.length ≤ 16 }
-    ensures { result ≡ chosenForm (choice (disciplineOf discipline) (packetsOf queue)) }
+    ensures { result ≡ chosen_form (choice (discipline_of discipline) (packets_of queue)) }
 {
     let length = queue.length;
     if length == 0 {

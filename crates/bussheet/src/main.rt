@@ -1,6 +1,6 @@
 // The program: the scenario files named as arguments to one sheet on standard output. It reads and writes; all else is the libraries'.
 ghost use Rattle.std.specs.Prelude.{◌≤◌, ◌≡◌, length};
-ghost use Rattle.sheet.specs.Sheet.{most-runs};
+ghost use Rattle.sheet.specs.Sheet.{most_runs};
 
 use libc::STDOUT_FILENO;
 use page::{Entry, Refusal};
@@ -138,7 +138,7 @@ fn close(sums: Sums, highest: Highest) {
 
 // Writes a sheet and what became of its files, as long as it can be written.
 fn write(sheet: Sheet, files: [File; 256], count: usize)
-    requires { count ≤ most-runs }
+    requires { count ≤ most_runs }
 {
     if !write_heading() {
         return;

@@ -13,18 +13,18 @@ use lib.Dec.{ltb, eqb}
 use lib.ListN.{length, get_or, take, drop, set}
 use lib.Seq.{append_snoc, slice, take-suc, take-suc-set, drop-set-lt, take-set-lt}
 use borrow.Author.Tests.{ltb-true, leb-true, eqb-true, eq-eqb, ne_eqb}
-use Rattle.rules.specs.Bus.{clock-end}
-use Rattle.rules.specs.SetUp.{disciplineOf}
-use Rattle.rules.specs.Standing.{value-fits}
-use Rattle.sorts.proofs.DisciplineCases.{by-discipline}
+use Rattle.rules.specs.Bus.{clock_end}
+use Rattle.rules.specs.SetUp.{discipline_of}
+use Rattle.rules.specs.Standing.{value_is_fit}
+use Rattle.sorts.proofs.DisciplineCases.{by_discipline}
 use Rattle.state.specs.declared.Arrival.{Arrival}
 use Rattle.state.specs.contracts.Arrival.{the_row}
-use Rattle.state.proofs.Tested.{left-turn, left_end}
-use Rattle.layout.specs.Layout.{inserted, insertedAll, repeated, later, value_at, arrivalOf}
+use Rattle.state.proofs.Tested.{left_turn, left_end}
+use Rattle.layout.specs.Layout.{inserted, inserted_all, repeated, later, value_at, arrival_of}
 
 -- the row that a function is handed has its length
-pub rows-count : (rows : List Arrival) (vs : List Val) → Is (Array the_row 4096) rows vs → length rows ≡ 4096
-rows-count rows vs owned = owned.1.0.1
+pub rows_count : (rows : List Arrival) (vs : List Val) → Is (Array the_row 4096) rows vs → length rows ≡ 4096
+rows_count rows vs owned = owned.1.0.1
 
 -- ---- one arrival, in one pass over the row
 
@@ -34,8 +34,8 @@ onward true held left = held ∷ left
 onward false held left = inserted held left
 
 -- what a place of the row is for which there is none
-abbrev pub noArrival : Arrival
-noArrival = arrivalOf 0 0 0 0
+abbrev pub no_arrival : Arrival
+no_arrival = arrival_of 0 0 0 0
 
 onward-stays :
     (moved : Bool) (held x : Arrival) (left : List Arrival) → (moved || ltb held.time.0 x.time.0) ≡ false
@@ -49,9 +49,9 @@ onward-moves :
 onward-moves true held x left e = refl
 onward-moves false held x left e = rw e
 
-onward-last : (moved : Bool) (held : Arrival) → onward moved held [] ≡ held ∷ []
-onward-last true held = refl
-onward-last false held = refl
+onward_last : (moved : Bool) (held : Arrival) → onward moved held [] ≡ held ∷ []
+onward_last true held = refl
+onward_last false held = refl
 
 -- the row of which n places are filled, before place i: all that is to stand in it
 abbrev pub standing : ℕ → List Arrival → Arrival → Bool → ℕ → List Arrival
@@ -60,18 +60,18 @@ standing n rows held moved i = take i rows ++ onward moved held (slice i n rows)
 module _ (n : ℕ) (rows : List Arrival) (held : Arrival) (moved : Bool) (i : ℕ) where
   module _ (h : i < n) (k : n ≤ length rows) where
     abbrev x : Arrival
-    x = get_or rows i noArrival
+    x = get_or rows i no_arrival
 
     abbrev left : List Arrival
     left = slice (i + 1) n rows
 
     turn : standing n rows held moved i ≡ take i rows ++ onward moved held (x ∷ left)
-    turn = ap (λ xs. take i rows ++ onward moved held xs) (left-turn n rows i noArrival h k)
+    turn = ap (λ xs. take i rows ++ onward moved held xs) (left_turn n rows i no_arrival h k)
 
-    pub standing-stays : (moved || ltb held.time.0 x.time.0) ≡ false → standing n rows held moved i ≡ standing n rows held moved (i + 1)
-    standing-stays e =
+    pub standing_stays : (moved || ltb held.time.0 x.time.0) ≡ false → standing n rows held moved i ≡ standing n rows held moved (i + 1)
+    standing_stays e =
         turn ∙ ap (λ xs. take i rows ++ xs) (onward-stays moved held x left e) ∙ sym (append_snoc (take i rows) x (onward moved held left))
-        ∙ ap (λ xs. xs ++ onward moved held left) (sym (take-suc rows i noArrival (omega arith)) ∙ ap (λ k. take k rows) (sym (add-one i)))
+        ∙ ap (λ xs. xs ++ onward moved held left) (sym (take-suc rows i no_arrival (omega arith)) ∙ ap (λ k. take k rows) (sym (add-one i)))
 
     pub standing-moves :
         (moved || ltb held.time.0 x.time.0) ≡ true → standing n rows held moved i ≡ standing n (set rows i held) x true (i + 1)
@@ -83,10 +83,10 @@ module _ (n : ℕ) (rows : List Arrival) (held : Arrival) (moved : Bool) (i : �
         (sym (drop-set-lt (i + 1) (take n rows) i held (omega arith)) ∙ ap (drop (i + 1)) (sym (take-set-lt n rows i held h)))
 
   -- at the end what is held has the next place
-  pub standing-end : i ≡ n → n < length rows → standing n rows held moved i ≡ take (suc n) (set rows n held)
-  standing-end e h =
+  pub standing_end : i ≡ n → n < length rows → standing n rows held moved i ≡ take (suc n) (set rows n held)
+  standing_end e h =
       ap₂ (λ k xs. take k rows ++ onward moved held xs) e (left_end n rows i (omega arith))
-      ∙ ap (λ last. take n rows ++ last) (onward-last moved held) ∙ sym (take-suc-set rows n held h)
+      ∙ ap (λ last. take n rows ++ last) (onward_last moved held) ∙ sym (take-suc-set rows n held h)
 
 -- ---- an arrival every so many slots
 
@@ -98,22 +98,22 @@ module _ (discipline value time : ℕ) where
   value_same e = rw (ne_eqb discipline 1 e)
 
 -- a later one's value is not below
-pub value-up : (discipline value time last : ℕ) → time ≤ last → value_at discipline value time ≤ value_at discipline value last
-value-up discipline value time last h = up (eqb discipline 1)
+pub value_up : (discipline value time last : ℕ) → time ≤ last → value_at discipline value time ≤ value_at discipline value last
+value_up discipline value time last h = up (eqb discipline 1)
   where
     up : (datagram : Bool) → cond datagram (time + value) value ≤ cond datagram (last + value) value
     up true = omega arith
     up false = omega arith
 
 -- the arrival at a time
-abbrev pub arrivalAt : ℕ → ℕ → ℕ → ℕ → ℕ → Arrival
-arrivalAt discipline address value long time = arrivalOf time address (value_at discipline value time) long
+abbrev pub arrival_at : ℕ → ℕ → ℕ → ℕ → ℕ → Arrival
+arrival_at discipline address value long time = arrival_of time address (value_at discipline value time) long
 
 -- one of them inserted: those after it are left
 pub every-turn :
     (n time every : ℕ) (at : ℕ → Arrival) (xs : List Arrival) {ys : List Arrival} {a : Arrival} → a ≡ at time → ys ≡ inserted a xs
-    → insertedAll (repeated (suc n) time every at) xs ≡ insertedAll (repeated n (time + every) every at) ys
-every-turn n time every at xs same e = ap (insertedAll (repeated n (time + every) every at)) (ap (λ a. inserted a xs) (sym same) ∙ sym e)
+    → inserted_all (repeated (suc n) time every at) xs ≡ inserted_all (repeated n (time + every) every at) ys
+every-turn n time every at xs same e = ap (inserted_all (repeated n (time + every) every at)) (ap (λ a. inserted a xs) (sym same) ∙ sym e)
 
 -- one less left
 pub one_less : (n every : ℕ) → 0 < n → n * every ≡ (n - 1) * every + every
@@ -127,18 +127,18 @@ last_within every from to h = omega (arith, div-mul-le_self (to - from) every)
 
 module _ (discipline d value : ℕ) (h : d < 4_294_967_296) where
   -- a value in its range is a number of 32 bits
-  pub fits_below : value-fits (disciplineOf discipline) d value ≡ true → value < 4_294_967_296
+  pub fits_below : value_is_fit (discipline_of discipline) d value ≡ true → value < 4_294_967_296
   fits_below =
-      by-discipline
-      (λ x. value-fits x d value ≡ true → value < 4_294_967_296)
+      by_discipline
+      (λ x. value_is_fit x d value ≡ true → value < 4_294_967_296)
       discipline
       (λ _ e. omega (arith, ltb-true value d e))
-      (λ _ e. omega (arith, leb-true value clock-end e))
+      (λ _ e. omega (arith, leb-true value clock_end e))
       (λ _ e. omega (arith, eqb-true value 0 e))
 
-  pub large-unfit : 4_294_967_296 ≤ value → value-fits (disciplineOf discipline) d value ≡ false
-  large-unfit k = unfit (value-fits (disciplineOf discipline) d value) refl
+  pub large_unfit : 4_294_967_296 ≤ value → value_is_fit (discipline_of discipline) d value ≡ false
+  large_unfit k = unfit (value_is_fit (discipline_of discipline) d value) refl
     where
-      unfit : (fits : Bool) → value-fits (disciplineOf discipline) d value ≡ fits → fits ≡ false
+      unfit : (fits : Bool) → value_is_fit (discipline_of discipline) d value ≡ fits → fits ≡ false
       unfit true e = absurd (omega (arith, fits_below e))
       unfit false e = refl

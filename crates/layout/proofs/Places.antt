@@ -7,12 +7,12 @@ use native.Mathlib.Omega.{arith}
 use lib.Dec.{eqb}
 use borrow.Author.Tests.{eq-eqb, ne_eqb}
 use Rattle.rules.proofs.Tests.{Whether, holds, fails, equal}
-use Rattle.layout.specs.Layout.{isArrival, run-line, station-line, no-station, no_record, stationsPlace}
+use Rattle.layout.specs.Layout.{is_arrival, run_line, station_line, has_no_station, no_record, stations_place}
 
 -- ---- kinds by their numbers: 3 to 6 come after the stations
 
-pub comes-later : (kind : ℕ) → 3 ≤ kind → kind < 7 → (isArrival kind || eqb kind run-line) ≡ true
-comes-later kind h k = go (equal kind 3) (equal kind 4) (equal kind 5) (equal kind 6)
+pub comes_later : (kind : ℕ) → 3 ≤ kind → kind < 7 → (is_arrival kind || eqb kind run_line) ≡ true
+comes_later kind h k = go (equal kind 3) (equal kind 4) (equal kind 5) (equal kind 6)
   where
     go :
         {a b c d : Bool} → Whether (kind ≡ 3) a → Whether (kind ≡ 4) b → Whether (kind ≡ 5) c → Whether (kind ≡ 6) d
@@ -23,8 +23,8 @@ comes-later kind h k = go (equal kind 3) (equal kind 4) (equal kind 5) (equal ki
     go (fails e) (fails f) (fails g) (holds i) = refl
     go (fails e) (fails f) (fails g) (fails i) = absurd (omega arith)
 
-pub comes-before : (kind : ℕ) → (kind < 3) ⊎ (7 ≤ kind) → (isArrival kind || eqb kind run-line) ≡ false
-comes-before kind h =
+pub comes_before : (kind : ℕ) → (kind < 3) ⊎ (7 ≤ kind) → (is_arrival kind || eqb kind run_line) ≡ false
+comes_before kind h =
     simp
     (ne_eqb kind 3 (other 3 (omega arith) (omega arith) h), ne_eqb kind 4 (other 4 (omega arith) (omega arith) h), ne_eqb kind 5 (other 5 (omega arith) (omega arith) h), ne_eqb kind 6 (other 6 (omega arith) (omega arith) h))
   where
@@ -35,12 +35,12 @@ comes-before kind h =
 -- ---- in the stations
 
 module _ (n kind : ℕ) where
-  pub later-here : (isArrival kind || eqb kind run-line) ≡ true → (t : Bool) → eqb n 0 ≡ t → cond t 6 0 ≡ stationsPlace n kind
-  later-here e t f = ap₂ (λ u t. cond u (cond t 6 0) (cond (eqb kind station-line) 0 (cond t no-station no_record))) (sym e) (sym f)
+  pub later_here : (is_arrival kind || eqb kind run_line) ≡ true → (t : Bool) → eqb n 0 ≡ t → cond t 6 0 ≡ stations_place n kind
+  later_here e t f = ap₂ (λ u t. cond u (cond t 6 0) (cond (eqb kind station_line) 0 (cond t has_no_station no_record))) (sym e) (sym f)
 
   pub other-here :
-      (isArrival kind || eqb kind run-line) ≡ false → (s t : Bool) → eqb kind station-line ≡ s → eqb n 0 ≡ t
-      → cond s 0 (cond t no-station no_record) ≡ stationsPlace n kind
+      (is_arrival kind || eqb kind run_line) ≡ false → (s t : Bool) → eqb kind station_line ≡ s → eqb n 0 ≡ t
+      → cond s 0 (cond t has_no_station no_record) ≡ stations_place n kind
   other-here e s t f g =
-      ap₂ (λ s t. cond s 0 (cond t no-station no_record)) (sym f) (sym g)
-      ∙ ap (λ u. cond u (cond (eqb n 0) 6 0) (cond (eqb kind station-line) 0 (cond (eqb n 0) no-station no_record))) (sym e)
+      ap₂ (λ s t. cond s 0 (cond t has_no_station no_record)) (sym f) (sym g)
+      ∙ ap (λ u. cond u (cond (eqb n 0) 6 0) (cond (eqb kind station_line) 0 (cond (eqb n 0) has_no_station no_record))) (sym e)

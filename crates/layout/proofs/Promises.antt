@@ -1,5 +1,5 @@
--- What is proved of layouts, in one place. `layoutSays` (specs/Layout.antt) is what a text says, a scenario or the line that is wrong and its fault;
--- `arrivalsSaid` and `at-time` (specs/Said.antt) are the arrivals of its lines, and those of one time. Assumes nothing.
+-- What is proved of layouts, in one place. `layout_says` (specs/Layout.antt) is what a text says, a scenario or the line that is wrong and its fault;
+-- `arrivals_said` and `at_time` (specs/Said.antt) are the arrivals of its lines, and those of one time. Assumes nothing.
 use Prim.Native.Nat.{ℕ, ◌≤◌}
 use mathlib.Core.Path.{◌≡◌, refl, sym, ◌∙◌}
 use mathlib.Core.List.{List, map}
@@ -10,10 +10,10 @@ use Rattle.scenario.specs.Reading.{accepted, reading}
 use Rattle.scenario.specs.Writing.{InOrder, written, Good}
 use Rattle.scenario.proofs.Promises.{accepted-if}
 use Rattle.words.specs.Words.{lines_of}
-use Rattle.text.proofs.Promises.{stored-kept}
-use Rattle.layout.specs.Layout.{Saying, wrong, says, layoutSays}
-use Rattle.layout.specs.Answers.{roomAfter}
-use Rattle.layout.specs.Said.{arrivalsSaid, at-time}
+use Rattle.text.proofs.Promises.{stored_kept}
+use Rattle.layout.specs.Layout.{Saying, wrong, says, layout_says}
+use Rattle.layout.specs.Answers.{room_after}
+use Rattle.layout.specs.Said.{arrivals_said, at_time}
 use Rattle.layout.specs.Examples.{rows}
 use Rattle.layout.proofs.Examples as Examples
 use Rattle.layout.proofs.Good as Goodness
@@ -22,36 +22,36 @@ use Rattle.layout.proofs.Ordered as Ordered
 use Rattle.layout.proofs.Wrong as Wrong
 
 -- a text that says a scenario
-module _ (text : List ℕ) (r : Request) (arrivals : List Arrival) (steps : ℕ) (said : layoutSays text ≡ says r arrivals steps) where
+module _ (text : List ℕ) (r : Request) (arrivals : List Arrival) (steps : ℕ) (said : layout_says text ≡ says r arrivals steps) where
   -- says a good one,
   pub good : Good r arrivals steps
   good = Goodness.good text r arrivals steps said
 
   -- whose bytes are accepted as that scenario
-  pub never-refused : reading (written r arrivals steps) ≡ accepted r arrivals steps
-  never-refused = accepted-if r arrivals steps good
+  pub never_refused : reading (written r arrivals steps) ≡ accepted r arrivals steps
+  never_refused = accepted-if r arrivals steps good
 
   -- its arrivals come in order of time, and those of one time are those of its lines, in the order of these;
   pub in_order : InOrder 0 arrivals
   in_order = good.order
 
-  pub same-at-time : (t : ℕ) → at-time t arrivals ≡ at-time t (arrivalsSaid r.discipline text)
-  same-at-time = Ordered.same-at-time text r arrivals steps said
+  pub same_at_time : (t : ℕ) → at_time t arrivals ≡ at_time t (arrivals_said r.discipline text)
+  same_at_time = Ordered.same_at_time text r arrivals steps said
 
   -- which no other row of arrivals does
-  pub no-others : (xs : List Arrival) → InOrder 0 xs → ((t : ℕ) → at-time t xs ≡ at-time t (arrivalsSaid r.discipline text)) → xs ≡ arrivals
-  no-others xs o h = Order.all_there 0 0 xs arrivals o in_order (λ t. h t ∙ sym (same-at-time t))
+  pub no_others : (xs : List Arrival) → InOrder 0 xs → ((t : ℕ) → at_time t xs ≡ at_time t (arrivals_said r.discipline text)) → xs ≡ arrivals
+  no_others xs o h = Order.all_there 0 0 xs arrivals o in_order (λ t. h t ∙ sym (same_at_time t))
 
 -- a text that is wrong names one of its lines, and a fault
 pub wrong-named :
-    (text : List ℕ) (line fault : ℕ) → layoutSays text ≡ wrong line fault → (1 ≤ line) × (line ≤ length (lines_of text)) × (1 ≤ fault)
+    (text : List ℕ) (line fault : ℕ) → layout_says text ≡ wrong line fault → (1 ≤ line) × (line ≤ length (lines_of text)) × (1 ≤ fault)
 wrong-named = Wrong.wrong-named
 
 -- the room stays as long as it is
-pub room-kept : (s : Saying) (room : List ℕ) → length (roomAfter s room) ≡ length room
-room-kept (wrong line fault) room = refl
-room-kept (says r arrivals steps) room = stored-kept room 0 (written r arrivals steps)
+pub room_kept : (s : Saying) (room : List ℕ) → length (room_after s room) ≡ length room
+room_kept (wrong line fault) room = refl
+room_kept (says r arrivals steps) room = stored_kept room 0 (written r arrivals steps)
 
 -- layouts with what they say, each fault among them: the table holds
-pub all_said : map (λ r. layoutSays r.text) rows ≡ map (λ r. r.saying) rows
+pub all_said : map (λ r. layout_says r.text) rows ≡ map (λ r. r.saying) rows
 all_said = Examples.all_said

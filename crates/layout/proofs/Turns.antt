@@ -7,46 +7,46 @@ use native.Mathlib.Numerals.{add-one}
 use borrow.Author.Tests.{eq-eqb, ne_eqb, ltb-true, ltb-false}
 use lib.Dec.{ltb, eqb}
 use lib.ListN.{length, drop}
-use Rattle.words.specs.Words.{lines_of, firstLine}
-use Rattle.words.proofs.Lines.{lines-on, lines_end}
+use Rattle.words.specs.Words.{lines_of, first_line}
+use Rattle.words.proofs.Lines.{lines_on, lines_end}
 use Rattle.layout.specs.declared.plan.Plan as Coded
-use Rattle.layout.specs.Layout.{Plan, Taken, takeLine, Saying, wrong, says, requestIn, readLines}
+use Rattle.layout.specs.Layout.{Plan, Taken, take_line, Saying, wrong, says, request_in, read_lines}
 use Rattle.layout.specs.Parts.{plan_of}
 
 -- what a line that was taken makes of the lines from it on
-module _ (line : ℕ) (p : Plan) (text : List ℕ) (rest : List (List ℕ)) (t : Taken) (e : t ≡ takeLine p text) where
-  pub turn-right : t.fault ≡ 0 → readLines (line + 1) t.plan rest ≡ readLines line p (text ∷ rest)
-  turn-right h =
-      ap (λ n. readLines n t.plan rest) (add-one line)
-      ∙ ap (λ u. cond u (readLines (suc line) t.plan rest) (wrong (suc line) t.fault)) (sym (eq-eqb t.fault 0 h))
-      ∙ ap (λ (t : Taken). cond (eqb t.fault 0) (readLines (suc line) t.plan rest) (wrong (suc line) t.fault)) e
+module _ (line : ℕ) (p : Plan) (text : List ℕ) (rest : List (List ℕ)) (t : Taken) (e : t ≡ take_line p text) where
+  pub turn_right : t.fault ≡ 0 → read_lines (line + 1) t.plan rest ≡ read_lines line p (text ∷ rest)
+  turn_right h =
+      ap (λ n. read_lines n t.plan rest) (add-one line)
+      ∙ ap (λ u. cond u (read_lines (suc line) t.plan rest) (wrong (suc line) t.fault)) (sym (eq-eqb t.fault 0 h))
+      ∙ ap (λ (t : Taken). cond (eqb t.fault 0) (read_lines (suc line) t.plan rest) (wrong (suc line) t.fault)) e
 
-  pub turn-wrong : (t.fault ≡ 0 → ⊥) → wrong (line + 1) t.fault ≡ readLines line p (text ∷ rest)
-  turn-wrong h =
+  pub turn_wrong : (t.fault ≡ 0 → ⊥) → wrong (line + 1) t.fault ≡ read_lines line p (text ∷ rest)
+  turn_wrong h =
       ap (λ n. wrong n t.fault) (add-one line)
-      ∙ ap (λ u. cond u (readLines (suc line) t.plan rest) (wrong (suc line) t.fault)) (sym (ne_eqb t.fault 0 h))
-      ∙ ap (λ (t : Taken). cond (eqb t.fault 0) (readLines (suc line) t.plan rest) (wrong (suc line) t.fault)) e
+      ∙ ap (λ u. cond u (read_lines (suc line) t.plan rest) (wrong (suc line) t.fault)) (sym (ne_eqb t.fault 0 h))
+      ∙ ap (λ (t : Taken). cond (eqb t.fault 0) (read_lines (suc line) t.plan rest) (wrong (suc line) t.fault)) e
 
 -- from an offset on there is a first line, whatever comes after it
 pub lines-first :
-    (text : List ℕ) (at end : ℕ) → at ≤ length text → end ≡ at + length (firstLine (drop at text))
-    → (rest : List (List ℕ)) × (lines_of (drop at text) ≡ firstLine (drop at text) ∷ rest)
+    (text : List ℕ) (at end : ℕ) → at ≤ length text → end ≡ at + length (first_line (drop at text))
+    → (rest : List (List ℕ)) × (lines_of (drop at text) ≡ first_line (drop at text) ∷ rest)
 lines-first text at end h e = go (ltb end (length text)) refl
   where
-    go : (t : Bool) → ltb end (length text) ≡ t → (rest : List (List ℕ)) × (lines_of (drop at text) ≡ firstLine (drop at text) ∷ rest)
-    go true f = (lines_of (drop (suc end) text), lines-on text at end h e (ltb-true end (length text) f))
+    go : (t : Bool) → ltb end (length text) ≡ t → (rest : List (List ℕ)) × (lines_of (drop at text) ≡ first_line (drop at text) ∷ rest)
+    go true f = (lines_of (drop (suc end) text), lines_on text at end h e (ltb-true end (length text) f))
     go false f = ([], lines_end text at end h e (ltb-false end (length text) f))
 
 -- what has been read with a fault says it
 pub saying-wrong :
     (fault line : ℕ) (p : Coded.Plan) → (fault ≡ 0 → ⊥)
-    → cond (eqb fault 0) (says (requestIn (plan_of p)) (plan_of p).arrivals p.steps) (wrong line fault) ≡ wrong line fault
+    → cond (eqb fault 0) (says (request_in (plan_of p)) (plan_of p).arrivals p.steps) (wrong line fault) ≡ wrong line fault
 saying-wrong fault line p h =
-    ap (λ t. cond t (says (requestIn (plan_of p)) (plan_of p).arrivals p.steps) (wrong line fault)) (ne_eqb fault 0 h)
+    ap (λ t. cond t (says (request_in (plan_of p)) (plan_of p).arrivals p.steps) (wrong line fault)) (ne_eqb fault 0 h)
 
 pub saying-right :
     (fault line : ℕ) (p : Coded.Plan) → fault ≡ 0
-    → cond (eqb fault 0) (says (requestIn (plan_of p)) (plan_of p).arrivals p.steps) (wrong line fault)
-    ≡ says (requestIn (plan_of p)) (plan_of p).arrivals p.steps
+    → cond (eqb fault 0) (says (request_in (plan_of p)) (plan_of p).arrivals p.steps) (wrong line fault)
+    ≡ says (request_in (plan_of p)) (plan_of p).arrivals p.steps
 saying-right fault line p h =
-    ap (λ t. cond t (says (requestIn (plan_of p)) (plan_of p).arrivals p.steps) (wrong line fault)) (eq-eqb fault 0 h)
+    ap (λ t. cond t (says (request_in (plan_of p)) (plan_of p).arrivals p.steps) (wrong line fault)) (eq-eqb fault 0 h)

@@ -5,11 +5,11 @@ use Rattle.window.proofs.Unique.{unique}
 use Rattle.layout.proofs.read.Reads as read
 use Rattle.layout.proofs.word_of.Reads as word_of
 
-pub read-determined : Determines read.Learnt
-read-determined κs args r r' end end' p q = unique p.0 q.0
+pub read_determined : Determines read.Learnt
+read_determined κs args r r' end end' p q = unique p.0 q.0
 
-pub read-room-determined : DeterminesBytes read.Learnt (λ κs end. end.1.0.now)
-read-room-determined κs args r r' end end' p q = unique p.1.0 q.1.0
+pub read_room_determined : DeterminesBytes read.Learnt (λ κs end. end.1.0.now)
+read_room_determined κs args r r' end end' p q = unique p.1.0 q.1.0
 
-pub word-of-determined : Determines word_of.Learnt
-word-of-determined κs args r r' end end' = unique
+pub word_of_determined : Determines word_of.Learnt
+word_of_determined κs args r r' end end' = unique

@@ -7,21 +7,21 @@ use Rattle.layout.specs.declared.fields.Field.{Field}
 use Rattle.layout.specs.declared.plan.Plan as Coded
 use Rattle.layout.specs.declared.plan.Taken as CodedTaken
 use Rattle.layout.specs.declared.Reading.{Reading}
-use Rattle.layout.specs.Layout.{Fields, withValue, faulty, before-bus, in-arrivals, Plan, Taken, requestIn, Saying, wrong, says}
+use Rattle.layout.specs.Layout.{Fields, with_value, faulty, before_bus, in_arrivals, Plan, Taken, request_in, Saying, wrong, says}
 
 -- the words of a kind of line, as the code has them
-abbrev pub most-labels : ℕ
-most-labels = 6
+abbrev pub most_labels : ℕ
+most_labels = 6
 
 abbrev pub padded : List ℕ → List ℕ
-padded numbers = numbers ++ replicate (most-labels - length numbers) 0
+padded numbers = numbers ++ replicate (most_labels - length numbers) 0
 
-abbrev pub labelsForm : List ℕ → Labels
-labelsForm codes = record { codes = padded codes; count = length codes }
+abbrev pub labels_form : List ℕ → Labels
+labels_form codes = record { codes = padded codes; count = length codes }
 
 -- what a field says before the later ones
-abbrev pub fieldSaid : Field → Fields → Fields
-fieldSaid x later = cond (eqb x.fault 0) (withValue x.value later) (faulty x.fault)
+abbrev pub field_said : Field → Fields → Fields
+field_said x later = cond (eqb x.fault 0) (with_value x.value later) (faulty x.fault)
 
 -- numbers before those of later fields
 abbrev pub before : List ℕ → Fields → Fields
@@ -47,13 +47,13 @@ taken_of t = record { fault = t.fault; plan = plan_of t.plan }
 pub record PlanFits (p : Coded.Plan) : Type 0 where
   pub few : p.settings.n ≤ 64
   pub short : 22 + 8 * p.settings.n + 16 * p.count ≤ most_bytes
-  pub first : p.stage ≡ before-bus → p.settings.n ≡ 0
-  pub early : p.stage < in-arrivals → p.count ≡ 0
+  pub first : p.stage ≡ before_bus → p.settings.n ≡ 0
+  pub early : p.stage < in_arrivals → p.count ≡ 0
 
 -- what has been read says
-abbrev pub sayingOf : Reading → Saying
-sayingOf r =
+abbrev pub saying_of : Reading → Saying
+saying_of r =
     cond
     (eqb r.fault 0)
-    (says (requestIn (plan_of r.plan)) (plan_of r.plan).arrivals r.plan.steps)
+    (says (request_in (plan_of r.plan)) (plan_of r.plan).arrivals r.plan.steps)
     (wrong r.line r.fault)

@@ -1,8 +1,8 @@
 // The arrivals that have been said so far, the first of a row of places, in order of time; and what is added to them.
 ghost use Rattle.std.specs.Prelude.{◌<◌, ◌≤◌, ◌+◌, ◌*◌, suc, ◌≡◌, ◌||◌, ltb, take};
-ghost use Rattle.rules.specs.SetUp.{disciplineOf};
-ghost use Rattle.rules.specs.Standing.{value-fits};
-ghost use Rattle.layout.specs.Layout.{inserted, insertedAll, repeated, later, value_at, arrivalOf};
+ghost use Rattle.rules.specs.SetUp.{discipline_of};
+ghost use Rattle.rules.specs.Standing.{value_is_fit};
+ghost use Rattle.layout.specs.Layout.{inserted, inserted_all, repeated, later, value_at, arrival_of};
 
 use rules::Slot;
 use sorts::{Address, disciplines};
@@ -55,7 +55,7 @@ pub fn value_at(discipline: u32, value: u32, time: u32) -> u64
 // An arrival at a time, with the value that it has then.
 fn arrival_at(discipline: u32, time: u32, address: u32, value: u32, length: u32) -> Arrival
     requires { value_at discipline value time < 4_294_967_296 }
-    ensures { result ≡ arrivalOf time address (value_at discipline value time) length }
+    ensures { result ≡ arrival_of time address (value_at discipline value time) length }
 {
     Arrival {
         time: Slot(time),
@@ -81,7 +81,7 @@ pub fn insert_every(
     requires later_bound { count + later < 4096 }
     requires every_bound { from + later * every < 4_294_967_296 }
     requires every_bound_2 { value_at discipline value (from + later * every) < 4_294_967_296 }
-    ensures { take (suc (count + later)) result ≡ insertedAll (repeated (suc later) from every (λ time. arrivalOf time address (value_at discipline value time) length)) (take count rows) }
+    ensures { take (suc (count + later)) result ≡ inserted_all (repeated (suc later) from every (λ time. arrival_of time address (value_at discipline value time) length)) (take count rows) }
 {
     let mut next = rows;
     let mut filled = count;
@@ -120,7 +120,7 @@ pub fn last_time(every: u32, from: u32, to: u32) -> u32
 
 // Whether a value is in its range, however large it is.
 pub fn value_fits(discipline: u32, d: u32, value: u64) -> bool
-    ensures { result ≡ value-fits (disciplineOf discipline) d value }
+    ensures { result ≡ value_is_fit (discipline_of discipline) d value }
 {
     if LARGEST < value {
         return false;

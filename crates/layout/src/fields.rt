@@ -1,8 +1,8 @@
 // The words and numbers of a line after its first.
 ghost use Rattle.std.specs.Prelude.{ℕ, ◌≤◌, ◌≡◌, List, ◌∷◌, length, drop};
 ghost use Rattle.words.specs.Words.{same};
-ghost use Rattle.layout.specs.Layout.{labelBytes, labelsOf, wordless, fieldsIn};
-ghost use Rattle.layout.specs.Parts.{fieldSaid, padded};
+ghost use Rattle.layout.specs.Layout.{label_bytes, labels_of, wordless, fields_in};
+ghost use Rattle.layout.specs.Parts.{field_said, padded};
 
 use crate::labels;
 
@@ -26,7 +26,7 @@ pub struct Numbers {
 
 // Whether a word is the one before a number.
 fn is_label(word: &[u8], code: u32) -> bool
-    ensures { result ≡ same word.now (labelBytes code) }
+    ensures { result ≡ same word.now (label_bytes code) }
 {
     let label = labels::label(code);
     let letters = label.letters;
@@ -48,7 +48,7 @@ fn field_at(line: &[u8], at: usize, code: u32) -> Field
     requires at_in_bounds { at ≤ length line.now }
     requires code_bound { code ≤ 13 }
     ensures next_in_bounds { result.next ≤ length line.now }
-    ensures by_index { (later : List ℕ) → fieldsIn (code ∷ later) (drop at line.now) ≡ fieldSaid result (fieldsIn later (drop result.next line.now)) }
+    ensures by_index { (later : List ℕ) → fields_in (code ∷ later) (drop at line.now) ≡ field_said result (fields_in later (drop result.next line.now)) }
 {
     let word = words::word_at(line, at);
     let start = word.from;
@@ -81,8 +81,8 @@ fn field_at(line: &[u8], at: usize, code: u32) -> Field
 // The words and numbers from an offset of the line on, by its kind and the discipline, up to the end of the line.
 pub fn fields_in(line: &[u8], from: usize, kind: u32, discipline: u32) -> Numbers
     requires { from ≤ length line.now }
-    ensures fault_value { result.fault ≡ (fieldsIn (labelsOf kind discipline) (drop from line.now)).fault }
-    ensures values_value { result.fault ≡ 0 → result.values ≡ padded (fieldsIn (labelsOf kind discipline) (drop from line.now)).values }
+    ensures fault_value { result.fault ≡ (fields_in (labels_of kind discipline) (drop from line.now)).fault }
+    ensures values_value { result.fault ≡ 0 → result.values ≡ padded (fields_in (labels_of kind discipline) (drop from line.now)).values }
 {
     let labels = labels::labels_of(kind, discipline);
     let codes = labels.codes;

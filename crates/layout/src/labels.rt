@@ -1,8 +1,8 @@
 // The words of a layout: the kinds of lines, the disciplines, and the words before numbers.
 ghost use Rattle.std.specs.Prelude.{◌≡◌};
-ghost use Rattle.layout.specs.Layout.{kind_of, disciplineNamed, stationLabels, repeatedLabel, labelsOf, labelBytes};
-ghost use Rattle.layout.specs.Answers.{labelForm};
-ghost use Rattle.layout.specs.Parts.{labelsForm};
+ghost use Rattle.layout.specs.Layout.{kind_of, discipline_named, station_labels, repeated_label, labels_of, label_bytes};
+ghost use Rattle.layout.specs.Answers.{label_form};
+ghost use Rattle.layout.specs.Parts.{labels_form};
 
 use crate::Label;
 use sorts::disciplines;
@@ -84,7 +84,7 @@ pub fn kind_of(word: &[u8]) -> u32
 
 // The discipline by its name.
 pub fn discipline_named(word: &[u8]) -> u32
-    ensures { result ≡ disciplineNamed word.now }
+    ensures { result ≡ discipline_named word.now }
 {
     if words::same(word, b"PRI") {
         return disciplines::PRI;
@@ -100,7 +100,7 @@ pub fn discipline_named(word: &[u8]) -> u32
 
 // 'a station with its address and, in RTVC, its capability'
 fn station_labels(discipline: u32) -> Labels
-    ensures { result ≡ labelsForm (stationLabels discipline) }
+    ensures { result ≡ labels_form (station_labels discipline) }
 {
     if discipline == disciplines::RTVC {
         return Labels {
@@ -116,7 +116,7 @@ fn station_labels(discipline: u32) -> Labels
 
 // The word before the value of repeated arrivals.
 fn repeated_label(discipline: u32) -> u32
-    ensures { result ≡ repeatedLabel discipline }
+    ensures { result ≡ repeated_label discipline }
 {
     if discipline == disciplines::RTDG {
         LAXITY
@@ -127,7 +127,7 @@ fn repeated_label(discipline: u32) -> u32
 
 // The words of a kind of line under a discipline.
 pub fn labels_of(kind: u32, discipline: u32) -> Labels
-    ensures { result ≡ labelsForm (labelsOf kind discipline) }
+    ensures { result ≡ labels_form (labels_of kind discipline) }
 {
     match kind {
         BUS => Labels {
@@ -160,7 +160,7 @@ pub fn labels_of(kind: u32, discipline: u32) -> Labels
 
 // A word before a number.
 pub fn label(code: u32) -> Label
-    ensures { result ≡ labelForm (labelBytes code) }
+    ensures { result ≡ label_form (label_bytes code) }
 {
     match code {
         D => Label {

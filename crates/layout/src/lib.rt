@@ -1,11 +1,11 @@
 // A layout, a scenario as lines of words, to the bytes of its scenario, or to the line that is wrong and its fault. Every exported function takes
 // any bytes.
 ghost use Rattle.std.specs.Prelude.{◌≤◌, ◌≡◌, length};
-ghost use Rattle.text.specs.Room.{room-bytes, stored};
+ghost use Rattle.text.specs.Room.{room_bytes, stored};
 ghost use Rattle.scenario.specs.Writing.{written};
-ghost use Rattle.layout.specs.Layout.{labelBytes, requestIn, ended, layoutSays};
-ghost use Rattle.layout.specs.Answers.{labelForm, answerForm, roomAfter};
-ghost use Rattle.layout.specs.Parts.{plan_of, PlanFits, sayingOf};
+ghost use Rattle.layout.specs.Layout.{label_bytes, request_in, ended, layout_says};
+ghost use Rattle.layout.specs.Answers.{label_form, answer_form, room_after};
+ghost use Rattle.layout.specs.Parts.{plan_of, PlanFits, saying_of};
 
 use plan::Plan;
 
@@ -40,7 +40,7 @@ struct Reading {
 // At the end of the text, after so many lines.
 fn at_end(plan: Plan, line: usize) -> Reading
     requires { PlanFits plan }
-    ensures result_value { sayingOf result ≡ ended line (plan_of plan) }
+    ensures result_value { saying_of result ≡ ended line (plan_of plan) }
     ensures plan_fits { PlanFits result.plan }
 {
     if plan.stage == plan::AFTER_RUN {
@@ -57,7 +57,7 @@ fn at_end(plan: Plan, line: usize) -> Reading
 
 // The lines of a text, one after the other.
 fn read_lines(text: &[u8]) -> Reading
-    ensures result_value { sayingOf result ≡ layoutSays text.now }
+    ensures result_value { saying_of result ≡ layout_says text.now }
     ensures plan_fits { PlanFits result.plan }
 {
     let mut plan = plan::start();
@@ -85,9 +85,9 @@ fn read_lines(text: &[u8]) -> Reading
 // Stores the scenario that a plan says from the start of the room on; how many bytes it takes.
 fn write(plan: Plan, room: &mut [u8; 65536]) -> usize
     requires { PlanFits plan }
-    ensures value { result ≡ length (written (requestIn (plan_of plan)) (plan_of plan).arrivals plan.steps) }
-    ensures room_after { room.new ≡ stored room.old 0 (written (requestIn (plan_of plan)) (plan_of plan).arrivals plan.steps) }
-    ensures upper_bound { result ≤ room-bytes }
+    ensures value { result ≡ length (written (request_in (plan_of plan)) (plan_of plan).arrivals plan.steps) }
+    ensures room_after { room.new ≡ stored room.old 0 (written (request_in (plan_of plan)) (plan_of plan).arrivals plan.steps) }
+    ensures upper_bound { result ≤ room_bytes }
 {
     let settings = plan.settings;
     let stations = plan.stations;
@@ -99,9 +99,9 @@ fn write(plan: Plan, room: &mut [u8; 65536]) -> usize
 
 // The scenario that a layout says, as bytes from the start of the room on; or what is wrong with it, and the room as it was lent.
 pub fn read(text: &[u8], room: &mut [u8; 65536]) -> Answer
-    ensures value { result ≡ answerForm (layoutSays text.now) }
-    ensures room_after { room.new ≡ roomAfter (layoutSays text.now) room.old }
-    ensures length_le_room_bytes { result.length ≤ room-bytes }
+    ensures value { result ≡ answer_form (layout_says text.now) }
+    ensures room_after { room.new ≡ room_after (layout_says text.now) room.old }
+    ensures length_le_room_bytes { result.length ≤ room_bytes }
 {
     let found = read_lines(text);
     if found.fault != 0 {
@@ -122,7 +122,7 @@ pub fn read(text: &[u8], room: &mut [u8; 65536]) -> Answer
 
 // The word with this number that stands before a number; none has the length 0.
 pub fn word_of(code: u32) -> Label
-    ensures { result ≡ labelForm (labelBytes code) }
+    ensures { result ≡ label_form (label_bytes code) }
 {
     labels::label(code)
 }

@@ -1,9 +1,9 @@
 // What a layout has said so far, and what becomes of it by a line.
 ghost use Rattle.std.specs.Prelude.{ℕ, ◌+◌, ◌*◌, ◌≤◌, ◌<◌, ◌≡◌, ◌||◌, List, [], ◌∷◌, ltb, eqb, length, drop, length as length_of};
-ghost use Rattle.scenario.specs.Reading.{most_bytes, set-up-bytes, station-bytes, arrival-bytes, run-bytes};
+ghost use Rattle.scenario.specs.Reading.{most_bytes, set_up_bytes, station_bytes, arrival_bytes, run_bytes};
 ghost use Rattle.rules.specs.Lists.{first_of};
-ghost use Rattle.words.specs.Words.{first_word, afterWord};
-ghost use Rattle.layout.specs.Layout.{isArrival, stationsPlace, placeFault, busFault, arrivalTests, attemptTests, arrivalsTests, withArrivals, arrivalOf, takeBus, takeStation, takeArrival, takeAttempt, takeArrivals, takeRun, takeSaid, takeKind, takeLine, disciplineNamed, fieldsIn, labelsOf, bus-line, station-line, run-line, before-bus, in-stations, in-arrivals};
+ghost use Rattle.words.specs.Words.{first_word, after_word};
+ghost use Rattle.layout.specs.Layout.{is_arrival, stations_place, place_fault, bus_fault, arrival_tests, attempt_tests, arrivals_tests, with_arrivals, arrival_of, take_bus, take_station, take_arrival, take_attempt, take_arrivals, take_run, take_said, take_kind, take_line, discipline_named, fields_in, labels_of, bus_line, station_line, run_line, before_bus, in_stations, in_arrivals};
 ghost use Rattle.layout.specs.Layout.{Plan as PlanSaid, start as startSaid};
 ghost use Rattle.layout.specs.Parts.{padded, plan_of, taken_of, PlanFits};
 
@@ -100,7 +100,7 @@ pub fn start() -> Plan
 
 // 2 to 5, as if there were a station.
 fn bus_fault(settings: Settings) -> u32
-    ensures { result ≡ busFault settings }
+    ensures { result ≡ bus_fault settings }
 {
     let counted = Settings {
         discipline: settings.discipline,
@@ -115,9 +115,9 @@ fn bus_fault(settings: Settings) -> u32
 // A bus line, from an offset on: the discipline, and its words and numbers.
 fn take_bus(plan: Plan, line: &[u8], at: usize) -> Taken
     requires plan_fits { PlanFits plan }
-    requires stage_value { plan.stage ≡ before-bus }
+    requires stage_value { plan.stage ≡ before_bus }
     requires at_in_bounds { at ≤ length line.now }
-    ensures result_value { taken_of result ≡ takeBus (plan_of plan) (disciplineNamed (first_word (drop at line.now))) (fieldsIn (labelsOf bus-line 0) (afterWord (drop at line.now))) }
+    ensures result_value { taken_of result ≡ take_bus (plan_of plan) (discipline_named (first_word (drop at line.now))) (fields_in (labels_of bus_line 0) (after_word (drop at line.now))) }
     ensures plan_fits_2 { PlanFits result.plan }
 {
     let word = words::word_at(line, at);
@@ -158,8 +158,8 @@ fn take_bus(plan: Plan, line: &[u8], at: usize) -> Taken
 // A station.
 fn take_station(plan: Plan, address: u32, capability: u32) -> Taken
     requires plan_fits { PlanFits plan }
-    requires stage_value { plan.stage ≡ in-stations }
-    ensures result_value { taken_of result ≡ takeStation (plan_of plan) (record { address = address; capability = capability }) }
+    requires stage_value { plan.stage ≡ in_stations }
+    ensures result_value { taken_of result ≡ take_station (plan_of plan) (record { address = address; capability = capability }) }
     ensures plan_fits_2 { PlanFits result.plan }
 {
     let before = plan.settings;
@@ -203,7 +203,7 @@ fn take_station(plan: Plan, address: u32, capability: u32) -> Taken
 fn too_long(n: usize, arrivals: usize) -> bool
     requires n_bound { n ≤ 64 }
     requires arrivals_bound { arrivals ≤ 8_589_934_592 }
-    ensures { result ≡ ltb most_bytes (set-up-bytes + station-bytes * n + arrival-bytes * arrivals + run-bytes) }
+    ensures { result ≡ ltb most_bytes (set_up_bytes + station_bytes * n + arrival_bytes * arrivals + run_bytes) }
 {
     16 + 8 * n + 16 * arrivals + 6 > MOST_BYTES
 }
@@ -220,7 +220,7 @@ fn arrival_fault(
     requires n_bound { settings.n ≤ 64 }
     requires count_bound { count ≤ 4096 }
     requires more_bound { more ≤ 4_294_967_296 }
-    ensures { (p : PlanSaid) → p.settings ≡ settings → length_of p.arrivals ≡ count → result ≡ first_of 0 (arrivalTests p address value length more) }
+    ensures { (p : PlanSaid) → p.settings ≡ settings → length_of p.arrivals ≡ count → result ≡ first_of 0 (arrival_tests p address value length more) }
 {
     if address > LARGEST {
         return ADDRESS_LARGE;
@@ -239,7 +239,7 @@ fn arrival_fault(
 
 // A plan with other arrivals, so many of them.
 fn with_arrivals(plan: Plan, rows: [Arrival; 4096], count: usize) -> Plan
-    ensures { result ≡ record { stage = in-arrivals; settings = plan.settings; stations = plan.stations; arrivals = rows; count = count; steps = plan.steps } }
+    ensures { result ≡ record { stage = in_arrivals; settings = plan.settings; stations = plan.stations; arrivals = rows; count = count; steps = plan.steps } }
 {
     let mut next = plan;
     next.stage = IN_ARRIVALS;
@@ -251,10 +251,10 @@ fn with_arrivals(plan: Plan, rows: [Arrival; 4096], count: usize) -> Plan
 // A plan with an arrival more.
 fn with_arrival(plan: Plan, time: u32, address: u32, value: u32, length: u32) -> Plan
     requires { plan.count < 4096 }
-    ensures result_value { plan_of result ≡ withArrivals (plan_of plan) (arrivalOf time address value length ∷ []) }
+    ensures result_value { plan_of result ≡ with_arrivals (plan_of plan) (arrival_of time address value length ∷ []) }
     ensures settings_value { result.settings ≡ plan.settings }
     ensures count_value { result.count ≡ plan.count + 1 }
-    ensures stage_value { result.stage ≡ in-arrivals }
+    ensures stage_value { result.stage ≡ in_arrivals }
 {
     let arrival = Arrival {
         time: Slot(time),
@@ -271,7 +271,7 @@ fn with_arrival(plan: Plan, time: u32, address: u32, value: u32, length: u32) ->
 // An arrival.
 fn take_arrival(plan: Plan, time: u32, address: u32, value: u32, length: u32) -> Taken
     requires { PlanFits plan }
-    ensures result_value { taken_of result ≡ takeArrival (plan_of plan) time address value length }
+    ensures result_value { taken_of result ≡ take_arrival (plan_of plan) time address value length }
     ensures plan_fits { PlanFits result.plan }
 {
     let settings = plan.settings;
@@ -290,7 +290,7 @@ fn take_arrival(plan: Plan, time: u32, address: u32, value: u32, length: u32) ->
 fn attempt_fault(n: usize, count: usize, address: u32, length: u32) -> u32
     requires n_bound { n ≤ 64 }
     requires count_bound { count ≤ 4096 }
-    ensures { (p : PlanSaid) → p.settings.n ≡ n → length_of p.arrivals ≡ count → result ≡ first_of 0 (attemptTests p address length) }
+    ensures { (p : PlanSaid) → p.settings.n ≡ n → length_of p.arrivals ≡ count → result ≡ first_of 0 (attempt_tests p address length) }
 {
     if address > LARGEST {
         return ADDRESS_LARGE;
@@ -307,7 +307,7 @@ fn attempt_fault(n: usize, count: usize, address: u32, length: u32) -> u32
 // An arrival whose value and length may be outside their ranges.
 fn take_attempt(plan: Plan, time: u32, address: u32, value: u32, length: u32) -> Taken
     requires { PlanFits plan }
-    ensures result_value { taken_of result ≡ takeAttempt (plan_of plan) time address value length }
+    ensures result_value { taken_of result ≡ take_attempt (plan_of plan) time address value length }
     ensures plan_fits { PlanFits result.plan }
 {
     let settings = plan.settings;
@@ -335,7 +335,7 @@ fn arrivals_fault(
 ) -> u32
     requires n_bound { settings.n ≤ 64 }
     requires count_bound { count ≤ 4096 }
-    ensures { (p : PlanSaid) → p.settings ≡ settings → length_of p.arrivals ≡ count → result ≡ first_of 0 (arrivalsTests p every from to address value length) }
+    ensures { (p : PlanSaid) → p.settings ≡ settings → length_of p.arrivals ≡ count → result ≡ first_of 0 (arrivals_tests p every from to address value length) }
 {
     if every == 0 {
         return EVERY_ZERO;
@@ -360,7 +360,7 @@ fn take_arrivals(
     length: u32,
 ) -> Taken
     requires { PlanFits plan }
-    ensures result_value { taken_of result ≡ takeArrivals (plan_of plan) every from to address value length }
+    ensures result_value { taken_of result ≡ take_arrivals (plan_of plan) every from to address value length }
     ensures plan_fits { PlanFits result.plan }
 {
     let settings = plan.settings;
@@ -392,7 +392,7 @@ fn take_arrivals(
 // The run.
 fn take_run(plan: Plan, steps: u32) -> Taken
     requires { PlanFits plan }
-    ensures result_value { taken_of result ≡ takeRun (plan_of plan) steps }
+    ensures result_value { taken_of result ≡ take_run (plan_of plan) steps }
     ensures plan_fits { PlanFits result.plan }
 {
     if steps > LARGEST {
@@ -412,7 +412,7 @@ fn take_run(plan: Plan, steps: u32) -> Taken
 
 // Whether a kind of line comes after the stations: an arrival of any of the three sorts, or the run.
 fn comes_later(kind: u32) -> bool
-    ensures { result ≡ (isArrival kind || eqb kind run-line) }
+    ensures { result ≡ (is_arrival kind || eqb kind run_line) }
 {
     match kind {
         labels::ARRIVAL | labels::ARRIVALS | labels::ATTEMPT | labels::RUN => true,
@@ -422,7 +422,7 @@ fn comes_later(kind: u32) -> bool
 
 // What is wrong with a line of this kind in the stations, after n of them; 0 for nothing.
 fn station_place(n: usize, kind: u32) -> u32
-    ensures { result ≡ stationsPlace n kind }
+    ensures { result ≡ stations_place n kind }
 {
     if comes_later(kind) {
         if n == 0 {
@@ -438,7 +438,7 @@ fn station_place(n: usize, kind: u32) -> u32
 
 // What is wrong with the place of a line of this kind, at a stage and after n stations; 0 for nothing.
 pub fn place_fault(stage: u32, n: usize, kind: u32) -> u32
-    ensures { result ≡ placeFault stage n kind }
+    ensures { result ≡ place_fault stage n kind }
 {
     if stage == BEFORE_BUS {
         if kind == labels::BUS {
@@ -461,8 +461,8 @@ pub fn place_fault(stage: u32, n: usize, kind: u32) -> u32
 // What the numbers of a line of another kind than the bus's say.
 fn take_said(plan: Plan, kind: u32, values: [u32; 6]) -> Taken
     requires plan_fits { PlanFits plan }
-    requires stage_value { kind ≡ station-line → plan.stage ≡ in-stations }
-    ensures by_index { (vs : List ℕ) → values ≡ padded vs → taken_of result ≡ takeSaid (plan_of plan) kind vs }
+    requires stage_value { kind ≡ station_line → plan.stage ≡ in_stations }
+    ensures by_index { (vs : List ℕ) → values ≡ padded vs → taken_of result ≡ take_said (plan_of plan) kind vs }
     ensures plan_fits_2 { PlanFits result.plan }
 {
     match kind {
@@ -479,9 +479,9 @@ fn take_said(plan: Plan, kind: u32, values: [u32; 6]) -> Taken
 // What comes after the first word of a line of this kind.
 fn take_kind(plan: Plan, kind: u32, line: &[u8], at: usize) -> Taken
     requires plan_fits { PlanFits plan }
-    requires kind_value { placeFault plan.stage plan.settings.n kind ≡ 0 }
+    requires kind_value { place_fault plan.stage plan.settings.n kind ≡ 0 }
     requires at_in_bounds { at ≤ length line.now }
-    ensures result_value { taken_of result ≡ takeKind (plan_of plan) kind (drop at line.now) }
+    ensures result_value { taken_of result ≡ take_kind (plan_of plan) kind (drop at line.now) }
     ensures plan_fits_2 { PlanFits result.plan }
 {
     if kind == labels::BUS {
@@ -502,7 +502,7 @@ fn take_kind(plan: Plan, kind: u32, line: &[u8], at: usize) -> Taken
 // A line.
 pub fn take(plan: Plan, line: &[u8]) -> Taken
     requires { PlanFits plan }
-    ensures result_value { taken_of result ≡ takeLine (plan_of plan) line.now }
+    ensures result_value { taken_of result ≡ take_line (plan_of plan) line.now }
     ensures plan_fits { PlanFits result.plan }
 {
     let word = words::word_at(line, 0);

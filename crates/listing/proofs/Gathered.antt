@@ -10,39 +10,39 @@ use lib.ListN.{length, drop, set, replicate, length-append}
 use lib.Seq.{set_at, append_snoc}
 use borrow.Author.Tests.{eqb-true, eqb-false, ne_eqb}
 use Rattle.state.specs.declared.Arrival.{Arrival}
-use Rattle.bus.specs.Stretch.{row-places, noArrival}
+use Rattle.bus.specs.Stretch.{row_places, no_arrival}
 use Rattle.scenario.specs.declared.Record.TheVariants as Is
-use Rattle.scenario.specs.Format.{Said, readRecord, said}
-use Rattle.scenario.specs.Reading.{arrival-bytes, arrivalFrom}
+use Rattle.scenario.specs.Format.{Said, read_record, said}
+use Rattle.scenario.specs.Reading.{arrival_bytes, arrival_from}
 use Rattle.scenario.specs.Parts.{ArrivalsAt}
-use Rattle.scenario.proofs.Arrivals.{arrivals-here, arrivals-none}
-use Rattle.scenario.proofs.ReadingLaws.{arrival-within}
-use Rattle.listing.specs.Turns.{arrivalsIn, nextArrivals, arrivalsForm}
+use Rattle.scenario.proofs.Arrivals.{arrivals-here, arrivals_none}
+use Rattle.scenario.proofs.ReadingLaws.{arrival_within}
+use Rattle.listing.specs.Turns.{arrivals_in, next_arrivals, arrivals_form}
 
 -- the bytes of arrivals that were found are within the input
 pub bytes-within :
-    (most : ℕ) (input : List ℕ) (at taken : ℕ) → 0 < taken → taken ≤ length (arrivalsIn most input at)
-    → at + arrival-bytes * taken ≤ length input
-unfolding arrivalsIn
+    (most : ℕ) (input : List ℕ) (at taken : ℕ) → 0 < taken → taken ≤ length (arrivals_in most input at)
+    → at + arrival_bytes * taken ≤ length input
+unfolding arrivals_in
 bytes-within zero input at taken some few = absurd (omega arith)
 bytes-within (suc most) input at zero some few = absurd (omega arith)
 bytes-within (suc most) input at (suc taken) some few = go (eqb x.kind 3) refl few (bytes-within most input (at + 16) taken)
   where
     x : Said
-    x = readRecord (drop at input)
+    x = read_record (drop at input)
 
     later : List Arrival
-    later = arrivalsIn most input (at + 16)
+    later = arrivals_in most input (at + 16)
 
     last : (n : ℕ) → at + 16 ≤ length input → (0 < n → at + 16 + 16 * n ≤ length input) → at + 16 * suc n ≤ length input
     last zero within more = omega arith
     last (suc n) within more = let h = more (omega arith) in omega arith
 
     go :
-        (t : Bool) → eqb x.kind 3 ≡ t → suc taken ≤ length (cond t (arrivalFrom x.values ∷ later) [])
+        (t : Bool) → eqb x.kind 3 ≡ t → suc taken ≤ length (cond t (arrival_from x.values ∷ later) [])
         → (0 < taken → taken ≤ length later → at + 16 + 16 * taken ≤ length input)
         → at + 16 * suc taken ≤ length input
-    go true kind few more = last taken (arrival-within input at (eqb-true x.kind 3 kind)) (λ some. more some (omega arith))
+    go true kind few more = last taken (arrival_within input at (eqb-true x.kind 3 kind)) (λ some. more some (omega arith))
     go false kind few more = absurd (omega arith)
 
 -- The arrivals that stand in the input from an offset on are those that were found, of so many that were looked for, and others only if all
@@ -51,12 +51,12 @@ pub record Found (input : List ℕ) (at most : ℕ) (found arrivals : List Arriv
   pub others : List Arrival
   pub are : arrivals ≡ found ++ others
   pub all : length found < most → others ≡ []
-  pub past : (taken : ℕ) → taken ≤ length found → ArrivalsAt input (at + arrival-bytes * taken) (drop taken arrivals)
+  pub past : (taken : ℕ) → taken ≤ length found → ArrivalsAt input (at + arrival_bytes * taken) (drop taken arrivals)
 
 -- of none
 here-still :
     (input : List ℕ) (at taken : ℕ) (arrivals : List Arrival) → ArrivalsAt input at arrivals → taken ≤ 0
-    → ArrivalsAt input (at + arrival-bytes * taken) (drop taken arrivals)
+    → ArrivalsAt input (at + arrival_bytes * taken) (drop taken arrivals)
 here-still input at taken arrivals here few =
     let none : taken ≡ 0 = omega arith in
     let same : at + 16 * taken ≡ at = omega arith in
@@ -65,20 +65,20 @@ here-still input at taken arrivals here few =
 
 pub found_here :
     (most : ℕ) (input : List ℕ) (at : ℕ) (arrivals : List Arrival) → ArrivalsAt input at arrivals
-    → Found input at most (arrivalsIn most input at) arrivals
-unfolding arrivalsIn
+    → Found input at most (arrivals_in most input at) arrivals
+unfolding arrivals_in
 found_here zero input at arrivals here =
     record { others = arrivals; are = refl; all = λ h. absurd (omega arith); past = λ taken few. here-still input at taken arrivals here few }
 found_here (suc most) input at arrivals here = go (eqb x.kind 3) refl (found_here most input (at + 16))
   where
     x : Said
-    x = readRecord (drop at input)
+    x = read_record (drop at input)
 
     a : Arrival
-    a = arrivalFrom x.values
+    a = arrival_from x.values
 
     later : List Arrival
-    later = arrivalsIn most input (at + 16)
+    later = arrivals_in most input (at + 16)
 
     one_more :
         (os : List Arrival) → arrivals ≡ a ∷ os → Found input (at + 16) most later os → Found input at (suc most) (a ∷ later) arrivals
@@ -104,20 +104,20 @@ found_here (suc most) input at arrivals here = go (eqb x.kind 3) refl (found_her
         let first = arrivals-here here (eqb-true x.kind 3 kind) in one_more first.0 first.1 (more first.0 first.2)
     go false kind more = record {
       others = [];
-      are = arrivals-none here (eqb-false x.kind 3 kind);
+      are = arrivals_none here (eqb-false x.kind 3 kind);
       all = λ h. refl;
       past = λ taken few. here-still input at taken arrivals here few;
     }
 
 -- no more are found than were looked for
-pub found-few : (most : ℕ) (input : List ℕ) (at : ℕ) → length (arrivalsIn most input at) ≤ most
-unfolding arrivalsIn
-found-few zero input at = omega arith
-found-few (suc most) input at = go (eqb (readRecord (drop at input)).kind 3) (found-few most input (at + 16))
+pub found_few : (most : ℕ) (input : List ℕ) (at : ℕ) → length (arrivals_in most input at) ≤ most
+unfolding arrivals_in
+found_few zero input at = omega arith
+found_few (suc most) input at = go (eqb (read_record (drop at input)).kind 3) (found_few most input (at + 16))
   where
     go :
-        (t : Bool) → length (arrivalsIn most input (at + 16)) ≤ most
-        → length (cond t (arrivalFrom (readRecord (drop at input)).values ∷ arrivalsIn most input (at + 16)) []) ≤ suc most
+        (t : Bool) → length (arrivals_in most input (at + 16)) ≤ most
+        → length (cond t (arrival_from (read_record (drop at input)).values ∷ arrivals_in most input (at + 16)) []) ≤ suc most
     go true few = omega arith
     go false few = omega arith
 
@@ -126,61 +126,61 @@ found-few (suc most) input at = go (eqb (readRecord (drop at input)).kind 3) (fo
 -- what has been gathered so far, in the row, and the arrivals from here on
 pub record So-far (input : List ℕ) (from at many : ℕ) (row : List Arrival) : Type 0 where
   pub first : List Arrival
-  pub filled : row ≡ first ++ replicate (row-places - many) noArrival
+  pub filled : row ≡ first ++ replicate (row_places - many) no_arrival
   pub long : length first ≡ many
-  pub goes : nextArrivals input from ≡ first ++ arrivalsIn (row-places - many) input at
+  pub goes : next_arrivals input from ≡ first ++ arrivals_in (row_places - many) input at
 
-pub at_first : (input : List ℕ) (from : ℕ) → So-far input from from 0 (replicate row-places noArrival)
+pub at_first : (input : List ℕ) (from : ℕ) → So-far input from from 0 (replicate row_places no_arrival)
 at_first input from = record { first = []; filled = refl; long = refl; goes = refl }
 
 -- an arrival that was found is the first of them
 one_found :
-    (most : ℕ) (input : List ℕ) (at : ℕ) (a : Arrival) → said (Is.Arrival a) ≡ readRecord (drop at input)
-    → arrivalsIn (suc most) input at ≡ a ∷ arrivalsIn most input (at + arrival-bytes)
-unfolding arrivalsIn
+    (most : ℕ) (input : List ℕ) (at : ℕ) (a : Arrival) → said (Is.Arrival a) ≡ read_record (drop at input)
+    → arrivals_in (suc most) input at ≡ a ∷ arrivals_in most input (at + arrival_bytes)
+unfolding arrivals_in
 one_found most input at a e =
     ap
-    (λ (x : Said). cond (eqb x.kind 3) (arrivalFrom x.values ∷ arrivalsIn most input (at + 16)) [])
+    (λ (x : Said). cond (eqb x.kind 3) (arrival_from x.values ∷ arrivals_in most input (at + 16)) [])
     (sym e)
 
 -- one arrival more
 pub one_more :
-    {input : List ℕ} {from at many : ℕ} {row : List Arrival} (a : Arrival) → many < row-places → So-far input from at many row
-    → said (Is.Arrival a) ≡ readRecord (drop at input) → So-far input from (at + arrival-bytes) (many + 1) (set row many a)
+    {input : List ℕ} {from at many : ℕ} {row : List Arrival} (a : Arrival) → many < row_places → So-far input from at many row
+    → said (Is.Arrival a) ≡ read_record (drop at input) → So-far input from (at + arrival_bytes) (many + 1) (set row many a)
 one_more {input} {from} {at} {many} {row} a h x e =
-    let rest = row-places - (many + 1) in
-    let free : row-places - many ≡ suc rest = omega arith in
+    let rest = row_places - (many + 1) in
+    let free : row_places - many ≡ suc rest = omega arith in
     record {
       first = x.first ++ (a ∷ []);
       filled =
-          ap (λ (l : List Arrival). set l many a) (x.filled ∙ ap (λ (k : ℕ). x.first ++ replicate k noArrival) free)
-          ∙ set_at x.first noArrival (replicate rest noArrival) a many x.long
-          ∙ sym (append_snoc x.first a (replicate rest noArrival));
+          ap (λ (l : List Arrival). set l many a) (x.filled ∙ ap (λ (k : ℕ). x.first ++ replicate k no_arrival) free)
+          ∙ set_at x.first no_arrival (replicate rest no_arrival) a many x.long
+          ∙ sym (append_snoc x.first a (replicate rest no_arrival));
       long = length-append x.first (a ∷ []) ∙ ap (λ (k : ℕ). k + 1) x.long;
       goes =
           x.goes
-          ∙ ap (λ (k : ℕ). x.first ++ arrivalsIn k input at) free
+          ∙ ap (λ (k : ℕ). x.first ++ arrivals_in k input at) free
           ∙ ap (λ (l : List Arrival). x.first ++ l) (one_found rest input at a e)
-          ∙ sym (append_snoc x.first a (arrivalsIn rest input (at + 16)));
+          ∙ sym (append_snoc x.first a (arrivals_in rest input (at + 16)));
     }
 
 -- none was found, or the row is full
-pub none_found : (most : ℕ) (input : List ℕ) (at : ℕ) → ¬ ((readRecord (drop at input)).kind ≡ 3) → arrivalsIn most input at ≡ []
-unfolding arrivalsIn
+pub none_found : (most : ℕ) (input : List ℕ) (at : ℕ) → ¬ ((read_record (drop at input)).kind ≡ 3) → arrivals_in most input at ≡ []
+unfolding arrivals_in
 none_found zero input at other = refl
-none_found (suc most) input at other = simp (ne_eqb (readRecord (drop at input)).kind 3 other) refl
+none_found (suc most) input at other = simp (ne_eqb (read_record (drop at input)).kind 3 other) refl
 
-pub row-full : (input : List ℕ) (at many : ℕ) → row-places ≤ many → arrivalsIn (row-places - many) input at ≡ []
-unfolding arrivalsIn
-row-full input at many full =
-    let none : row-places - many ≡ 0 = omega arith in ap (λ (k : ℕ). arrivalsIn k input at) none
+pub row_full : (input : List ℕ) (at many : ℕ) → row_places ≤ many → arrivals_in (row_places - many) input at ≡ []
+unfolding arrivals_in
+row_full input at many full =
+    let none : row_places - many ≡ 0 = omega arith in ap (λ (k : ℕ). arrivals_in k input at) none
 
 -- and so all are in the row
 pub at_last :
-    {input : List ℕ} {from at many : ℕ} {row : List Arrival} → So-far input from at many row → arrivalsIn (row-places - many) input at ≡ []
-    → record { row = row; length = many } ≡ arrivalsForm (nextArrivals input from)
+    {input : List ℕ} {from at many : ℕ} {row : List Arrival} → So-far input from at many row → arrivals_in (row_places - many) input at ≡ []
+    → record { row = row; length = many } ≡ arrivals_form (next_arrivals input from)
 at_last {input} {from} {at} {many} {row} x e =
     ap₂ (λ (l : List Arrival) (k : ℕ). record { row = l; length = k })
-    (x.filled ∙ ap (λ (k : ℕ). x.first ++ replicate (row-places - k) noArrival) (sym x.long))
+    (x.filled ∙ ap (λ (k : ℕ). x.first ++ replicate (row_places - k) no_arrival) (sym x.long))
     (sym x.long)
-    ∙ ap arrivalsForm (sym (x.goes ∙ ap (λ (l : List Arrival). x.first ++ l) e ∙ append-nil x.first))
+    ∙ ap arrivals_form (sym (x.goes ∙ ap (λ (l : List Arrival). x.first ++ l) e ∙ append-nil x.first))

@@ -10,26 +10,26 @@ use lib.ListN.{length, drop}
 use borrow.Author.Tests.{eq-eqb, ne_eqb, leb-false}
 use Rattle.rules.specs.Bus.{Bus, nothing}
 use Rattle.rules.specs.Standing.{Standing}
-use Rattle.rules.specs.SetUp.{Request, setUp}
-use Rattle.rules.specs.Closing.{totals, refusedTotals}
+use Rattle.rules.specs.SetUp.{Request, set_up}
+use Rattle.rules.specs.Closing.{totals, refused_totals}
 use Rattle.rules.proofs.Tests.{told}
 use Rattle.rules.proofs.Standing as Rules
-use Rattle.rules.proofs.Keeps.{keepsStanding}
+use Rattle.rules.proofs.Keeps.{keeps_standing}
 use Rattle.state.specs.declared.State.{State}
 use Rattle.bus.specs.declared.Totals.{Totals}
 use Rattle.state.specs.declared.Arrival.{Arrival}
 use Rattle.state.specs.State.{form}
-use Rattle.bus.specs.Coded.{totalsForm, totalsOf}
-use Rattle.bus.specs.Stretch.{row-places, Course, most-calls, course}
-use Rattle.state.proofs.Form.{standing-fits}
-use Rattle.bus.proofs.Coded.{coded-closing}
-use Rattle.scenario.specs.Reading.{arrival-bytes, Reading, refused, accepted, reading, stationOffset, scenarioForm}
+use Rattle.bus.specs.Coded.{totals_form, totals_of}
+use Rattle.bus.specs.Stretch.{row_places, Course, most_calls, course}
+use Rattle.state.proofs.Form.{standing_fits}
+use Rattle.bus.proofs.Coded.{coded_closing_form}
+use Rattle.scenario.specs.Reading.{arrival_bytes, Reading, refused, accepted, reading, station_offset, scenario_form}
 use Rattle.scenario.specs.Parts.{ArrivalsAt}
 use Rattle.scenario.proofs.Sound.{Sound, sound}
-use Rattle.listing.specs.Text.{refusedText}
-use Rattle.listing.specs.Run.{closingText, runText, listingOf, listing}
-use Rattle.listing.specs.Turns.{Play, Outcome, says, over, openedBy, opened, nextArrivals, reportsText, courseOf, stretched}
-use Rattle.listing.specs.Turns.{closedBy, turn, handed, turnsLeft, played}
+use Rattle.listing.specs.Text.{refused_text}
+use Rattle.listing.specs.Run.{closing_text, run_text, listing_of, listing}
+use Rattle.listing.specs.Turns.{Play, Outcome, says, over, opened_by, opened, next_arrivals, reports_text, course_of, stretched}
+use Rattle.listing.specs.Turns.{closed_by, turn, handed, turns_left, played}
 use Rattle.listing.proofs.Gathered.{bytes-within, Found, found_here}
 use Rattle.listing.proofs.Played.{bounds_of, course-moves, Runs, course-runs}
 
@@ -38,13 +38,13 @@ use Rattle.listing.proofs.Played.{bounds_of, course-moves, Runs, course-runs}
 -- a stretch of a play that has steps left
 module _ (input : List ℕ) (p : Play) (steps : ℕ) (still : p.steps ≡ suc steps) where
   abbrev found : List Arrival
-  found = nextArrivals input p.at
+  found = next_arrivals input p.at
 
   abbrev taken : ℕ
-  taken = (courseOf found p).taken
+  taken = (course_of found p).taken
 
   abbrev left : ℕ
-  left = (courseOf found p).left
+  left = (course_of found p).left
 
   -- it takes no more arrivals than were found, and leaves no more steps than there were
   takes : taken ≤ length found
@@ -54,42 +54,42 @@ module _ (input : List ℕ) (p : Play) (steps : ℕ) (still : p.steps ≡ suc st
   leaves = subst (λ (n : ℕ). left ≤ n) still (bounds_of found p).left
 
   -- where none was found, there are no more; so it takes an arrival, or makes a step
-  none_more : found ≡ [] → leb row-places (length found) ≡ false
-  none_more e = ap (λ (os : List Arrival). leb row-places (length os)) e
+  none_more : found ≡ [] → leb row_places (length found) ≡ false
+  none_more e = ap (λ (os : List Arrival). leb row_places (length os)) e
 
   moves : left < suc steps + taken
   moves =
       subst
       (λ (n : ℕ).
-      (course most-calls p.state found (leb row-places (length found)) n).left
-      < suc steps + (course most-calls p.state found (leb row-places (length found)) n).taken)
+      (course most_calls p.state found (leb row_places (length found)) n).left
+      < suc steps + (course most_calls p.state found (leb row_places (length found)) n).taken)
       (sym still)
-      (course-moves 511 p.state found (leb row-places (length found)) steps none_more)
+      (course-moves 511 p.state found (leb row_places (length found)) steps none_more)
 
   -- and so fewer turns are left
-  pub fewer : left + (length input - (p.at + arrival-bytes * taken)) < suc steps + (length input - p.at)
+  pub fewer : left + (length input - (p.at + arrival_bytes * taken)) < suc steps + (length input - p.at)
   fewer = by-taken taken takes leaves moves
     where
       by-taken :
           (n : ℕ) → n ≤ length found → left ≤ suc steps → left < suc steps + n
-          → left + (length input - (p.at + arrival-bytes * n)) < suc steps + (length input - p.at)
+          → left + (length input - (p.at + arrival_bytes * n)) < suc steps + (length input - p.at)
       by-taken zero few most moved = omega arith
-      by-taken (suc n) few most moved = let within = bytes-within row-places input p.at (suc n) (omega arith) few in omega arith
+      by-taken (suc n) few most moved = let within = bytes-within row_places input p.at (suc n) (omega arith) few in omega arith
 
 -- each turn of a run that goes on takes one of them at least, whatever the play
-pub falls : (input : List ℕ) (p : Play) → p.going ≡ true → turnsLeft input (turn input p).play < turnsLeft input p
+pub falls : (input : List ℕ) (p : Play) → p.going ≡ true → turns_left input (turn input p).play < turns_left input p
 falls input p e = simp e (by-steps p.steps refl)
   where
     by-steps :
         (n : ℕ) → p.steps ≡ n
-        → turnsLeft input (cond (eqb p.steps 0) (closedBy p.state (totalsOf p.state)) (stretched input p)).play
+        → turns_left input (cond (eqb p.steps 0) (closed_by p.state (totals_of p.state)) (stretched input p)).play
         < suc (p.steps + (length input - p.at))
     by-steps zero k = simp (eq-eqb p.steps 0 k) (omega arith)
     by-steps (suc n) k = simp (ne_eqb p.steps 0 (λ z. omega arith)) (omega (arith, fewer input p n k))
 
 -- a play whose turns are used up does not go on
-used-up : (input : List ℕ) (p : Play) → turnsLeft input p ≤ 0 → p.going ≡ false
-used-up input p = go p.going
+used_up : (input : List ℕ) (p : Play) → turns_left input p ≤ 0 → p.going ≡ false
+used_up input p = go p.going
   where
     go : (t : Bool) → cond t (suc (p.steps + (length input - p.at))) 0 ≤ 0 → t ≡ false
     go true h = absurd (omega arith)
@@ -100,18 +100,18 @@ stays : (input : List ℕ) (p : Play) → p.going ≡ false → (turn input p).p
 stays input p e = simp e
 
 -- any play is over at last
-pub over-at-last-any : (input : List ℕ) (p : Play) (turns : ℕ) → turnsLeft input p ≤ turns → (played turns input p).going ≡ false
-over-at-last-any input p zero h = used-up input p h
-over-at-last-any input p (suc turns) h = over-at-last-any input (turn input p).play turns (fewer p.going refl)
+pub over_at_last_any : (input : List ℕ) (p : Play) (turns : ℕ) → turns_left input p ≤ turns → (played turns input p).going ≡ false
+over_at_last_any input p zero h = used_up input p h
+over_at_last_any input p (suc turns) h = over_at_last_any input (turn input p).play turns (fewer p.going refl)
   where
-    fewer : (t : Bool) → p.going ≡ t → turnsLeft input (turn input p).play ≤ turns
+    fewer : (t : Bool) → p.going ≡ t → turns_left input (turn input p).play ≤ turns
     fewer true e = let f = falls input p e in omega arith
     fewer false e = rw (stays input p e) (rw e (omega arith))
 
 -- and so is the run of a scenario
 pub over-at-last :
-    (input : List ℕ) (turns : ℕ) → turnsLeft input (opened input).play ≤ turns → (played turns input (opened input).play).going ≡ false
-over-at-last input = over-at-last-any input (opened input).play
+    (input : List ℕ) (turns : ℕ) → turns_left input (opened input).play ≤ turns → (played turns input (opened input).play).going ≡ false
+over-at-last input = over_at_last_any input (opened input).play
 
 -- ---- the play of a run
 
@@ -125,78 +125,78 @@ ended zero input o e = refl
 ended (suc turns) input o e = rw e (append-nil o.text)
 
 -- the numbers of a bus, by whether it stands
-abbrev pub totalsBy : Bool → Bus → Totals
-totalsBy t b = totalsForm (cond t (totals b) (refusedTotals 1))
+abbrev pub totals_by : Bool → Bus → Totals
+totals_by t b = totals_form (cond t (totals b) (refused_totals 1))
 
 -- the state of a bus that stands has the numbers of the bus
-pub totals-form : (b : Bus) → Standing b → totalsOf (form b) ≡ totalsBy true b
-totals-form b h =
-    ap totalsForm (coded-closing b (standing-fits b h)) ∙ ap (λ t. totalsBy t b) (told (Rules.stands-exactly b) h)
+pub totals_of_form : (b : Bus) → Standing b → totals_of (form b) ≡ totals_by true b
+totals_of_form b h =
+    ap totals_form (coded_closing_form b (standing_fits b h)) ∙ ap (λ t. totals_by t b) (told (Rules.stands_exactly b) h)
 
 -- and the last line, which says them
-closed-text : (b : Bus) → Standing b → (closedBy (form b) (totalsOf (form b))).text ≡ closingText b
-closed-text b h = ap (λ t. (closedBy (form b) t).text) (totals-form b h)
+closed_text : (b : Bus) → Standing b → (closed_by (form b) (totals_of (form b))).text ≡ closing_text b
+closed_text b h = ap (λ t. (closed_by (form b) t).text) (totals_of_form b h)
 
 module _ (input : List ℕ) where
   -- A stretch from the state of a bus that stands is one of its run, by the arrivals that stand in the input from an offset on; and past
   -- those taken stand the rest.
   module _ (b : Bus) (at steps : ℕ) (arrivals : List Arrival) (h : Standing b) (here : ArrivalsAt input at arrivals) where
     abbrev stretch : Course
-    stretch = courseOf (nextArrivals input at) (playing b at steps)
+    stretch = course_of (next_arrivals input at) (playing b at steps)
 
-    first : Found input at row-places (nextArrivals input at) arrivals
-    first = found_here row-places input at arrivals here
+    first : Found input at row_places (next_arrivals input at) arrivals
+    first = found_here row_places input at arrivals here
 
-    pub stretch-runs : Runs b arrivals steps stretch
-    stretch-runs =
+    pub stretch_runs : Runs b arrivals steps stretch
+    stretch_runs =
         subst (λ (os : List Arrival). Runs b os steps stretch) (sym first.are)
-        (course-runs most-calls b h (nextArrivals input at) first.others (leb row-places (length (nextArrivals input at))) steps
-        (λ e. first.all (leb-false row-places (length (nextArrivals input at)) e)))
+        (course-runs most_calls b h (next_arrivals input at) first.others (leb row_places (length (next_arrivals input at))) steps
+        (λ e. first.all (leb-false row_places (length (next_arrivals input at)) e)))
 
-    pub stretch-past : ArrivalsAt input (at + arrival-bytes * stretch.taken) (drop stretch.taken arrivals)
-    stretch-past = first.past stretch.taken (bounds_of (nextArrivals input at) (playing b at steps)).taken
+    pub stretch_past : ArrivalsAt input (at + arrival_bytes * stretch.taken) (drop stretch.taken arrivals)
+    stretch_past = first.past stretch.taken (bounds_of (next_arrivals input at) (playing b at steps)).taken
 
   -- what is handed out in so many turns from a play on is the text of the run, if it has no more turns than these
   abbrev Rest : ℕ → Type 0
   Rest turns =
       (b : Bus) (at steps : ℕ) (arrivals : List Arrival) → Standing b → ArrivalsAt input at arrivals
-      → steps + (length input - at) ≤ turns → handed turns input (turn input (playing b at steps)) ≡ runText steps b arrivals
+      → steps + (length input - at) ≤ turns → handed turns input (turn input (playing b at steps)) ≡ run_text steps b arrivals
 
   -- one turn more, of a run that has steps yet: a stretch of it
   one-turn :
       (turns : ℕ) → Rest turns → (b : Bus) (at steps : ℕ) (arrivals : List Arrival) → Standing b → ArrivalsAt input at arrivals
       → suc steps + (length input - at) ≤ suc turns
-      → handed (suc turns) input (turn input (playing b at (suc steps))) ≡ runText (suc steps) b arrivals
+      → handed (suc turns) input (turn input (playing b at (suc steps))) ≡ run_text (suc steps) b arrivals
   one-turn turns more b at steps arrivals h here enough =
       ap
-      (λ t. handed (suc turns) input (cond t (closedBy (form b) (totalsOf (form b))) (stretched input p)))
+      (λ t. handed (suc turns) input (cond t (closed_by (form b) (totals_of (form b))) (stretched input p)))
       (ne_eqb (suc steps) 0 (λ z. omega arith))
       ∙ ap
-      (λ (s : State). reportsText c.reports ++ handed turns input (turn input (record { state = s; at = past; steps = c.left; going = true })))
+      (λ (s : State). reports_text c.reports ++ handed turns input (turn input (record { state = s; at = past; steps = c.left; going = true })))
       runs.state
       ∙ ap
-      (λ (text : List ℕ). reportsText c.reports ++ text)
-      (more runs.bus past c.left (drop c.taken arrivals) runs.stands (stretch-past b at (suc steps) arrivals h here) (omega (arith, few)))
+      (λ (text : List ℕ). reports_text c.reports ++ text)
+      (more runs.bus past c.left (drop c.taken arrivals) runs.stands (stretch_past b at (suc steps) arrivals h here) (omega (arith, few)))
       ∙ sym runs.text
     where
       p : Play
       p = playing b at (suc steps)
 
       c : Course
-      c = courseOf (nextArrivals input at) p
+      c = course_of (next_arrivals input at) p
 
       past : ℕ
-      past = at + arrival-bytes * c.taken
+      past = at + arrival_bytes * c.taken
 
       few : c.left + (length input - past) < suc steps + (length input - at)
       few = fewer input p steps refl
 
       runs : Runs b arrivals (suc steps) c
-      runs = stretch-runs b at (suc steps) arrivals h here
+      runs = stretch_runs b at (suc steps) arrivals h here
 
   -- the last turn, of a run that has none
-  last_turn : (turns : ℕ) (b : Bus) (at : ℕ) → Standing b → handed turns input (turn input (playing b at 0)) ≡ closingText b
-  last_turn turns b at h = ended turns input (turn input (playing b at 0)) refl ∙ closed-text b h
+  last_turn : (turns : ℕ) (b : Bus) (at : ℕ) → Standing b → handed turns input (turn input (playing b at 0)) ≡ closing_text b
+  last_turn turns b at h = ended turns input (turn input (playing b at 0)) refl ∙ closed_text b h
 
   -- any number of turns
   rest : (turns : ℕ) → Rest turns
@@ -210,15 +210,15 @@ module _ (input : List ℕ) where
 -- what is handed out of an accepted scenario
 accepted-out :
     (input : List ℕ) (r : Request) (arrivals : List Arrival) (steps turns : ℕ) → Sound input (accepted r arrivals steps)
-    → suc (steps + (length input - stationOffset r.N)) ≤ turns
-    → handed turns input (says [] (playing (setUp r).1 (stationOffset r.N) steps)) ≡ runText steps (setUp r).1 arrivals
+    → suc (steps + (length input - station_offset r.N)) ≤ turns
+    → handed turns input (says [] (playing (set_up r).1 (station_offset r.N) steps)) ≡ run_text steps (set_up r).1 arrivals
 accepted-out input r arrivals steps zero fine h = absurd (omega arith)
 accepted-out input r arrivals steps (suc turns) fine h =
-    rest input turns (setUp r).1 (stationOffset r.N) steps arrivals (keepsStanding.set-up r fine.0) fine.1 (omega arith)
+    rest input turns (set_up r).1 (station_offset r.N) steps arrivals (keeps_standing.set_up_call r fine.0) fine.1 (omega arith)
 
 -- of a refused one
 refused-out :
-    (input : List ℕ) (n offset turns : ℕ) → ¬ (n ≡ 0) → handed turns input (openedBy (scenarioForm (refused n offset))) ≡ refusedText n offset
+    (input : List ℕ) (n offset turns : ℕ) → ¬ (n ≡ 0) → handed turns input (opened_by (scenario_form (refused n offset))) ≡ refused_text n offset
 refused-out input n offset turns bears =
     ap (λ t. handed turns input (cond t first last)) (ne_eqb n 0 bears) ∙ ended turns input last refl
   where
@@ -226,15 +226,15 @@ refused-out input n offset turns bears =
     first = says [] (playing nothing 0 0)
 
     last : Outcome
-    last = says (refusedText n offset) (over (form nothing))
+    last = says (refused_text n offset) (over (form nothing))
 
 -- The texts that are handed out, one after the other, are the listing, whatever the input, once there are turns enough.
 pub handed_out :
-    (input : List ℕ) (turns : ℕ) → turnsLeft input (opened input).play ≤ turns → handed turns input (opened input) ≡ listing input
+    (input : List ℕ) (turns : ℕ) → turns_left input (opened input).play ≤ turns → handed turns input (opened input) ≡ listing input
 handed_out input turns = by-reading (reading input) (sound input)
   where
     by-reading :
-        (x : Reading) → Sound input x → turnsLeft input (openedBy (scenarioForm x)).play ≤ turns
-        → handed turns input (openedBy (scenarioForm x)) ≡ listingOf x
+        (x : Reading) → Sound input x → turns_left input (opened_by (scenario_form x)).play ≤ turns
+        → handed turns input (opened_by (scenario_form x)) ≡ listing_of x
     by-reading (refused n offset) bears h = refused-out input n offset turns bears
     by-reading (accepted r arrivals steps) fine h = accepted-out input r arrivals steps turns fine h

@@ -6,17 +6,17 @@ use Rattle.listing.proofs.«open».Reads as «open»
 use Rattle.listing.proofs.gather.Reads as gather
 use Rattle.listing.proofs.next.Reads as next
 
-pub open-determined : Determines «open».Learnt
-open-determined κs args r r' end end' p q = unique p.0 q.0
+pub open_determined : Determines «open».Learnt
+open_determined κs args r r' end end' p q = unique p.0 q.0
 
-pub open-room-determined : DeterminesBytes «open».Learnt (λ κs end. end.1.0.now)
-open-room-determined κs args r r' end end' p q = unique p.1.0 q.1.0
+pub open_room_determined : DeterminesBytes «open».Learnt (λ κs end. end.1.0.now)
+open_room_determined κs args r r' end end' p q = unique p.1.0 q.1.0
 
-pub gather-determined : Determines gather.Learnt
-gather-determined κs args r r' end end' = unique
+pub gather_determined : Determines gather.Learnt
+gather_determined κs args r r' end end' = unique
 
-pub next-determined : Determines next.Learnt
-next-determined κs args r r' end end' p q = unique p.0 q.0
+pub next_determined : Determines next.Learnt
+next_determined κs args r r' end end' p q = unique p.0 q.0
 
-pub next-room-determined : DeterminesBytes next.Learnt (λ κs end. end.1.1.0.now)
-next-room-determined κs args r r' end end' p q = unique p.1.0 q.1.0
+pub next_room_determined : DeterminesBytes next.Learnt (λ κs end. end.1.1.0.now)
+next_room_determined κs args r r' end end' p q = unique p.1.0 q.1.0

@@ -6,8 +6,8 @@ use Rattle.rules.specs.SetUp.{Request}
 use Rattle.state.specs.declared.Arrival.{Arrival}
 
 -- 'Input, hexadecimal', record by record
-abbrev pub worked-input : List ℕ
-worked-input =
+abbrev pub worked_input : List ℕ
+worked_input =
     -- a set-up: discipline 0 (PRI), D 4, A 8, q 1, N 3
     14 ∷ 0 ∷ 1 ∷ 0 ∷ 0 ∷ 4 ∷ 0 ∷ 0 ∷ 0 ∷ 8 ∷ 0 ∷ 0 ∷ 0 ∷ 1 ∷ 0 ∷ 3 ∷
     -- a station: address 1, capability 0
@@ -27,8 +27,8 @@ worked-input =
     []
 
 -- 'Output', line by line
-abbrev pub worked-output : List ℕ
-worked-output =
+abbrev pub worked_output : List ℕ
+worked_output =
     -- 0 P 0 4 C
     48 ∷ 32 ∷ 80 ∷ 32 ∷ 48 ∷ 32 ∷ 52 ∷ 32 ∷ 67 ∷ 10 ∷
     -- 1 P 0 2 I
@@ -62,8 +62,8 @@ worked-output =
     []
 
 -- what it asks for: the set-up and the arrivals of its 14 steps
-abbrev pub worked-request : Request
-worked-request =
+abbrev pub worked_request : Request
+worked_request =
     record {
       discipline = 0;
       D = 4;
@@ -76,13 +76,13 @@ worked-request =
 abbrev arrival : ℕ → ℕ → ℕ → Arrival
 arrival address value long = record { time = record { 0 = 0 }; address = record { 0 = address }; value = value; length = long }
 
-abbrev pub worked-arrivals : List Arrival
-worked-arrivals = arrival 5 2 3 ∷ arrival 6 2 1 ∷ arrival 1 3 2 ∷ []
+abbrev pub worked_arrivals : List Arrival
+worked_arrivals = arrival 5 2 3 ∷ arrival 6 2 1 ∷ arrival 1 3 2 ∷ []
 
 -- 'Before each step it admits, in file order, the arrivals whose time is not above the clock.' 'Arrivals the run never reaches are not admitted': the
 -- last is due at slot 3, where no step is left.
-abbrev pub timed-input : List ℕ
-timed-input =
+abbrev pub timed_input : List ℕ
+timed_input =
     -- a set-up: discipline 0 (PRI), D 2, A 2, q 1, N 1
     14 ∷ 0 ∷ 1 ∷ 0 ∷ 0 ∷ 2 ∷ 0 ∷ 0 ∷ 0 ∷ 2 ∷ 0 ∷ 0 ∷ 0 ∷ 1 ∷ 0 ∷ 1 ∷
     -- a station: address 0, capability 0
@@ -97,8 +97,8 @@ timed-input =
     4 ∷ 0 ∷ 4 ∷ 0 ∷ 3 ∷ 0 ∷
     []
 
-abbrev pub timed-output : List ℕ
-timed-output =
+abbrev pub timed_output : List ℕ
+timed_output =
     -- 0 P 0 2 I
     48 ∷ 32 ∷ 80 ∷ 32 ∷ 48 ∷ 32 ∷ 50 ∷ 32 ∷ 73 ∷ 10 ∷
     -- R 1 1 11
@@ -113,8 +113,8 @@ timed-output =
 
 -- The wait is counted from the admission and not from the arrival's time: the second arrival, with time 1, is admitted at slot 10, as the packet
 -- of 10 slots ends, and wins at once.
-abbrev pub waited-input : List ℕ
-waited-input =
+abbrev pub waited_input : List ℕ
+waited_input =
     -- a set-up: discipline 0 (PRI), D 2, A 2, q 1, N 1
     14 ∷ 0 ∷ 1 ∷ 0 ∷ 0 ∷ 2 ∷ 0 ∷ 0 ∷ 0 ∷ 2 ∷ 0 ∷ 0 ∷ 0 ∷ 1 ∷ 0 ∷ 1 ∷
     -- a station: address 0, capability 0
@@ -127,8 +127,8 @@ waited-input =
     4 ∷ 0 ∷ 4 ∷ 0 ∷ 2 ∷ 0 ∷
     []
 
-abbrev pub waited-output : List ℕ
-waited-output =
+abbrev pub waited_output : List ℕ
+waited_output =
     -- 0 P 0 2 S 0 1 10 0
     48 ∷ 32 ∷ 80 ∷ 32 ∷ 48 ∷ 32 ∷ 50 ∷ 32 ∷ 83 ∷ 32 ∷ 48 ∷ 32 ∷ 49 ∷ 32 ∷ 49 ∷ 48 ∷ 32 ∷ 48 ∷ 10 ∷
     -- 10 P 0 2 S 0 2 1 0
@@ -138,8 +138,8 @@ waited-output =
     []
 
 -- A packet turned away: the second arrival, with time 1 and latest start 2, is asked for at slot 3, as the packet of 3 slots ends.
-abbrev pub turned-input : List ℕ
-turned-input =
+abbrev pub turned_input : List ℕ
+turned_input =
     -- a set-up: discipline 1 (RTDG), D 2, A 2, q 1, N 1
     14 ∷ 0 ∷ 1 ∷ 0 ∷ 1 ∷ 2 ∷ 0 ∷ 0 ∷ 0 ∷ 2 ∷ 0 ∷ 0 ∷ 0 ∷ 1 ∷ 0 ∷ 1 ∷
     -- a station: address 0, capability 0
@@ -152,8 +152,8 @@ turned-input =
     4 ∷ 0 ∷ 4 ∷ 0 ∷ 2 ∷ 0 ∷
     []
 
-abbrev pub turned-output : List ℕ
-turned-output =
+abbrev pub turned_output : List ℕ
+turned_output =
     -- 0 P 0 2 S 0 1 3 0
     48 ∷ 32 ∷ 80 ∷ 32 ∷ 48 ∷ 32 ∷ 50 ∷ 32 ∷ 83 ∷ 32 ∷ 48 ∷ 32 ∷ 49 ∷ 32 ∷ 51 ∷ 32 ∷ 48 ∷ 10 ∷
     -- R 3 0 14

@@ -1,10 +1,10 @@
 // The listing: a run is played turn by turn, and each turn puts its text into room that the caller lends. Every call takes any input and
 // any play.
 ghost use Rattle.std.specs.Prelude.{◌≤◌, ◌≡◌, false, take};
-ghost use Rattle.bus.specs.Coded.{totalsOf};
-ghost use Rattle.text.specs.Room.{room-bytes, roomWith};
+ghost use Rattle.bus.specs.Coded.{totals_of};
+ghost use Rattle.text.specs.Room.{room_bytes, room_with};
 ghost use Rattle.text.specs.Parts.{Told, roomy};
-ghost use Rattle.listing.specs.Turns.{nextArrivals, arrivalsForm, reportText, reportsText, opened, stretched, closedBy, turn, turnForm};
+ghost use Rattle.listing.specs.Turns.{next_arrivals, arrivals_form, report_text, reports_text, opened, stretched, closed_by, turn, turn_form};
 ghost use Rattle.listing.specs.Parts.{TurnTold};
 
 use bus::{Arrivals, Report, Stretch};
@@ -56,9 +56,9 @@ fn over(state: State) -> Play
 
 // The first turn: the scenario is read. 'A refused scenario prints only REFUSED number offset.'
 pub fn open(input: &[u8], room: &mut [u8; 65536]) -> Turn
-    ensures value { result ≡ turnForm (opened input.now) }
-    ensures room_after { room.new ≡ roomWith (opened input.now).text room.old }
-    ensures length_le_room_bytes { result.length ≤ room-bytes }
+    ensures value { result ≡ turn_form (opened input.now) }
+    ensures room_after { room.new ≡ room_with (opened input.now).text room.old }
+    ensures length_le_room_bytes { result.length ≤ room_bytes }
 {
     let s = scenario::read(input);
     let state = s.state;
@@ -78,7 +78,7 @@ pub fn open(input: &[u8], room: &mut [u8; 65536]) -> Turn
 
 // The arrivals that come next in the input, from an offset on: up to the first record that is none, 64 at the most.
 pub fn gather(input: &[u8], from: usize) -> Arrivals
-    ensures { result ≡ arrivalsForm (nextArrivals input.now from) }
+    ensures { result ≡ arrivals_form (next_arrivals input.now from) }
 {
     let mut row = [NO_ARRIVAL; 64];
     let mut length = 0;
@@ -98,7 +98,7 @@ pub fn gather(input: &[u8], from: usize) -> Arrivals
 // The text of a report, from an offset of the room on; the offset past it.
 fn tell(room: &mut [u8; 65536], at: usize, report: Report) -> usize
     requires { roomy at 128 }
-    ensures { Told room.old room.new at result (reportText report) 128 }
+    ensures { Told room.old room.new at result (report_text report) 128 }
 {
     if !report.arrival {
         let answer = report.answer;
@@ -117,7 +117,7 @@ fn tell(room: &mut [u8; 65536], at: usize, report: Report) -> usize
 // the whole stretch.
 fn tell_all(room: &mut [u8; 65536], stretch: Stretch) -> usize
     requires { stretch.made ≤ 512 }
-    ensures { Told room.old room.new 0 result (reportsText (take stretch.made stretch.reports)) room-bytes }
+    ensures { Told room.old room.new 0 result (reports_text (take stretch.made stretch.reports)) room_bytes }
 {
     let made = stretch.made;
     let reports = stretch.reports;
@@ -133,7 +133,7 @@ fn tell_all(room: &mut [u8; 65536], stretch: Stretch) -> usize
 
 // The run ends with its last line.
 fn close(state: State, room: &mut [u8; 65536]) -> Turn
-    ensures { TurnTold room.old room.new result (closedBy state (totalsOf state)) }
+    ensures { TurnTold room.old room.new result (closed_by state (totals_of state)) }
 {
     let totals = bus::closing(state);
     let length = telling::ending(room, 0, totals);
@@ -163,9 +163,9 @@ fn go_on(input: &[u8], play: Play, room: &mut [u8; 65536]) -> Turn
 // Any other turn: 'Before each step it admits, in file order, the arrivals whose time is not above the clock', up to 512 calls to a turn;
 // or, where no step is left, the run ends. A run that is over hands out nothing.
 pub fn next(input: &[u8], play: Play, room: &mut [u8; 65536]) -> Turn
-    ensures value { result ≡ turnForm (turn input.now play) }
-    ensures room_after { room.new ≡ roomWith (turn input.now play).text room.old }
-    ensures length_le_room_bytes { result.length ≤ room-bytes }
+    ensures value { result ≡ turn_form (turn input.now play) }
+    ensures room_after { room.new ≡ room_with (turn input.now play).text room.old }
+    ensures length_le_room_bytes { result.length ≤ room_bytes }
 {
     if !play.going {
         return Turn { length: 0, play };

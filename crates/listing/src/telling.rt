@@ -4,8 +4,8 @@ ghost use Rattle.std.specs.Prelude.{◌≡◌, [], ◌∷◌, ◌++◌};
 ghost use Rattle.bus.specs.Coded.{answer_of};
 ghost use Rattle.text.specs.Text.{decimal, space, newline as newlineByte};
 ghost use Rattle.text.specs.Parts.{Told, roomy};
-ghost use Rattle.listing.specs.Text.{phaseLetter, eventLetter, refusedText, arrivalText, endText, droppedText, probedText};
-ghost use Rattle.listing.specs.Parts.{openingText, winnerText};
+ghost use Rattle.listing.specs.Text.{phase_letter, event_letter, refused_text, arrival_text, end_text, dropped_text, probed_text};
+ghost use Rattle.listing.specs.Parts.{opening_text, winner_text};
 
 use bus::{Answer, Totals};
 use rules::Slot;
@@ -56,14 +56,14 @@ fn newline(room: &mut [u8; 65536], at: usize) -> usize
 
 // 'phase P or T'
 fn phase_letter(phase: u32) -> u8
-    ensures { result ≡ phaseLetter phase }
+    ensures { result ≡ phase_letter phase }
 {
     if phase == 0 { b'P' } else { b'T' }
 }
 
 // 'event I, C, or S'
 fn event_letter(event: u32) -> u8
-    ensures { result ≡ eventLetter event }
+    ensures { result ≡ event_letter event }
 {
     if event == 0 {
         return b'I';
@@ -74,7 +74,7 @@ fn event_letter(event: u32) -> u8
 // 'REFUSED number offset'
 pub fn refused(room: &mut [u8; 65536], at: usize, number: u32, offset: usize) -> usize
     requires { roomy at 128 }
-    ensures { Told room.old room.new at result (refusedText number offset) 128 }
+    ensures { Told room.old room.new at result (refused_text number offset) 128 }
 {
     let word = text::letters(room, at, b"REFUSED");
     let first = short_field(room, word, number);
@@ -91,7 +91,7 @@ pub fn arrival(
     number: u32,
 ) -> usize
     requires { roomy at 128 }
-    ensures { Told room.old room.new at result (arrivalText slot.0 address.0 number) 128 }
+    ensures { Told room.old room.new at result (arrival_text slot.0 address.0 number) 128 }
 {
     let word = text::put(room, at, b'R');
     let first = short_field(room, word, slot.0);
@@ -103,7 +103,7 @@ pub fn arrival(
 // 'D count', if packets were dropped
 fn dropped(room: &mut [u8; 65536], at: usize, answer: Answer) -> usize
     requires { roomy at 23 }
-    ensures { Told room.old room.new at result (droppedText (answer_of answer)) 23 }
+    ensures { Told room.old room.new at result (dropped_text (answer_of answer)) 23 }
 {
     if answer.drops == 0 {
         return at;
@@ -116,7 +116,7 @@ fn dropped(room: &mut [u8; 65536], at: usize, answer: Answer) -> usize
 // 'slot phase start size event'
 fn opening(room: &mut [u8; 65536], at: usize, answer: Answer) -> usize
     requires { roomy at 56 }
-    ensures { Told room.old room.new at result (openingText (answer_of answer)) 56 }
+    ensures { Told room.old room.new at result (opening_text (answer_of answer)) 56 }
 {
     let slot = short_number(room, at, answer.slot.0);
     let phase = letter(room, slot, phase_letter(answer.phase));
@@ -128,7 +128,7 @@ fn opening(room: &mut [u8; 65536], at: usize, answer: Answer) -> usize
 // 'S with address, packet number, length', and the wait 'as a fourth number after S'
 fn winner(room: &mut [u8; 65536], at: usize, answer: Answer) -> usize
     requires { roomy at 44 }
-    ensures { Told room.old room.new at result (winnerText (answer_of answer)) 44 }
+    ensures { Told room.old room.new at result (winner_text (answer_of answer)) 44 }
 {
     if answer.event < 2 {
         return at;
@@ -142,7 +142,7 @@ fn winner(room: &mut [u8; 65536], at: usize, answer: Answer) -> usize
 // The line of a probe; a refused step has none.
 fn probed(room: &mut [u8; 65536], at: usize, answer: Answer) -> usize
     requires { roomy at 101 }
-    ensures { Told room.old room.new at result (probedText (answer_of answer)) 101 }
+    ensures { Told room.old room.new at result (probed_text (answer_of answer)) 101 }
 {
     if answer.refusal != 0 {
         return at;
@@ -155,7 +155,7 @@ fn probed(room: &mut [u8; 65536], at: usize, answer: Answer) -> usize
 // What a step's answer tells: the packets dropped, and the probe.
 pub fn answer(room: &mut [u8; 65536], at: usize, answer: Answer) -> usize
     requires { roomy at 128 }
-    ensures { Told room.old room.new at result (droppedText (answer_of answer) ++ probedText (answer_of answer)) 128 }
+    ensures { Told room.old room.new at result (dropped_text (answer_of answer) ++ probed_text (answer_of answer)) 128 }
 {
     let drops = dropped(room, at, answer);
     probed(room, drops, answer)
@@ -164,7 +164,7 @@ pub fn answer(room: &mut [u8; 65536], at: usize, answer: Answer) -> usize
 // 'END clock admitted sent lost waiting', and the packets turned away
 pub fn ending(room: &mut [u8; 65536], at: usize, totals: Totals) -> usize
     requires { roomy at 128 }
-    ensures { Told room.old room.new at result (endText totals.clock.0 totals.admitted totals.sent totals.lost totals.waiting totals.turned) 128 }
+    ensures { Told room.old room.new at result (end_text totals.clock.0 totals.admitted totals.sent totals.lost totals.waiting totals.turned) 128 }
 {
     let word = text::letters(room, at, b"END");
     let clock = short_field(room, word, totals.clock.0);

@@ -9,10 +9,10 @@ use borrow.Author.Tests.{leb-true, eq-eqb, ne_eqb}
 use lib.Dec.{leb}
 use lib.ListN.{length, take}
 use lib.Seq.{length-take-le}
-use Rattle.text.specs.Room.{room-bytes, stored, past, roomWith}
+use Rattle.text.specs.Room.{room_bytes, stored, past, room_with}
 use Rattle.text.specs.Parts.{Told, roomy}
-use Rattle.text.proofs.Stores.{told-then, told-stored, sets-start, stored-kept, room-kept}
-use Rattle.meanings.specs.Refused.{numberText, recordText, refusedText}
+use Rattle.text.proofs.Stores.{told-then, told-stored, sets_start, stored_kept, room_kept}
+use Rattle.meanings.specs.Refused.{number_text, record_text, refused_text}
 
 -- a text that was stored after one that was told
 pub told_more :
@@ -21,41 +21,41 @@ pub told_more :
 told_more {b = b} {m = m} y q told h few said = told-then told (told-stored b m y q (omega (arith, told.past, told.few)) few said)
 
 -- the same text in another form
-pub told-as : {a b : List ℕ} {at n : ℕ} {x y : List ℕ} {p : ℕ} → Told a b at n x p → x ≡ y → Told a b at n y p
-told-as {a} {b} {at} {n} {p = p} told e = subst (λ (z : List ℕ). Told a b at n z p) e told
+pub told_as : {a b : List ℕ} {at n : ℕ} {x y : List ℕ} {p : ℕ} → Told a b at n x p → x ≡ y → Told a b at n y p
+told_as {a} {b} {at} {n} {p = p} told e = subst (λ (z : List ℕ). Told a b at n z p) e told
 
 -- a text that was told at the start of the room is over its start, and fits the room
 pub told-start :
-    {a b : List ℕ} {n : ℕ} {x : List ℕ} {p : ℕ} → p ≤ room-bytes → Told a b 0 n x p
-    → (n ≡ length x) × ((b ≡ roomWith x a) × (n ≤ room-bytes))
+    {a b : List ℕ} {n : ℕ} {x : List ℕ} {p : ℕ} → p ≤ room_bytes → Told a b 0 n x p
+    → (n ≡ length x) × ((b ≡ room_with x a) × (n ≤ room_bytes))
 told-start {a} {x = x} h told =
-    (omega (arith, told.past), (told.room ∙ sets-start a x, omega (arith, told.past, told.few)))
+    (omega (arith, told.past), (told.room ∙ sets_start a x, omega (arith, told.past, told.few)))
 
 -- ---- the text of a refused scenario
 
 -- of one that is too long
-pub too_long : (input : List ℕ) (number offset : ℕ) → number ≡ 22 → numberText number ++ [] ≡ refusedText input number offset
+pub too_long : (input : List ℕ) (number offset : ℕ) → number ≡ 22 → number_text number ++ [] ≡ refused_text input number offset
 too_long input number offset e =
-    ap (λ t. numberText number ++ cond t [] (recordText input (min offset (length input)))) (sym (eq-eqb number 22 e))
+    ap (λ t. number_text number ++ cond t [] (record_text input (min offset (length input)))) (sym (eq-eqb number 22 e))
 
 -- of any other
 pub of-a-record :
     (input : List ℕ) (number offset : ℕ) {at : ℕ} → number ≢ 22 → at ≡ min offset (length input)
-    → numberText number ++ recordText input at ≡ refusedText input number offset
+    → number_text number ++ record_text input at ≡ refused_text input number offset
 of-a-record input number offset e f =
-    ap (λ k. numberText number ++ recordText input k) f
-    ∙ ap (λ t. numberText number ++ cond t [] (recordText input (min offset (length input)))) (sym (ne_eqb number 22 e))
+    ap (λ k. number_text number ++ record_text input k) f
+    ∙ ap (λ t. number_text number ++ cond t [] (record_text input (min offset (length input)))) (sym (ne_eqb number 22 e))
 
 -- ---- for callers
 
 -- an offset is within the room, which has all its bytes
 pub record Within (room : List ℕ) (at : ℕ) : Type 0 where
-  pub long : room-bytes ≡ length room
-  pub inside : at ≤ room-bytes
+  pub long : room_bytes ≡ length room
+  pub inside : at ≤ room_bytes
 
 -- its start is
-pub room-start : (room : List ℕ) → room-bytes ≡ length room → Within room 0
-room-start room long = record { long = long; inside = omega arith }
+pub room_start : (room : List ℕ) → room_bytes ≡ length room → Within room 0
+room_start room long = record { long = long; inside = omega arith }
 
 -- whatever is stored from such an offset on, so is the offset past it
 pub stored-within :
@@ -63,23 +63,23 @@ pub stored-within :
     → (next ≡ past at text) × (after ≡ stored room at text) → Within after next
 stored-within {room} {at} text {next = next} h said =
     record {
-      long = h.long ∙ sym (ap length said.1 ∙ stored-kept room at text);
-      inside = go (leb (at + length text) room-bytes) refl said.0;
+      long = h.long ∙ sym (ap length said.1 ∙ stored_kept room at text);
+      inside = go (leb (at + length text) room_bytes) refl said.0;
     }
   where
-    go : (t : Bool) → leb (at + length text) room-bytes ≡ t → next ≡ cond t (at + length text) at → next ≤ room-bytes
-    go true fits e = omega (arith, leb-true (at + length text) room-bytes fits)
+    go : (t : Bool) → leb (at + length text) room_bytes ≡ t → next ≡ cond t (at + length text) at → next ≤ room_bytes
+    go true fits e = omega (arith, leb-true (at + length text) room_bytes fits)
     go false fits e = omega (arith, h.inside)
 
 -- and so is the end of what stands at the room's start
 pub start-within :
-    (text room : List ℕ) {after : List ℕ} {next : ℕ} → room-bytes ≡ length room
-    → (next ≡ length text) × ((after ≡ roomWith text room) × (next ≤ room-bytes)) → Within after next
-start-within text room long said = record { long = long ∙ sym (ap length said.1.0 ∙ room-kept text room); inside = said.1.1 }
+    (text room : List ℕ) {after : List ℕ} {next : ℕ} → room_bytes ≡ length room
+    → (next ≡ length text) × ((after ≡ room_with text room) × (next ≤ room_bytes)) → Within after next
+start-within text room long said = record { long = long ∙ sym (ap length said.1.0 ∙ room_kept text room); inside = said.1.1 }
 
 -- the part before it is there, and has as many bytes
-pub part-there : {room : List ℕ} {at : ℕ} → Within room at → at ≤ length room
-part-there h = omega (arith, h.long, h.inside)
+pub part_there : {room : List ℕ} {at : ℕ} → Within room at → at ≤ length room
+part_there h = omega (arith, h.long, h.inside)
 
 pub part_length : {room : List ℕ} {at : ℕ} → Within room at → at ≡ length (take at room)
-part_length {room} {at} h = sym (length-take-le at room (part-there h))
+part_length {room} {at} h = sym (length-take-le at room (part_there h))

@@ -5,14 +5,14 @@ use Rattle.window.proofs.Unique.{unique}
 use Rattle.meanings.proofs.meaning.Reads as meaning
 use Rattle.meanings.proofs.refused.Reads as refused
 
-pub meaning-determined : Determines meaning.Learnt
-meaning-determined κs args r r' end end' p q = unique p.0 q.0
+pub meaning_determined : Determines meaning.Learnt
+meaning_determined κs args r r' end end' p q = unique p.0 q.0
 
-pub meaning-room-determined : DeterminesBytes meaning.Learnt (λ κs end. end.0.now)
-meaning-room-determined κs args r r' end end' p q = unique p.1 q.1
+pub meaning_room_determined : DeterminesBytes meaning.Learnt (λ κs end. end.0.now)
+meaning_room_determined κs args r r' end end' p q = unique p.1 q.1
 
-pub refused-determined : Determines refused.Learnt
-refused-determined κs args r r' end end' p q = unique p.0 q.0
+pub refused_determined : Determines refused.Learnt
+refused_determined κs args r r' end end' p q = unique p.0 q.0
 
-pub refused-room-determined : DeterminesBytes refused.Learnt (λ κs end. end.1.1.1.0.now)
-refused-room-determined κs args r r' end end' p q = unique p.1.0 q.1.0
+pub refused_room_determined : DeterminesBytes refused.Learnt (λ κs end. end.1.1.1.0.now)
+refused_room_determined κs args r r' end end' p q = unique p.1.0 q.1.0

@@ -9,9 +9,9 @@ use borrow.Author.Tests.{leb-true, ne_eqb}
 use lib.Dec.{ltb, leb, eqb}
 use lib.ListN.{length}
 use Rattle.text.specs.Text.{bytes}
-use Rattle.scenario.specs.Format.{kindIn}
-use Rattle.meanings.specs.Meanings.{Row, words_in, setUpRows, callRows, otherRows, otherMeaning, callMeaning, meaningOf}
-use Rattle.meanings.specs.Refused.{kinds, kindWords, recordWords}
+use Rattle.scenario.specs.Format.{kind_in}
+use Rattle.meanings.specs.Meanings.{Row, words_in, set_up_rows, call_rows, other_rows, other_meaning, call_meaning, meaning_of}
+use Rattle.meanings.specs.Refused.{kinds, kind_words, record_words}
 
 -- ---- a number that rows do not have
 
@@ -83,28 +83,28 @@ above last (r ∷ rows) other n e h =
 
 -- ---- the table
 
-pub meaning-short : (n : ℕ) → length (meaningOf n) ≤ 80
-unfolding otherMeaning callMeaning meaningOf
-meaning-short n =
-    words-short 80 setUpRows (callMeaning n) n refl
-    (words-short 80 callRows (otherMeaning n) n refl (words-short 80 otherRows (bytes "unknown number") n refl (omega arith)))
+pub meaning_short : (n : ℕ) → length (meaning_of n) ≤ 80
+unfolding other_meaning call_meaning meaning_of
+meaning_short n =
+    words-short 80 set_up_rows (call_meaning n) n refl
+    (words-short 80 call_rows (other_meaning n) n refl (words-short 80 other_rows (bytes "unknown number") n refl (omega arith)))
 
-pub unknown : (n : ℕ) → 26 < n → meaningOf n ≡ bytes "unknown number"
-unfolding otherMeaning callMeaning meaningOf
+pub unknown : (n : ℕ) → 26 < n → meaning_of n ≡ bytes "unknown number"
+unfolding other_meaning call_meaning meaning_of
 unknown n h =
-    above 26 setUpRows (callMeaning n) n refl h ∙ (above 26 callRows (otherMeaning n) n refl h ∙ above 26 otherRows (bytes "unknown number") n refl h)
+    above 26 set_up_rows (call_meaning n) n refl h ∙ (above 26 call_rows (other_meaning n) n refl h ∙ above 26 other_rows (bytes "unknown number") n refl h)
 
 -- ---- records
 
-kind-short : (n : ℕ) → length (kindWords n) ≤ 20
-unfolding kindWords
-kind-short n = words-short 20 kinds (bytes "of no known kind") n refl (omega arith)
+kind_short : (n : ℕ) → length (kind_words n) ≤ 20
+unfolding kind_words
+kind_short n = words-short 20 kinds (bytes "of no known kind") n refl (omega arith)
 
-pub record-short : (rest : List ℕ) → length (recordWords rest) ≤ 20
-unfolding recordWords
-record-short rest = go (eqb (length rest) 0) (ltb (length rest) 4)
+pub record_short : (rest : List ℕ) → length (record_words rest) ≤ 20
+unfolding record_words
+record_short rest = go (eqb (length rest) 0) (ltb (length rest) 4)
   where
-    go : (none few : Bool) → length (cond none (bytes "where the input ends") (cond few (bytes "cut short") (kindWords (kindIn rest)))) ≤ 20
+    go : (none few : Bool) → length (cond none (bytes "where the input ends") (cond few (bytes "cut short") (kind_words (kind_in rest)))) ≤ 20
     go true few = omega arith
     go false true = omega arith
-    go false false = kind-short (kindIn rest)
+    go false false = kind_short (kind_in rest)

@@ -20,8 +20,8 @@ words_in (r ∷ rows) other number = cond (eqb number r.number) (bytes r.words) 
 -- ---- the table
 
 -- of a lent state and of a set-up
-abbrev pub setUpRows : List Row
-setUpRows =
+abbrev pub set_up_rows : List Row
+set_up_rows =
     row 1 "the state that was lent breaks a standing condition"
     ∷ row 2 "the discipline is none of 0 PRI, 1 RTDG, 2 RTVC"
     ∷ row 3 "D is outside 2 to 65,536"
@@ -35,8 +35,8 @@ setUpRows =
     ∷ []
 
 -- of an admission and of a step
-abbrev pub callRows : List Row
-callRows =
+abbrev pub call_rows : List Row
+call_rows =
     row 11 "no station has the address of an arrival"
     ∷ row 12 "a value is outside its range: PRI 0 to D - 1, RTDG 0 to 1,073,741,824, RTVC 0"
     ∷ row 13 "a packet length is outside 1 to 4,096"
@@ -47,8 +47,8 @@ callRows =
     ∷ []
 
 -- of a scenario, of a batch of runs, of a begin and of a probe
-abbrev pub otherRows : List Row
-otherRows =
+abbrev pub other_rows : List Row
+other_rows =
     row 18 "the input ends inside a record or before the run record"
     ∷ row 19 "a record has no known kind, or not the length of its kind"
     ∷ row 20 "a record is out of place, or bytes come after the run record"
@@ -62,11 +62,11 @@ otherRows =
 
 -- ---- what a number means
 
-unfoldable pub otherMeaning : ℕ → List ℕ
-otherMeaning number = words_in otherRows (bytes "unknown number") number
+unfoldable pub other_meaning : ℕ → List ℕ
+other_meaning number = words_in other_rows (bytes "unknown number") number
 
-unfoldable pub callMeaning : ℕ → List ℕ
-callMeaning number = words_in callRows (otherMeaning number) number
+unfoldable pub call_meaning : ℕ → List ℕ
+call_meaning number = words_in call_rows (other_meaning number) number
 
-unfoldable pub meaningOf : ℕ → List ℕ
-meaningOf number = words_in setUpRows (callMeaning number) number
+unfoldable pub meaning_of : ℕ → List ℕ
+meaning_of number = words_in set_up_rows (call_meaning number) number

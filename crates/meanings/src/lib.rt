@@ -1,9 +1,9 @@
 // What a refusal number means, in words, and which record of a scenario is refused: text in room that the caller lends. Every call takes
 // any input.
 ghost use Rattle.std.specs.Prelude.{◌≤◌, min, ◌≡◌, length};
-ghost use Rattle.text.specs.Room.{room-bytes, stored, past, roomWith};
-ghost use Rattle.meanings.specs.Meanings.{otherMeaning, callMeaning, meaningOf};
-ghost use Rattle.meanings.specs.Refused.{refusedText};
+ghost use Rattle.text.specs.Room.{room_bytes, stored, past, room_with};
+ghost use Rattle.meanings.specs.Meanings.{other_meaning, call_meaning, meaning_of};
+ghost use Rattle.meanings.specs.Refused.{refused_text};
 
 mod records;
 
@@ -12,8 +12,8 @@ const TOO_LONG: u32 = 22;
 
 // What a number means that refuses a scenario, a batch of runs, a begin or a probe.
 fn other_meaning(room: &mut [u8; 65536], at: usize, number: u32) -> usize
-    ensures value { result ≡ past at (otherMeaning number) }
-    ensures room_after { room.new ≡ stored room.old at (otherMeaning number) }
+    ensures value { result ≡ past at (other_meaning number) }
+    ensures room_after { room.new ≡ stored room.old at (other_meaning number) }
 {
     match number {
         18 => text::letters(
@@ -59,8 +59,8 @@ fn other_meaning(room: &mut [u8; 65536], at: usize, number: u32) -> usize
 
 // What a number means that refuses an admission or a step, or one of those above.
 fn call_meaning(room: &mut [u8; 65536], at: usize, number: u32) -> usize
-    ensures value { result ≡ past at (callMeaning number) }
-    ensures room_after { room.new ≡ stored room.old at (callMeaning number) }
+    ensures value { result ≡ past at (call_meaning number) }
+    ensures room_after { room.new ≡ stored room.old at (call_meaning number) }
 {
     match number {
         11 => text::letters(room, at, b"no station has the address of an arrival"),
@@ -88,8 +88,8 @@ fn call_meaning(room: &mut [u8; 65536], at: usize, number: u32) -> usize
 
 // What a number means, from an offset of the room on; the offset past it.
 pub fn meaning(room: &mut [u8; 65536], at: usize, number: u32) -> usize
-    ensures value { result ≡ past at (meaningOf number) }
-    ensures room_after { room.new ≡ stored room.old at (meaningOf number) }
+    ensures value { result ≡ past at (meaning_of number) }
+    ensures room_after { room.new ≡ stored room.old at (meaning_of number) }
 {
     match number {
         1 => text::letters(
@@ -131,9 +131,9 @@ fn least(a: usize, b: usize) -> usize
 
 // The text of a refused scenario, at the start of the room; how many bytes it has.
 pub fn refused(input: &[u8], number: u32, offset: usize, room: &mut [u8; 65536]) -> usize
-    ensures value { result ≡ length (refusedText input.now number offset) }
-    ensures room_after { room.new ≡ roomWith (refusedText input.now number offset) room.old }
-    ensures upper_bound { result ≤ room-bytes }
+    ensures value { result ≡ length (refused_text input.now number offset) }
+    ensures room_after { room.new ≡ room_with (refused_text input.now number offset) room.old }
+    ensures upper_bound { result ≤ room_bytes }
 {
     let word = text::letters(room, 0, b"refused, number ");
     let named = text::number(room, word, number as u64);

@@ -2,8 +2,8 @@
 ghost use Rattle.std.specs.Prelude.{◌≤◌, ◌<◌, ◌≡◌, length, get_or, drop};
 ghost use Rattle.text.specs.Room.{stored, past};
 ghost use Rattle.text.specs.Parts.{Told, roomy};
-ghost use Rattle.scenario.specs.Format.{lengthIn};
-ghost use Rattle.meanings.specs.Refused.{place_of, kindWords, recordWords, recordText};
+ghost use Rattle.scenario.specs.Format.{length_in};
+ghost use Rattle.meanings.specs.Refused.{place_of, kind_words, record_words, record_text};
 
 // The bytes of a record's length and kind.
 const HEADER: usize = 4;
@@ -24,7 +24,7 @@ fn byte(input: &[u8], at: usize) -> usize
 fn two(input: &[u8], at: usize) -> usize
     requires { at < length input.now }
     ensures upper_bound { result < 65_536 }
-    ensures value { result ≡ lengthIn (drop at input.now) }
+    ensures value { result ≡ length_in (drop at input.now) }
 {
     byte(input, at) + 256 * byte(input, at + 1)
 }
@@ -45,8 +45,8 @@ fn place(input: &[u8], offset: usize) -> usize
 
 // What a record of this kind is.
 fn kind(room: &mut [u8; 65536], at: usize, kind: usize) -> usize
-    ensures value { result ≡ past at (kindWords kind) }
-    ensures room_after { room.new ≡ stored room.old at (kindWords kind) }
+    ensures value { result ≡ past at (kind_words kind) }
+    ensures room_after { room.new ≡ stored room.old at (kind_words kind) }
 {
     match kind {
         1 => text::letters(room, at, b"a set-up"),
@@ -59,8 +59,8 @@ fn kind(room: &mut [u8; 65536], at: usize, kind: usize) -> usize
 
 // What the record at the beginning of the rest of the input is.
 fn what(room: &mut [u8; 65536], at: usize, rest: &[u8]) -> usize
-    ensures value { result ≡ past at (recordWords rest.now) }
-    ensures room_after { room.new ≡ stored room.old at (recordWords rest.now) }
+    ensures value { result ≡ past at (record_words rest.now) }
+    ensures room_after { room.new ≡ stored room.old at (record_words rest.now) }
 {
     if rest.len() == 0 {
         return text::letters(room, at, b"where the input ends");
@@ -75,7 +75,7 @@ fn what(room: &mut [u8; 65536], at: usize, rest: &[u8]) -> usize
 pub fn told(room: &mut [u8; 65536], at: usize, input: &[u8], offset: usize) -> usize
     requires roomy { roomy at 81 }
     requires offset_in_bounds { offset ≤ length input.now }
-    ensures { Told room.old room.new at result (recordText input.now offset) 81 }
+    ensures { Told room.old room.new at result (record_text input.now offset) 81 }
 {
     let word = text::letters(room, at, b"; record ");
     let number = text::number(room, word, place(input, offset) as u64);

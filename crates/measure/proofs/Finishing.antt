@@ -8,47 +8,47 @@ use native.Mathlib.Omega.{arith}
 use lib.ListN.{length, drop, take, replicate}
 use lib.Seq.{take-append_seam}
 use Rattle.rules.specs.Bus.{Bus}
-use Rattle.rules.specs.SetUp.{setUp}
+use Rattle.rules.specs.SetUp.{set_up}
 use Rattle.rules.specs.Standing.{stands}
 use Rattle.rules.proofs.Laws.{and-true}
 use Rattle.rules.proofs.Tests.{tells}
-use Rattle.rules.proofs.Standing.{stands-exactly}
-use Rattle.rules.proofs.Keeps.{keepsStanding}
+use Rattle.rules.proofs.Standing.{stands_exactly}
+use Rattle.rules.proofs.Keeps.{keeps_standing}
 use Rattle.state.specs.declared.State.{State}
 use Rattle.state.specs.declared.Arrival.{Arrival}
 use Rattle.state.specs.State.{form, meaning, padded, standing}
 use Rattle.bus.specs.declared.Report.{Report}
 use Rattle.bus.specs.declared.Stretch.{Stretch}
 use Rattle.bus.specs.declared.Totals.{Totals}
-use Rattle.bus.specs.Coded.{totalsOf}
-use Rattle.bus.specs.Stretch.{Course, most-calls, noReport, stretchForm}
+use Rattle.bus.specs.Coded.{totals_of}
+use Rattle.bus.specs.Stretch.{Course, most_calls, no_report, stretch_form}
 use Rattle.scenario.specs.declared.Scenario.{Scenario}
-use Rattle.scenario.specs.Reading.{arrival-bytes, Reading, refused, accepted, reading, scenarioForm}
+use Rattle.scenario.specs.Reading.{arrival_bytes, Reading, refused, accepted, reading, scenario_form}
 use Rattle.scenario.specs.Parts.{ArrivalsAt}
 use Rattle.scenario.proofs.Sound.{Sound, sound}
-use Rattle.listing.specs.Run.{answersOf, end_of}
+use Rattle.listing.specs.Run.{answers_of, end_of}
 use Rattle.listing.specs.declared.Play.{Play}
-use Rattle.listing.specs.Turns.{nextArrivals, answersIn, courseOf}
+use Rattle.listing.specs.Turns.{next_arrivals, answers_in, course_of}
 use Rattle.listing.proofs.Played.{Runs}
-use Rattle.listing.proofs.Handed.{fewer, totalsBy, totals-form, stretch-runs, stretch-past}
+use Rattle.listing.proofs.Handed.{fewer, totals_by, totals_of_form, stretch_runs, stretch_past}
 use Rattle.sheet.specs.declared.Run.{Run}
 use Rattle.sheet.specs.Sheet.{no_run}
-use Rattle.measure.specs.Measured.{longer, longestWait, run_of, measuredOf, measured}
+use Rattle.measure.specs.Measured.{longer, longest_wait, run_of, measured_of, measured}
 use Rattle.measure.specs.Parts.{Finishes}
-use Rattle.measure.proofs.Waits.{longer-none, none-longer, longer-of-three, longest-append}
+use Rattle.measure.proofs.Waits.{longer_none, none_longer, longer_of_three, longest_append}
 
 -- the play that has a state, an offset and steps
-abbrev pub playOf : State → ℕ → ℕ → Play
-playOf s at steps = record { state = s; at = at; steps = steps; going = true }
+abbrev pub play_of : State → ℕ → ℕ → Play
+play_of s at steps = record { state = s; at = at; steps = steps; going = true }
 
 -- and its stretch
-abbrev pub stretchOn : List ℕ → State → ℕ → ℕ → Course
-stretchOn input s at steps = courseOf (nextArrivals input at) (playOf s at steps)
+abbrev pub stretch_on : List ℕ → State → ℕ → ℕ → Course
+stretch_on input s at steps = course_of (next_arrivals input at) (play_of s at steps)
 
 module _ (input : List ℕ) (at steps longest : ℕ) (r : Run) where
   -- it finishes what is left after some reports
   abbrev Left : State → ℕ → ℕ → List Report → Type 0
-  Left s taken left reports = Finishes input s (at + arrival-bytes * taken) left (longer longest (longestWait (answersIn reports))) r
+  Left s taken left reports = Finishes input s (at + arrival_bytes * taken) left (longer longest (longest_wait (answers_in reports))) r
 
   abbrev After : Course → Type 0
   After c = Left c.state c.taken c.left c.reports
@@ -56,49 +56,49 @@ module _ (input : List ℕ) (at steps longest : ℕ) (r : Run) where
   -- and so what there was before them, where they are those of a stretch of the run
   after-runs :
       (b : Bus) (arrivals : List Arrival) (c : Course) → Runs b arrivals steps c
-      → ArrivalsAt input (at + arrival-bytes * c.taken) (drop c.taken arrivals) → After c
-      → r ≡ run_of (end_of steps b arrivals) (longer longest (longestWait (answersOf steps b arrivals)))
+      → ArrivalsAt input (at + arrival_bytes * c.taken) (drop c.taken arrivals) → After c
+      → r ≡ run_of (end_of steps b arrivals) (longer longest (longest_wait (answers_of steps b arrivals)))
   after-runs b arrivals c runs past later =
-      let rest = answersOf c.left runs.bus (drop c.taken arrivals) in
+      let rest = answers_of c.left runs.bus (drop c.taken arrivals) in
       later runs.bus (drop c.taken arrivals) runs.stands runs.state past
       ∙ ap₂ run_of
       (sym runs.end)
-      (longer-of-three longest (longestWait (answersIn c.reports)) (longestWait rest)
-      ∙ ap (longer longest) (sym (longest-append (answersIn c.reports) rest) ∙ ap longestWait (sym runs.answers)))
+      (longer_of_three longest (longest_wait (answers_in c.reports)) (longest_wait rest)
+      ∙ ap (longer longest) (sym (longest_append (answers_in c.reports) rest) ∙ ap longest_wait (sym runs.answers)))
 
-  after-stretch : (s : State) → After (stretchOn input s at steps) → Finishes input s at steps longest r
-  after-stretch s later b arrivals h is here =
-      after-runs b arrivals (stretchOn input (form b) at steps)
-      (stretch-runs input b at steps arrivals h here)
-      (stretch-past input b at steps arrivals h here)
-      (subst (λ (t : State). After (stretchOn input t at steps)) is later)
+  after_stretch : (s : State) → After (stretch_on input s at steps) → Finishes input s at steps longest r
+  after_stretch s later b arrivals h is here =
+      after-runs b arrivals (stretch_on input (form b) at steps)
+      (stretch_runs input b at steps arrivals h here)
+      (stretch_past input b at steps arrivals h here)
+      (subst (λ (t : State). After (stretch_on input t at steps)) is later)
 
   -- the same, of the stretch that the code hands back
   pub one-stretch :
-      (s : State) (x : Stretch) → x ≡ stretchForm (stretchOn input s at steps)
+      (s : State) (x : Stretch) → x ≡ stretch_form (stretch_on input s at steps)
       → Left x.state x.taken x.left (take x.made x.reports)
       → Finishes input s at steps longest r
   one-stretch s x is later =
-      let c = stretchOn input s at steps in
-      after-stretch s
+      let c = stretch_on input s at steps in
+      after_stretch s
       (subst
       (λ (l : List Report). Left c.state c.taken c.left l)
-      (take-append_seam c.reports (replicate (most-calls - length c.reports) noReport))
+      (take-append_seam c.reports (replicate (most_calls - length c.reports) no_report))
       (subst (λ (y : Stretch). Left y.state y.taken y.left (take y.made y.reports)) is later))
 
 -- the turns that are left fall
 pub turns-fall :
-    (input : List ℕ) (s : State) (at steps : ℕ) (x : Stretch) → x ≡ stretchForm (stretchOn input s at steps) → 0 < steps
-    → x.left + (length input - (at + arrival-bytes * x.taken)) < steps + (length input - at)
+    (input : List ℕ) (s : State) (at steps : ℕ) (x : Stretch) → x ≡ stretch_form (stretch_on input s at steps) → 0 < steps
+    → x.left + (length input - (at + arrival_bytes * x.taken)) < steps + (length input - at)
 turns-fall input s at steps x is some = go steps refl
   where
-    go : (n : ℕ) → steps ≡ n → x.left + (length input - (at + arrival-bytes * x.taken)) < steps + (length input - at)
+    go : (n : ℕ) → steps ≡ n → x.left + (length input - (at + arrival_bytes * x.taken)) < steps + (length input - at)
     go zero e = absurd (omega arith)
     go (suc n) e =
         subst
-        (λ (y : Stretch). y.left + (length input - (at + arrival-bytes * y.taken)) < steps + (length input - at))
+        (λ (y : Stretch). y.left + (length input - (at + arrival_bytes * y.taken)) < steps + (length input - at))
         (sym is)
-        (let f = fewer input (playOf s at steps) n e in omega arith)
+        (let f = fewer input (play_of s at steps) n e in omega arith)
 
 -- ---- the end
 
@@ -111,39 +111,39 @@ pub record Fit (t : Totals) : Type 0 where
   pub turned : t.turned < 4_294_967_296
 
 -- as those of any state do: where it stands, no more packets were sent, lost or wait than were admitted; where it does not, they are zeros
-pub totals-fit : (s : State) → Fit (totalsOf s)
-totals-fit s = go (standing s) refl
+pub totals_fit : (s : State) → Fit (totals_of s)
+totals_fit s = go (standing s) refl
   where
-    go : (t : Bool) → standing s ≡ t → Fit (totalsBy t (meaning s))
+    go : (t : Bool) → standing s ≡ t → Fit (totals_by t (meaning s))
     go true e =
-        let h = tells (stands-exactly (meaning s)) (and-true (padded s) (stands (meaning s)) e).1 in
+        let h = tells (stands_exactly (meaning s)) (and-true (padded s) (stands (meaning s)) e).1 in
         record {
-          admitted = omega (arith, h.admitted-in);
-          sent = omega (arith, h.admitted-in, h.counts);
-          lost = omega (arith, h.admitted-in, h.counts);
-          waiting = omega (arith, h.admitted-in, h.counts);
-          turned = omega (arith, h.turned-in);
+          admitted = omega (arith, h.admitted_in);
+          sent = omega (arith, h.admitted_in, h.counts);
+          lost = omega (arith, h.admitted_in, h.counts);
+          waiting = omega (arith, h.admitted_in, h.counts);
+          turned = omega (arith, h.turned_within);
         }
     go false e = record { admitted = omega arith; sent = omega arith; lost = omega arith; waiting = omega arith; turned = omega arith }
 
 -- the run that the totals of a state and a longest wait make
-abbrev pub runWith : Totals → ℕ → Run
-runWith t wait = record { admitted = t.admitted; sent = t.sent; lost = t.lost; waiting = t.waiting; turned = t.turned; wait = wait }
+abbrev pub run_with : Totals → ℕ → Run
+run_with t wait = record { admitted = t.admitted; sent = t.sent; lost = t.lost; waiting = t.waiting; turned = t.turned; wait = wait }
 
 -- it finishes a run that has no steps left
 pub at_last :
-    (input : List ℕ) (s : State) (at longest : ℕ) (t : Totals) → t ≡ totalsOf s → Finishes input s at 0 longest (runWith t longest)
+    (input : List ℕ) (s : State) (at longest : ℕ) (t : Totals) → t ≡ totals_of s → Finishes input s at 0 longest (run_with t longest)
 at_last input s at longest t e b arrivals h is here =
-    ap₂ runWith (e ∙ ap totalsOf is ∙ totals-form b h) (sym (longer-none longest))
+    ap₂ run_with (e ∙ ap totals_of is ∙ totals_of_form b h) (sym (longer_none longest))
 
 -- ---- the whole
 
-module _ (input : List ℕ) (x : Scenario) (is : x ≡ scenarioForm (reading input)) where
+module _ (input : List ℕ) (x : Scenario) (is : x ≡ scenario_form (reading input)) where
   -- a scenario that is refused
-  pub refused-measured : ¬ (x.refusal ≡ 0) → record { refusal = x.refusal; offset = x.offset; run = no_run } ≡ measured input
-  refused-measured bears = go (reading input) is
+  pub refused_measured : ¬ (x.refusal ≡ 0) → record { refusal = x.refusal; offset = x.offset; run = no_run } ≡ measured input
+  refused_measured bears = go (reading input) is
     where
-      go : (y : Reading) → x ≡ scenarioForm y → record { refusal = x.refusal; offset = x.offset; run = no_run } ≡ measuredOf y
+      go : (y : Reading) → x ≡ scenario_form y → record { refusal = x.refusal; offset = x.offset; run = no_run } ≡ measured_of y
       go (refused number offset) e = ap (λ (s : Scenario). record { refusal = s.refusal; offset = s.offset; run = no_run }) e
       go (accepted r arrivals steps) e = absurd (bears (ap (λ (s : Scenario). s.refusal) e))
 
@@ -153,7 +153,7 @@ module _ (input : List ℕ) (x : Scenario) (is : x ≡ scenarioForm (reading inp
       → record { refusal = 0; offset = 0; run = run } ≡ measured input
   accepted-measured run fine finishes = go (reading input) (sound input) is
     where
-      go : (y : Reading) → Sound input y → x ≡ scenarioForm y → record { refusal = 0; offset = 0; run = run } ≡ measuredOf y
+      go : (y : Reading) → Sound input y → x ≡ scenario_form y → record { refusal = 0; offset = 0; run = run } ≡ measured_of y
       go (refused number offset) bears e = absurd (bears (sym (ap (λ (s : Scenario). s.refusal) e) ∙ fine))
       go (accepted r arrivals steps) ok e =
           ap
@@ -162,9 +162,9 @@ module _ (input : List ℕ) (x : Scenario) (is : x ≡ scenarioForm (reading inp
           (λ (s : Scenario). Finishes input s.state s.at s.steps 0 run)
           e
           finishes
-          (setUp r).1
+          (set_up r).1
           arrivals
-          (keepsStanding.set-up r ok.0)
+          (keeps_standing.set_up_call r ok.0)
           refl
           ok.1
-          ∙ ap (run_of (end_of steps (setUp r).1 arrivals)) (none-longer (longestWait (answersOf steps (setUp r).1 arrivals))))
+          ∙ ap (run_of (end_of steps (set_up r).1 arrivals)) (none_longer (longest_wait (answers_of steps (set_up r).1 arrivals))))

@@ -6,13 +6,13 @@ use mathlib.Core.Path.{◌≡◌}
 use mathlib.Core.List.{List}
 use lib.ListN.{take}
 use Rattle.rules.specs.Lists.{count}
-use Rattle.rules.specs.SetUp.{Request, setUp}
+use Rattle.rules.specs.SetUp.{Request, set_up}
 use Rattle.state.specs.declared.Arrival.{Arrival}
 use Rattle.scenario.specs.Reading.{accepted, reading}
-use Rattle.listing.specs.Run.{answersOf}
-use Rattle.listing.specs.Worked.{worked-input, turned-input}
+use Rattle.listing.specs.Run.{answers_of}
+use Rattle.listing.specs.Worked.{worked_input, turned_input}
 use Rattle.measure.specs.Measured.{succeeded, measured, Fits}
-use Rattle.measure.specs.Examples.{finishedWith, refusedWith, later-input}
+use Rattle.measure.specs.Examples.{finished_with, refused_with, later_input}
 use Rattle.measure.proofs.Counted as Counted
 use Rattle.measure.proofs.Examples as Examples
 
@@ -23,25 +23,25 @@ fits = Counted.fits
 -- the packets sent are the successes among the answers, over which the longest wait is taken
 pub sent-are-successes :
     (input : List ℕ) (r : Request) (arrivals : List Arrival) (steps : ℕ) → reading input ≡ accepted r arrivals steps
-    → (measured input).run.sent ≡ count succeeded (answersOf steps (setUp r).1 arrivals)
+    → (measured input).run.sent ≡ count succeeded (answers_of steps (set_up r).1 arrivals)
 sent-are-successes = Counted.sent-are-successes
 
 -- a run in which nothing was sent has no wait
-pub nothing-sent : (input : List ℕ) → (measured input).run.sent ≡ 0 → (measured input).run.wait ≡ 0
-nothing-sent = Counted.nothing-sent
+pub nothing_sent : (input : List ℕ) → (measured input).run.sent ≡ 0 → (measured input).run.wait ≡ 0
+nothing_sent = Counted.nothing_sent
 
 -- the worked example of paper 01
-pub worked : measured worked-input ≡ finishedWith 3 3 0 0 0 14
+pub worked : measured worked_input ≡ finished_with 3 3 0 0 0 14
 worked = Examples.worked
 
 -- a run whose longest wait is not that of its last success
-pub longest-before-the-last : measured later-input ≡ finishedWith 4 3 0 1 0 2
-longest-before-the-last = Examples.longest-before-the-last
+pub longest_before_the_last : measured later_input ≡ finished_with 4 3 0 1 0 2
+longest_before_the_last = Examples.longest_before_the_last
 
 -- a run in which a packet is turned away
-pub one-turned-away : measured turned-input ≡ finishedWith 1 1 0 0 1 0
-one-turned-away = Examples.one-turned-away
+pub one_turned_away : measured turned_input ≡ finished_with 1 1 0 0 1 0
+one_turned_away = Examples.one_turned_away
 
 -- the worked example cut short inside its first station's record
-pub cut_short : measured (take 20 worked-input) ≡ refusedWith 18 16
+pub cut_short : measured (take 20 worked_input) ≡ refused_with 18 16
 cut_short = Examples.cut_short

@@ -3,5 +3,5 @@ use Rattle.window.specs.Determined.{Determines}
 use Rattle.window.proofs.Unique.{unique}
 use Rattle.measure.proofs.measure.Reads as measure
 
-pub measure-determined : Determines measure.Learnt
-measure-determined κs args r r' end end' = unique
+pub measure_determined : Determines measure.Learnt
+measure_determined κs args r r' end end' = unique

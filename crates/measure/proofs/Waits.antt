@@ -10,74 +10,74 @@ use lib.Seq.{take-suc}
 use Rattle.rules.specs.Probe.{Answer}
 use Rattle.bus.specs.declared.Report.{Report}
 use Rattle.bus.specs.Coded.{answer_of}
-use Rattle.bus.specs.Stretch.{noReport}
-use Rattle.listing.specs.Turns.{answersIn}
-use Rattle.measure.specs.Measured.{waitIn, longer, longestWait}
-use Rattle.measure.specs.Parts.{waitTold}
+use Rattle.bus.specs.Stretch.{no_report}
+use Rattle.listing.specs.Turns.{answers_in}
+use Rattle.measure.specs.Measured.{wait_in, longer, longest_wait}
+use Rattle.measure.specs.Parts.{wait_told}
 
 -- ---- the longer of two
 
 module _ (x y : ℕ) where
   -- as the code finds it
-  pub second-longer : x < y → y ≡ longer x y
+  pub second_longer : x < y → y ≡ longer x y
   unfolding longer
-  second-longer h = omega arith
+  second_longer h = omega arith
 
-  pub first-longer : y ≤ x → x ≡ longer x y
+  pub first_longer : y ≤ x → x ≡ longer x y
   unfolding longer
-  first-longer h = omega arith
+  first_longer h = omega arith
 
-  pub longer-below : (most : ℕ) → x < most → y < most → longer x y < most
+  pub longer_below : (most : ℕ) → x < most → y < most → longer x y < most
   unfolding longer
-  longer-below most h k = omega arith
+  longer_below most h k = omega arith
 
-pub longer-none : (x : ℕ) → longer x 0 ≡ x
+pub longer_none : (x : ℕ) → longer x 0 ≡ x
 unfolding longer
-longer-none x = omega arith
+longer_none x = omega arith
 
-pub none-longer : (x : ℕ) → longer 0 x ≡ x
+pub none_longer : (x : ℕ) → longer 0 x ≡ x
 unfolding longer
-none-longer x = omega arith
+none_longer x = omega arith
 
-pub longer-of-three : (x y z : ℕ) → longer (longer x y) z ≡ longer x (longer y z)
+pub longer_of_three : (x y z : ℕ) → longer (longer x y) z ≡ longer x (longer y z)
 unfolding longer
-longer-of-three x y z = omega arith
+longer_of_three x y z = omega arith
 
 -- ---- the longest of many
 
 -- of some answers and others
-pub longest-append : (said others : List Answer) → longestWait (said ++ others) ≡ longer (longestWait said) (longestWait others)
-longest-append [] others = sym (none-longer (longestWait others))
-longest-append (a ∷ said) others =
-    ap (longer (waitIn a)) (longest-append said others) ∙ sym (longer-of-three (waitIn a) (longestWait said) (longestWait others))
+pub longest_append : (said others : List Answer) → longest_wait (said ++ others) ≡ longer (longest_wait said) (longest_wait others)
+longest_append [] others = sym (none_longer (longest_wait others))
+longest_append (a ∷ said) others =
+    ap (longer (wait_in a)) (longest_append said others) ∙ sym (longer_of_three (wait_in a) (longest_wait said) (longest_wait others))
 
 -- of reports with one report more
-one-report :
-    (reports : List Report) (r : Report) → longestWait (answersIn (reports ++ (r ∷ []))) ≡ longer (longestWait (answersIn reports)) (waitTold r)
-one-report [] r = go r.arrival
+one_report :
+    (reports : List Report) (r : Report) → longest_wait (answers_in (reports ++ (r ∷ []))) ≡ longer (longest_wait (answers_in reports)) (wait_told r)
+one_report [] r = go r.arrival
   where
     go :
         (t : Bool)
-        → longestWait (cond t [] (answer_of r.answer ∷ []) ++ []) ≡ longer 0 (cond t 0 (waitIn (answer_of r.answer)))
-    go true = sym (none-longer 0)
-    go false = longer-none (waitIn (answer_of r.answer)) ∙ sym (none-longer (waitIn (answer_of r.answer)))
-one-report (x ∷ reports) r =
+        → longest_wait (cond t [] (answer_of r.answer ∷ []) ++ []) ≡ longer 0 (cond t 0 (wait_in (answer_of r.answer)))
+    go true = sym (none_longer 0)
+    go false = longer_none (wait_in (answer_of r.answer)) ∙ sym (none_longer (wait_in (answer_of r.answer)))
+one_report (x ∷ reports) r =
     let first = cond x.arrival [] (answer_of x.answer ∷ []) in
-    longest-append first (answersIn (reports ++ (r ∷ [])))
-    ∙ ap (longer (longestWait first)) (one-report reports r)
-    ∙ sym (longer-of-three (longestWait first) (longestWait (answersIn reports)) (waitTold r))
-    ∙ ap (λ (w : ℕ). longer w (waitTold r)) (sym (longest-append first (answersIn reports)))
+    longest_append first (answers_in (reports ++ (r ∷ [])))
+    ∙ ap (longer (longest_wait first)) (one_report reports r)
+    ∙ sym (longer_of_three (longest_wait first) (longest_wait (answers_in reports)) (wait_told r))
+    ∙ ap (λ (w : ℕ). longer w (wait_told r)) (sym (longest_append first (answers_in reports)))
 
 -- the longest wait of one before the reports and of the first of them, with one report more
 pub one_more :
-    (reports : List Report) (before longest i : ℕ) → i < length reports → longest ≡ longer before (longestWait (answersIn (take i reports)))
-    → longer longest (waitTold (get_or reports i noReport)) ≡ longer before (longestWait (answersIn (take (i + 1) reports)))
+    (reports : List Report) (before longest i : ℕ) → i < length reports → longest ≡ longer before (longest_wait (answers_in (take i reports)))
+    → longer longest (wait_told (get_or reports i no_report)) ≡ longer before (longest_wait (answers_in (take (i + 1) reports)))
 one_more reports before longest i h so_far =
-    let r = get_or reports i noReport in
-    ap (λ (w : ℕ). longer w (waitTold r)) so_far
-    ∙ longer-of-three before (longestWait (answersIn (take i reports))) (waitTold r)
+    let r = get_or reports i no_report in
+    ap (λ (w : ℕ). longer w (wait_told r)) so_far
+    ∙ longer_of_three before (longest_wait (answers_in (take i reports))) (wait_told r)
     ∙ ap
     (longer before)
-    (sym (one-report (take i reports) r)
-    ∙ ap (λ (l : List Report). longestWait (answersIn l)) (sym (take-suc reports i noReport h))
-    ∙ ap (λ (k : ℕ). longestWait (answersIn (take k reports))) (sym (add-one i)))
+    (sym (one_report (take i reports) r)
+    ∙ ap (λ (l : List Report). longest_wait (answers_in l)) (sym (take-suc reports i no_report h))
+    ∙ ap (λ (k : ℕ). longest_wait (answers_in (take k reports))) (sym (add-one i)))

@@ -5,8 +5,8 @@ use Rattle.std.specs.Prelude.{ℕ, List, [], ◌∷◌}
 use Rattle.measure.specs.Measured.{Measured}
 
 -- a scenario that is accepted, with the packets admitted, sent, lost, waiting and turned away, and the longest wait
-abbrev pub finishedWith : ℕ → ℕ → ℕ → ℕ → ℕ → ℕ → Measured
-finishedWith admitted sent lost waiting turned wait =
+abbrev pub finished_with : ℕ → ℕ → ℕ → ℕ → ℕ → ℕ → Measured
+finished_with admitted sent lost waiting turned wait =
     record {
       refusal = 0;
       offset = 0;
@@ -14,8 +14,8 @@ finishedWith admitted sent lost waiting turned wait =
     }
 
 -- a scenario that is refused: its number, the offset of what is refused, and no run
-abbrev pub refusedWith : ℕ → ℕ → Measured
-refusedWith number offset =
+abbrev pub refused_with : ℕ → ℕ → Measured
+refused_with number offset =
     record { refusal = number; offset = offset; run = record { admitted = 0; sent = 0; lost = 0; waiting = 0; turned = 0; wait = 0 } }
 
 -- Its successes wait 1, 2 and 1 slots:
@@ -25,8 +25,8 @@ refusedWith number offset =
 --     3 P 0 2 C
 --     4 P 0 1 S 0 3 1 1
 --     END 5 4 3 0 1 0
-abbrev pub later-input : List ℕ
-later-input =
+abbrev pub later_input : List ℕ
+later_input =
     -- a set-up: discipline 0 (PRI), D 2, A 2, q 1, N 2
     14 ∷ 0 ∷ 1 ∷ 0 ∷ 0 ∷ 2 ∷ 0 ∷ 0 ∷ 0 ∷ 2 ∷ 0 ∷ 0 ∷ 0 ∷ 1 ∷ 0 ∷ 2 ∷
     -- a station: address 0, capability 0

@@ -2,10 +2,10 @@
 -- of the rules' machine at the run's end, and the longest wait is over its answers. Assumes nothing.
 use Rattle.std.specs.Prelude.{ℕ, ◌<◌, max, Bool, cond, List, [], ◌∷◌, eqb}
 use Rattle.rules.specs.Bus.{Bus, waiting}
-use Rattle.rules.specs.SetUp.{setUp}
+use Rattle.rules.specs.SetUp.{set_up}
 use Rattle.rules.specs.Probe.{Answer, success}
 use Rattle.scenario.specs.Reading.{Reading, refused, accepted, reading}
-use Rattle.listing.specs.Run.{answersOf, end_of}
+use Rattle.listing.specs.Run.{answers_of, end_of}
 use Rattle.sheet.specs.declared.Run.{Run}
 use Rattle.sheet.specs.Sheet.{no_run, Balanced}
 pub use Rattle.measure.specs.declared.Measured.{Measured}
@@ -15,17 +15,17 @@ abbrev pub succeeded : Answer → Bool
 succeeded a = eqb a.event success
 
 -- the wait of a success, and 0 of any other answer
-abbrev pub waitIn : Answer → ℕ
-waitIn a = cond (succeeded a) a.wait 0
+abbrev pub wait_in : Answer → ℕ
+wait_in a = cond (succeeded a) a.wait 0
 
 -- the longer of two waits
 unfoldable pub longer : ℕ → ℕ → ℕ
 longer first second = max first second
 
 -- the longest wait of a success, and 0 if there is none
-abbrev pub longestWait : List Answer → ℕ
-longestWait [] = 0
-longestWait (a ∷ later) = longer (waitIn a) (longestWait later)
+abbrev pub longest_wait : List Answer → ℕ
+longest_wait [] = 0
+longest_wait (a ∷ later) = longer (wait_in a) (longest_wait later)
 
 -- the run that has come to a bus, with a longest wait
 abbrev pub run_of : Bus → ℕ → Run
@@ -34,17 +34,17 @@ run_of b wait =
 
 -- a finished run, from the bus at its end and the answers to its steps
 abbrev pub finished : Bus → List Answer → Run
-finished b answers = run_of b (longestWait answers)
+finished b answers = run_of b (longest_wait answers)
 
 -- 'A refused scenario': its number and offset, and no run
-abbrev pub measuredOf : Reading → Measured
-measuredOf (refused number offset) = record { refusal = number; offset = offset; run = no_run }
-measuredOf (accepted r arrivals steps) =
-    record { refusal = 0; offset = 0; run = finished (end_of steps (setUp r).1 arrivals) (answersOf steps (setUp r).1 arrivals) }
+abbrev pub measured_of : Reading → Measured
+measured_of (refused number offset) = record { refusal = number; offset = offset; run = no_run }
+measured_of (accepted r arrivals steps) =
+    record { refusal = 0; offset = 0; run = finished (end_of steps (set_up r).1 arrivals) (answers_of steps (set_up r).1 arrivals) }
 
 -- a scenario measured
 abbrev pub measured : List ℕ → Measured
-measured input = measuredOf (reading input)
+measured input = measured_of (reading input)
 
 -- a run that a sheet can have: it balances, and each of its numbers has 32 bits
 pub record Fits (x : Run) : Type 0 where

@@ -8,17 +8,17 @@ use Rattle.state.specs.State.{form}
 use Rattle.bus.specs.declared.Report.{Report}
 use Rattle.bus.specs.Coded.{answer_of}
 use Rattle.scenario.specs.Parts.{ArrivalsAt}
-use Rattle.listing.specs.Run.{answersOf, end_of}
+use Rattle.listing.specs.Run.{answers_of, end_of}
 use Rattle.sheet.specs.declared.Run.{Run}
-use Rattle.measure.specs.Measured.{waitIn, longer, longestWait, run_of}
+use Rattle.measure.specs.Measured.{wait_in, longer, longest_wait, run_of}
 
 -- the wait that a report tells: that of a success, and 0 of anything else
-abbrev pub waitTold : Report → ℕ
-waitTold r = cond r.arrival 0 (waitIn (answer_of r.answer))
+abbrev pub wait_told : Report → ℕ
+wait_told r = cond r.arrival 0 (wait_in (answer_of r.answer))
 
 -- A run that finishes what is left from a state, an offset of the input, steps and the longest wait so far: wherever the state is that of a bus
 -- that stands, and arrivals stand in the input from the offset on, it has the counts of the bus at the end, and the longest wait of all.
 abbrev pub Finishes : List ℕ → State → ℕ → ℕ → ℕ → Run → Type 0
 Finishes input s at steps longest r =
     (b : Bus) (arrivals : List Arrival) → Standing b → s ≡ form b → ArrivalsAt input at arrivals
-    → r ≡ run_of (end_of steps b arrivals) (longer longest (longestWait (answersOf steps b arrivals)))
+    → r ≡ run_of (end_of steps b arrivals) (longer longest (longest_wait (answers_of steps b arrivals)))

@@ -1,9 +1,9 @@
 // A run measured: a scenario's bytes to its finished run, or to the number and the offset of what refuses it. It plays the stretches that
 // busrun plays, and takes any input.
 ghost use Rattle.std.specs.Prelude.{◌≤◌, ◌≡◌, take};
-ghost use Rattle.listing.specs.Turns.{answersIn};
-ghost use Rattle.measure.specs.Measured.{longer, longestWait, measured};
-ghost use Rattle.measure.specs.Parts.{waitTold, Finishes};
+ghost use Rattle.listing.specs.Turns.{answers_in};
+ghost use Rattle.measure.specs.Measured.{longer, longest_wait, measured};
+ghost use Rattle.measure.specs.Parts.{wait_told, Finishes};
 
 use bus::{Report, Stretch};
 use scenario::ARRIVAL_BYTES;
@@ -23,7 +23,7 @@ pub struct Measured {
 
 // The wait that a report tells: that of a success, and 0 of anything else.
 fn wait_told(report: Report) -> u32
-    ensures { result ≡ waitTold report }
+    ensures { result ≡ wait_told report }
 {
     if report.arrival {
         return 0;
@@ -49,7 +49,7 @@ fn longer(first: u32, second: u32) -> u32
 // the whole stretch.
 fn longest_in(stretch: Stretch, before: u32) -> u32
     requires { stretch.made ≤ 512 }
-    ensures { result ≡ longer before (longestWait (answersIn (take stretch.made stretch.reports))) }
+    ensures { result ≡ longer before (longest_wait (answers_in (take stretch.made stretch.reports))) }
 {
     let made = stretch.made;
     let reports = stretch.reports;

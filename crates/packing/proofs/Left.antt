@@ -7,18 +7,18 @@ use native.Mathlib.Numerals.{add-one}
 use native.Mathlib.Omega.{arith}
 use lib.ListN.{length, get_or, take, drop, length-take, length-append}
 use lib.Seq.{drop-cons, get_or-take}
-use Rattle.text.specs.Room.{room-bytes, stored, past}
+use Rattle.text.specs.Room.{room_bytes, stored, past}
 use Rattle.text.specs.Parts.{roomy}
-use Rattle.text.proofs.Stores.{past_fits, stored-fits, past-not, stored-not, past-then, stored-then}
+use Rattle.text.proofs.Stores.{past_fits, stored_fits, past_not, stored_not, past_then, stored-then}
 use Rattle.rules.specs.SetUp.{Request}
 use Rattle.state.specs.declared.Arrival.{Arrival}
-use Rattle.scenario.specs.Format.{setUpKind}
-use Rattle.scenario.specs.Writing.{recordBytes, setUpValues, stationsBytes, endingBytes, written}
+use Rattle.scenario.specs.Format.{set_up_kind}
+use Rattle.scenario.specs.Writing.{record_bytes, set_up_values, stations_bytes, ending_bytes, written}
 
 -- a text that does not fit: the offset and the room as they were
-pub none-stored :
-    (room : List ℕ) (at : ℕ) (text : List ℕ) → room-bytes < at + length text → (at ≡ past at text) × (room ≡ stored room at text)
-none-stored room at text h = (sym (past-not at text h), sym (stored-not room at text h))
+pub none_stored :
+    (room : List ℕ) (at : ℕ) (text : List ℕ) → room_bytes < at + length text → (at ≡ past at text) × (room ≡ stored room at text)
+none_stored room at text h = (sym (past_not at text h), sym (stored_not room at text h))
 
 -- a text is being stored in a room from an offset on, and a rest of it, which fits, is left: the rest, stored in the room as it is now from the
 -- next offset on, leaves the room and the offset that the whole text does
@@ -28,8 +28,8 @@ pub record Left (before : List ℕ) (at : ℕ) (text now : List ℕ) (next : ℕ
   pub room : stored now next rest ≡ stored before at text
 
 -- first all of it
-pub left-all : (room : List ℕ) (at : ℕ) (text : List ℕ) → roomy at (length text) → Left room at text room at text
-left-all room at text h = record { fits = h; offset = refl; room = refl }
+pub left_all : (room : List ℕ) (at : ℕ) (text : List ℕ) → roomy at (length text) → Left room at text room at text
+left_all room at text h = record { fits = h; offset = refl; room = refl }
 
 -- a part less, once it is stored
 pub left_less :
@@ -40,7 +40,7 @@ left_less {now = now} {next = next} x rest left said =
     let h : roomy next (length x + length rest) = omega (arith, left.fits) in
     record {
       fits = omega (arith, said.0, past_fits next x (omega arith));
-      offset = rw said.0 (past-then next x rest h ∙ left.offset);
+      offset = rw said.0 (past_then next x rest h ∙ left.offset);
       room = ap₂ (λ (l : List ℕ) n. stored l n rest) said.1 said.0 ∙ stored-then now next x rest h ∙ left.room;
     }
 
@@ -51,11 +51,11 @@ pub left-last :
 left-last left said = (said.0 ∙ left.offset, said.1 ∙ left.room)
 
 -- nothing
-pub left-none :
+pub left_none :
     {before : List ℕ} {at : ℕ} {text now : List ℕ} {next : ℕ} → Left before at text now next []
     → (next ≡ past at text) × (now ≡ stored before at text)
-left-none {now = now} {next = next} left =
-    left-last left (sym (past_fits next [] left.fits ∙ add-zero next), sym (stored-fits now next [] left.fits))
+left_none {now = now} {next = next} left =
+    left-last left (sym (past_fits next [] left.fits ∙ add-zero next), sym (stored_fits now next [] left.fits))
 
 -- what is left of the first so many elements from a place on: the element there, and what is left from the next place on
 pub next-left :
@@ -73,11 +73,11 @@ next-left row n i d h =
 pub whole-stored :
     (room : List ℕ) (at : ℕ) (r : Request) (arrivals : List Arrival) (steps : ℕ) {m n o : ℕ} {a b c : List ℕ}
     → roomy at (length (written r arrivals steps))
-    → (m ≡ past at (recordBytes setUpKind (setUpValues r))) × (a ≡ stored room at (recordBytes setUpKind (setUpValues r)))
-    → (n ≡ past m (stationsBytes r.row)) × (b ≡ stored a m (stationsBytes r.row))
-    → (o ≡ past n (endingBytes arrivals steps)) × (c ≡ stored b n (endingBytes arrivals steps))
+    → (m ≡ past at (record_bytes set_up_kind (set_up_values r))) × (a ≡ stored room at (record_bytes set_up_kind (set_up_values r)))
+    → (n ≡ past m (stations_bytes r.row)) × (b ≡ stored a m (stations_bytes r.row))
+    → (o ≡ past n (ending_bytes arrivals steps)) × (c ≡ stored b n (ending_bytes arrivals steps))
     → (o ≡ past at (written r arrivals steps)) × (c ≡ stored room at (written r arrivals steps))
 whole-stored room at r arrivals steps h first second third =
-    let all = left-all room at (written r arrivals steps) h in
-    let listed = left_less (recordBytes setUpKind (setUpValues r)) (stationsBytes r.row ++ endingBytes arrivals steps) all first in
-    left-last (left_less (stationsBytes r.row) (endingBytes arrivals steps) listed second) third
+    let all = left_all room at (written r arrivals steps) h in
+    let listed = left_less (record_bytes set_up_kind (set_up_values r)) (stations_bytes r.row ++ ending_bytes arrivals steps) all first in
+    left-last (left_less (stations_bytes r.row) (ending_bytes arrivals steps) listed second) third

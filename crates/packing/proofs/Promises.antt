@@ -5,48 +5,48 @@ use Prim.Native.Nat.{ℕ, ◌+◌, ◌*◌, ◌≤◌}
 use mathlib.Core.Path.{◌≡◌, refl}
 use mathlib.Core.List.{List}
 use lib.ListN.{length}
-use Rattle.text.specs.Room.{room-bytes, stored, past}
+use Rattle.text.specs.Room.{room_bytes, stored, past}
 use Rattle.rules.specs.SetUp.{Asked, Request}
 use Rattle.state.specs.declared.Settings.{Settings}
 use Rattle.state.specs.declared.Listed.{Listed}
 use Rattle.state.specs.declared.Arrival.{Arrival}
-use Rattle.state.specs.SetUp.{asked_of, requestWith}
-use Rattle.scenario.specs.Format.{setUpKind, stationKind, arrivalKind, runKind}
-use Rattle.scenario.specs.Writing.{recordBytes, setUpValues, stationValues, arrivalValues, runValues, stationsBytes, endingBytes, written}
-use Rattle.packing.specs.Packing.{settingsValues, listedValues}
+use Rattle.state.specs.SetUp.{asked_of, request_with}
+use Rattle.scenario.specs.Format.{set_up_kind, station_kind, arrival_kind, run_kind}
+use Rattle.scenario.specs.Writing.{record_bytes, set_up_values, station_values, arrival_values, run_values, stations_bytes, ending_bytes, written}
+use Rattle.packing.specs.Packing.{settings_values, listed_values}
 use Rattle.packing.proofs.Sizes as Sizes
 use Rattle.packing.proofs.Left as Left
 
 -- ---- what is written is what is asked for
 
 -- the values of the code's settings and stations are those of the set-up that they ask for
-pub settings-asked : (g : Settings) (row : List Asked) → settingsValues g ≡ setUpValues (requestWith g row)
-settings-asked g row = refl
+pub settings_asked : (g : Settings) (row : List Asked) → settings_values g ≡ set_up_values (request_with g row)
+settings_asked g row = refl
 
-pub listed-asked : (l : Listed) → listedValues l ≡ stationValues (asked_of l)
-listed-asked l = refl
+pub listed_asked : (l : Listed) → listed_values l ≡ station_values (asked_of l)
+listed_asked l = refl
 
 -- ---- how many bytes
 
 -- a record of each kind
-pub set-up-size : (g : Settings) → length (recordBytes setUpKind (settingsValues g)) ≡ 16
-set-up-size g = refl
+pub set_up_size : (g : Settings) → length (record_bytes set_up_kind (settings_values g)) ≡ 16
+set_up_size g = refl
 
-pub station-size : (l : Listed) → length (recordBytes stationKind (listedValues l)) ≡ 8
-station-size l = refl
+pub station_size : (l : Listed) → length (record_bytes station_kind (listed_values l)) ≡ 8
+station_size l = refl
 
-pub arrival-size : (a : Arrival) → length (recordBytes arrivalKind (arrivalValues a)) ≡ 16
-arrival-size a = refl
+pub arrival_size : (a : Arrival) → length (record_bytes arrival_kind (arrival_values a)) ≡ 16
+arrival_size a = refl
 
-pub run-size : (steps : ℕ) → length (recordBytes runKind (runValues steps)) ≡ 6
-run-size steps = refl
+pub run_size : (steps : ℕ) → length (record_bytes run_kind (run_values steps)) ≡ 6
+run_size steps = refl
 
 -- stations, an ending, and a whole scenario
-pub stations-size : (row : List Asked) → length (stationsBytes row) ≡ 8 * length row
-stations-size = Sizes.stations-size
+pub stations_size : (row : List Asked) → length (stations_bytes row) ≡ 8 * length row
+stations_size = Sizes.stations_size
 
-pub ending-size : (arrivals : List Arrival) (steps : ℕ) → length (endingBytes arrivals steps) ≡ 16 * length arrivals + 6
-ending-size = Sizes.ending-size
+pub ending_size : (arrivals : List Arrival) (steps : ℕ) → length (ending_bytes arrivals steps) ≡ 16 * length arrivals + 6
+ending_size = Sizes.ending_size
 
 pub written-size :
     (r : Request) (arrivals : List Arrival) (steps : ℕ)
@@ -58,9 +58,9 @@ written-size = Sizes.written-size
 -- its set-up, its stations and its ending, each stored past the one before, are the whole, which fits
 pub whole-stored :
     (room : List ℕ) (at : ℕ) (r : Request) (arrivals : List Arrival) (steps : ℕ) {m n o : ℕ} {a b c : List ℕ}
-    → at + length (written r arrivals steps) ≤ room-bytes
-    → (m ≡ past at (recordBytes setUpKind (setUpValues r))) × (a ≡ stored room at (recordBytes setUpKind (setUpValues r)))
-    → (n ≡ past m (stationsBytes r.row)) × (b ≡ stored a m (stationsBytes r.row))
-    → (o ≡ past n (endingBytes arrivals steps)) × (c ≡ stored b n (endingBytes arrivals steps))
+    → at + length (written r arrivals steps) ≤ room_bytes
+    → (m ≡ past at (record_bytes set_up_kind (set_up_values r))) × (a ≡ stored room at (record_bytes set_up_kind (set_up_values r)))
+    → (n ≡ past m (stations_bytes r.row)) × (b ≡ stored a m (stations_bytes r.row))
+    → (o ≡ past n (ending_bytes arrivals steps)) × (c ≡ stored b n (ending_bytes arrivals steps))
     → (o ≡ past at (written r arrivals steps)) × (c ≡ stored room at (written r arrivals steps))
 whole-stored = Left.whole-stored

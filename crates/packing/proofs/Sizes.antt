@@ -8,25 +8,25 @@ use Rattle.rules.specs.SetUp.{Asked, Request}
 use Rattle.state.specs.declared.Arrival.{Arrival}
 use Rattle.state.specs.declared.Listed.{Listed}
 use Rattle.state.specs.SetUp.{asked_of}
-use Rattle.scenario.specs.Writing.{stationsBytes, endingBytes, written}
+use Rattle.scenario.specs.Writing.{stations_bytes, ending_bytes, written}
 
 -- stations
-pub stations-size : (row : List Asked) → length (stationsBytes row) ≡ 8 * length row
-stations-size [] = refl
-stations-size (s ∷ row) = omega (arith, stations-size row)
+pub stations_size : (row : List Asked) → length (stations_bytes row) ≡ 8 * length row
+stations_size [] = refl
+stations_size (s ∷ row) = omega (arith, stations_size row)
 
 -- the first n stations of the code's row
-pub listed-size : (row : List Listed) (n : ℕ) → length (stationsBytes (map asked_of (take n row))) ≡ 8 * min n (length row)
-listed-size row n = stations-size (map asked_of (take n row)) ∙ ap (λ k. 8 * k) (length-map (take n row) asked_of ∙ length-take n row)
+pub listed_size : (row : List Listed) (n : ℕ) → length (stations_bytes (map asked_of (take n row))) ≡ 8 * min n (length row)
+listed_size row n = stations_size (map asked_of (take n row)) ∙ ap (λ k. 8 * k) (length-map (take n row) asked_of ∙ length-take n row)
 
 -- arrivals and a run
-pub ending-size : (arrivals : List Arrival) (steps : ℕ) → length (endingBytes arrivals steps) ≡ 16 * length arrivals + 6
-ending-size [] steps = refl
-ending-size (a ∷ arrivals) steps = omega (arith, ending-size arrivals steps)
+pub ending_size : (arrivals : List Arrival) (steps : ℕ) → length (ending_bytes arrivals steps) ≡ 16 * length arrivals + 6
+ending_size [] steps = refl
+ending_size (a ∷ arrivals) steps = omega (arith, ending_size arrivals steps)
 
 -- the first so many arrivals, and a run
-pub arrived-size : (arrivals : List Arrival) (count steps : ℕ) → length (endingBytes (take count arrivals) steps) ≡ 16 * min count (length arrivals) + 6
-arrived-size arrivals count steps = ending-size (take count arrivals) steps ∙ ap (λ k. 16 * k + 6) (length-take count arrivals)
+pub arrived_size : (arrivals : List Arrival) (count steps : ℕ) → length (ending_bytes (take count arrivals) steps) ≡ 16 * min count (length arrivals) + 6
+arrived_size arrivals count steps = ending_size (take count arrivals) steps ∙ ap (λ k. 16 * k + 6) (length-take count arrivals)
 
 -- a whole scenario
 pub written-size :
@@ -35,7 +35,7 @@ pub written-size :
 written-size r arrivals steps =
     omega (
       arith,
-      length-append (stationsBytes r.row) (endingBytes arrivals steps),
-      stations-size r.row,
-      ending-size arrivals steps,
+      length-append (stations_bytes r.row) (ending_bytes arrivals steps),
+      stations_size r.row,
+      ending_size arrivals steps,
     )

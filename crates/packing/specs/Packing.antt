@@ -5,9 +5,9 @@ use Rattle.state.specs.declared.Settings.{Settings}
 use Rattle.state.specs.declared.Listed.{Listed}
 
 -- 'discipline, D, A, q, N'
-abbrev pub settingsValues : Settings → List ℕ
-settingsValues g = g.discipline ∷ g.d ∷ g.a ∷ g.q ∷ g.n ∷ []
+abbrev pub settings_values : Settings → List ℕ
+settings_values g = g.discipline ∷ g.d ∷ g.a ∷ g.q ∷ g.n ∷ []
 
 -- 'address, capability'
-abbrev pub listedValues : Listed → List ℕ
-listedValues l = l.address.0 ∷ l.capability.0 ∷ []
+abbrev pub listed_values : Listed → List ℕ
+listed_values l = l.address.0 ∷ l.capability.0 ∷ []

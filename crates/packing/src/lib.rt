@@ -3,11 +3,11 @@
 // as it was. A number above what its field holds is cut to its low bytes. Every function takes any input.
 ghost use Rattle.std.specs.Prelude.{min, ◌≡◌, map, take};
 ghost use Rattle.text.specs.Room.{stored, past};
-ghost use Rattle.rules.specs.Bus.{most-stations};
+ghost use Rattle.rules.specs.Bus.{most_stations};
 ghost use Rattle.state.specs.SetUp.{asked_of};
-ghost use Rattle.scenario.specs.Format.{setUpKind, stationKind, arrivalKind, runKind};
-ghost use Rattle.scenario.specs.Writing.{recordBytes, arrivalValues, runValues, stationsBytes, endingBytes};
-ghost use Rattle.packing.specs.Packing.{settingsValues, listedValues};
+ghost use Rattle.scenario.specs.Format.{set_up_kind, station_kind, arrival_kind, run_kind};
+ghost use Rattle.scenario.specs.Writing.{record_bytes, arrival_values, run_values, stations_bytes, ending_bytes};
+ghost use Rattle.packing.specs.Packing.{settings_values, listed_values};
 
 use scenario::ARRIVAL_BYTES;
 use state::{Arrival, Listed, Settings};
@@ -44,8 +44,8 @@ const MOST_ARRIVALS: usize = 4096;
 
 // 'discipline 1, D 4, A 4, q 2, N 1'
 pub fn set_up(room: &mut [u8; 65536], at: usize, settings: Settings) -> usize
-    ensures value { result ≡ past at (recordBytes setUpKind (settingsValues settings)) }
-    ensures room_after { room.new ≡ stored room.old at (recordBytes setUpKind (settingsValues settings)) }
+    ensures value { result ≡ past at (record_bytes set_up_kind (settings_values settings)) }
+    ensures room_after { room.new ≡ stored room.old at (record_bytes set_up_kind (settings_values settings)) }
 {
     let bytes = [
         SET_UP_LENGTH,
@@ -70,8 +70,8 @@ pub fn set_up(room: &mut [u8; 65536], at: usize, settings: Settings) -> usize
 
 // 'address 2, capability 2'
 pub fn station(room: &mut [u8; 65536], at: usize, listed: Listed) -> usize
-    ensures value { result ≡ past at (recordBytes stationKind (listedValues listed)) }
-    ensures room_after { room.new ≡ stored room.old at (recordBytes stationKind (listedValues listed)) }
+    ensures value { result ≡ past at (record_bytes station_kind (listed_values listed)) }
+    ensures room_after { room.new ≡ stored room.old at (record_bytes station_kind (listed_values listed)) }
 {
     let bytes = [
         STATION_LENGTH,
@@ -88,8 +88,8 @@ pub fn station(room: &mut [u8; 65536], at: usize, listed: Listed) -> usize
 
 // 'time 4, address 2, value 4, packet length 2'
 pub fn arrival(room: &mut [u8; 65536], at: usize, arrival: Arrival) -> usize
-    ensures value { result ≡ past at (recordBytes arrivalKind (arrivalValues arrival)) }
-    ensures room_after { room.new ≡ stored room.old at (recordBytes arrivalKind (arrivalValues arrival)) }
+    ensures value { result ≡ past at (record_bytes arrival_kind (arrival_values arrival)) }
+    ensures room_after { room.new ≡ stored room.old at (record_bytes arrival_kind (arrival_values arrival)) }
 {
     let bytes = [
         ARRIVAL_LENGTH,
@@ -114,8 +114,8 @@ pub fn arrival(room: &mut [u8; 65536], at: usize, arrival: Arrival) -> usize
 
 // 'steps 2'
 pub fn run(room: &mut [u8; 65536], at: usize, steps: u32) -> usize
-    ensures value { result ≡ past at (recordBytes runKind (runValues steps)) }
-    ensures room_after { room.new ≡ stored room.old at (recordBytes runKind (runValues steps)) }
+    ensures value { result ≡ past at (record_bytes run_kind (run_values steps)) }
+    ensures room_after { room.new ≡ stored room.old at (record_bytes run_kind (run_values steps)) }
 {
     let bytes = [
         RUN_LENGTH,
@@ -130,7 +130,7 @@ pub fn run(room: &mut [u8; 65536], at: usize, steps: u32) -> usize
 
 // A count of stations above 64 means 64.
 fn at_most(n: usize) -> usize
-    ensures { result ≡ min n most-stations }
+    ensures { result ≡ min n most_stations }
 {
     if MOST_STATIONS < n {
         return MOST_STATIONS;
@@ -140,8 +140,8 @@ fn at_most(n: usize) -> usize
 
 // The records of the first n stations, in order; n above 64 means 64.
 pub fn stations(room: &mut [u8; 65536], at: usize, stations: [Listed; 64], n: usize) -> usize
-    ensures value { result ≡ past at (stationsBytes (map asked_of (take n stations))) }
-    ensures room_after { room.new ≡ stored room.old at (stationsBytes (map asked_of (take n stations))) }
+    ensures value { result ≡ past at (stations_bytes (map asked_of (take n stations))) }
+    ensures room_after { room.new ≡ stored room.old at (stations_bytes (map asked_of (take n stations))) }
 {
     let listed = at_most(n);
     if at > ROOM_BYTES - STATION_BYTES * listed {
@@ -162,8 +162,8 @@ pub fn ending(
     count: usize,
     steps: u32,
 ) -> usize
-    ensures value { result ≡ past at (endingBytes (take count arrivals) steps) }
-    ensures room_after { room.new ≡ stored room.old at (endingBytes (take count arrivals) steps) }
+    ensures value { result ≡ past at (ending_bytes (take count arrivals) steps) }
+    ensures room_after { room.new ≡ stored room.old at (ending_bytes (take count arrivals) steps) }
 {
     if count >= MOST_ARRIVALS {
         return at;

@@ -3,17 +3,17 @@ use mathlib.Core.Path.{◌≡◌, refl}
 use mathlib.Core.List.{[]}
 use Rattle.sheet.specs.Sheet.{drawn}
 use Rattle.text.specs.Text.{decimal}
-use Rattle.page.specs.Page.{shown, sheetText}
-use Rattle.page.specs.Examples.{page-sheet, page-says, page-bytes, whole-bytes, empty-bytes}
+use Rattle.page.specs.Page.{shown, sheet_text}
+use Rattle.page.specs.Examples.{page_sheet, page_says, page_bytes, whole_bytes, empty_bytes}
 
-pub page-holds : page-says ≡ page-bytes
+pub page_holds : page_says ≡ page_bytes
 unfolding decimal shown
-page-holds = refl
+page_holds = refl
 
-pub whole-holds : sheetText page-sheet ≡ whole-bytes
+pub whole_holds : sheet_text page_sheet ≡ whole_bytes
 unfolding decimal shown
-whole-holds = refl
+whole_holds = refl
 
-pub empty_holds : sheetText (drawn [] 0).sheet ≡ empty-bytes
+pub empty_holds : sheet_text (drawn [] 0).sheet ≡ empty_bytes
 unfolding decimal shown
 empty_holds = refl

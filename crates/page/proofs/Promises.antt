@@ -4,26 +4,26 @@ use Prim.Native.Nat.{ℕ, ◌≤◌}
 use mathlib.Core.Path.{◌≡◌}
 use mathlib.Core.List.{List, []}
 use lib.ListN.{length}
-use Rattle.text.specs.Room.{room-bytes, roomWith}
+use Rattle.text.specs.Room.{room_bytes, room_with}
 use Rattle.sheet.specs.Sheet.{drawn}
-use Rattle.page.specs.Page.{sheetText}
-use Rattle.page.specs.Examples.{page-sheet, page-says, page-bytes, whole-bytes, empty-bytes}
+use Rattle.page.specs.Page.{sheet_text}
+use Rattle.page.specs.Examples.{page_sheet, page_says, page_bytes, whole_bytes, empty_bytes}
 use Rattle.page.proofs.Told as Told
 use Rattle.page.proofs.Examples as Examples
 
 -- what a function puts at the start of the room is in it, and the room stays as long as it is
 pub text-within :
-    (x a : List ℕ) {b : List ℕ} {n : ℕ} → room-bytes ≡ length a → (n ≡ length x) × ((b ≡ roomWith x a) × (n ≤ room-bytes))
-    → (room-bytes ≡ length b) × (n ≤ length b)
+    (x a : List ℕ) {b : List ℕ} {n : ℕ} → room_bytes ≡ length a → (n ≡ length x) × ((b ≡ room_with x a) × (n ≤ room_bytes))
+    → (room_bytes ≡ length b) × (n ≤ length b)
 text-within = Told.text-within
 
 -- the page of docs/SHEET.md, byte for byte
-pub page-holds : page-says ≡ page-bytes
-page-holds = Examples.page-holds
+pub page_holds : page_says ≡ page_bytes
+page_holds = Examples.page_holds
 
 -- whole texts, with places for names: of the same two runs, and of no run
-pub whole-holds : sheetText page-sheet ≡ whole-bytes
-whole-holds = Examples.whole-holds
+pub whole_holds : sheet_text page_sheet ≡ whole_bytes
+whole_holds = Examples.whole_holds
 
-pub empty_holds : sheetText (drawn [] 0).sheet ≡ empty-bytes
+pub empty_holds : sheet_text (drawn [] 0).sheet ≡ empty_bytes
 empty_holds = Examples.empty_holds

@@ -7,26 +7,26 @@ use Rattle.page.proofs.line.Reads as line
 use Rattle.page.proofs.closing.Reads as closing
 use Rattle.page.proofs.write.Reads as write
 
-pub heading-determined : Determines heading.Learnt
-heading-determined κs args r r' end end' p q = unique p.0 q.0
+pub heading_determined : Determines heading.Learnt
+heading_determined κs args r r' end end' p q = unique p.0 q.0
 
-pub heading-room-determined : DeterminesBytes heading.Learnt (λ κs end. end.0.now)
-heading-room-determined κs args r r' end end' p q = unique p.1.0 q.1.0
+pub heading_room_determined : DeterminesBytes heading.Learnt (λ κs end. end.0.now)
+heading_room_determined κs args r r' end end' p q = unique p.1.0 q.1.0
 
-pub line-determined : Determines line.Learnt
-line-determined κs args r r' end end' p q = unique p.0 q.0
+pub line_determined : Determines line.Learnt
+line_determined κs args r r' end end' p q = unique p.0 q.0
 
-pub line-room-determined : DeterminesBytes line.Learnt (λ κs end. end.1.1.0.now)
-line-room-determined κs args r r' end end' p q = unique p.1.0 q.1.0
+pub line_room_determined : DeterminesBytes line.Learnt (λ κs end. end.1.1.0.now)
+line_room_determined κs args r r' end end' p q = unique p.1.0 q.1.0
 
-pub closing-determined : Determines closing.Learnt
-closing-determined κs args r r' end end' p q = unique p.0 q.0
+pub closing_determined : Determines closing.Learnt
+closing_determined κs args r r' end end' p q = unique p.0 q.0
 
-pub closing-room-determined : DeterminesBytes closing.Learnt (λ κs end. end.1.1.1.0.now)
-closing-room-determined κs args r r' end end' p q = unique p.1.0 q.1.0
+pub closing_room_determined : DeterminesBytes closing.Learnt (λ κs end. end.1.1.1.0.now)
+closing_room_determined κs args r r' end end' p q = unique p.1.0 q.1.0
 
-pub write-determined : Determines write.Learnt
-write-determined κs args r r' end end' p q = unique p.0 q.0
+pub write_determined : Determines write.Learnt
+write_determined κs args r r' end end' p q = unique p.0 q.0
 
-pub write-room-determined : DeterminesBytes write.Learnt (λ κs end. end.1.0.now)
-write-room-determined κs args r r' end end' p q = unique p.1.0 q.1.0
+pub write_room_determined : DeterminesBytes write.Learnt (λ κs end. end.1.0.now)
+write_room_determined κs args r r' end end' p q = unique p.1.0 q.1.0

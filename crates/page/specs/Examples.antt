@@ -4,7 +4,7 @@ use Rattle.sheet.specs.declared.Run.{Run}
 use Rattle.sheet.specs.declared.Sheet.{Sheet}
 use Rattle.sheet.specs.Sheet.{drawn}
 use Rattle.sheet.specs.Examples.{run}
-use Rattle.page.specs.Page.{headingText, lineText, closingText}
+use Rattle.page.specs.Page.{heading_text, line_text, closing_text}
 use Rattle.page.specs.declared.Entry.TheVariants as Has
 
 abbrev worked : List ℕ
@@ -20,31 +20,31 @@ abbrev missing : List ℕ
 missing = 109 ∷ 105 ∷ 115 ∷ 115 ∷ 105 ∷ 110 ∷ 103 ∷ []
 
 -- the runs that are drawn
-abbrev pub page-runs : List Run
-page-runs = run 3 3 0 0 0 14 ∷ run 12 5 7 0 4 9 ∷ []
+abbrev pub page_runs : List Run
+page_runs = run 3 3 0 0 0 14 ∷ run 12 5 7 0 4 9 ∷ []
 
-abbrev pub page-sheet : Sheet
-page-sheet = (drawn page-runs 2).sheet
+abbrev pub page_sheet : Sheet
+page_sheet = (drawn page_runs 2).sheet
 
-abbrev pub page-says : List ℕ
-page-says =
-    headingText
-    ++ (lineText (Has.Run (run 3 3 0 0 0 14)) worked
-    ++ (lineText (Has.Run (run 12 5 7 0 4 9)) crowded
-    ++ (lineText (Has.Refused (record { number = 20; offset = 32 })) cut
-    ++ (lineText Has.Unread missing
-    ++ closingText page-sheet.sums page-sheet.highest crowded))))
+abbrev pub page_says : List ℕ
+page_says =
+    heading_text
+    ++ (line_text (Has.Run (run 3 3 0 0 0 14)) worked
+    ++ (line_text (Has.Run (run 12 5 7 0 4 9)) crowded
+    ++ (line_text (Has.Refused (record { number = 20; offset = 32 })) cut
+    ++ (line_text Has.Unread missing
+    ++ closing_text page_sheet.sums page_sheet.highest crowded))))
 
 -- the heading
-abbrev pub heading-bytes : List ℕ
-heading-bytes =
+abbrev pub heading_bytes : List ℕ
+heading_bytes =
     --    admitted       sent       lost    waiting turned away longest wait  run
     32 ∷ 32 ∷ 32 ∷ 97 ∷ 100 ∷ 109 ∷ 105 ∷ 116 ∷ 116 ∷ 101 ∷ 100 ∷ 32 ∷ 32 ∷ 32 ∷ 32 ∷ 32 ∷ 32 ∷ 32 ∷ 115 ∷ 101 ∷ 110 ∷ 116 ∷ 32 ∷ 32 ∷ 32 ∷ 32 ∷ 32 ∷ 32 ∷ 32 ∷ 108 ∷ 111 ∷ 115 ∷ 116 ∷ 32 ∷ 32 ∷ 32 ∷ 32 ∷ 119 ∷ 97 ∷ 105 ∷ 116 ∷ 105 ∷ 110 ∷ 103 ∷ 32 ∷ 116 ∷ 117 ∷ 114 ∷ 110 ∷ 101 ∷ 100 ∷ 32 ∷ 97 ∷ 119 ∷ 97 ∷ 121 ∷ 32 ∷ 108 ∷ 111 ∷ 110 ∷ 103 ∷ 101 ∷ 115 ∷ 116 ∷ 32 ∷ 119 ∷ 97 ∷ 105 ∷ 116 ∷ 32 ∷ 32 ∷ 114 ∷ 117 ∷ 110 ∷ 10 ∷
     []
 
-abbrev pub page-bytes : List ℕ
-page-bytes =
-    heading-bytes ++
+abbrev pub page_bytes : List ℕ
+page_bytes =
+    heading_bytes ++
     --           3          3          0          0           0           14  worked
     32 ∷ 32 ∷ 32 ∷ 32 ∷ 32 ∷ 32 ∷ 32 ∷ 32 ∷ 32 ∷ 32 ∷ 51 ∷ 32 ∷ 32 ∷ 32 ∷ 32 ∷ 32 ∷ 32 ∷ 32 ∷ 32 ∷ 32 ∷ 32 ∷ 51 ∷ 32 ∷ 32 ∷ 32 ∷ 32 ∷ 32 ∷ 32 ∷ 32 ∷ 32 ∷ 32 ∷ 32 ∷ 48 ∷ 32 ∷ 32 ∷ 32 ∷ 32 ∷ 32 ∷ 32 ∷ 32 ∷ 32 ∷ 32 ∷ 32 ∷ 48 ∷ 32 ∷ 32 ∷ 32 ∷ 32 ∷ 32 ∷ 32 ∷ 32 ∷ 32 ∷ 32 ∷ 32 ∷ 32 ∷ 48 ∷ 32 ∷ 32 ∷ 32 ∷ 32 ∷ 32 ∷ 32 ∷ 32 ∷ 32 ∷ 32 ∷ 32 ∷ 32 ∷ 49 ∷ 52 ∷ 32 ∷ 32 ∷ 119 ∷ 111 ∷ 114 ∷ 107 ∷ 101 ∷ 100 ∷ 10 ∷
     --          12          5          7          0           4            9  crowded
@@ -60,9 +60,9 @@ page-bytes =
     []
 
 -- the same runs with their places for names
-abbrev pub whole-bytes : List ℕ
-whole-bytes =
-    heading-bytes ++
+abbrev pub whole_bytes : List ℕ
+whole_bytes =
+    heading_bytes ++
     --           3          3          0          0           0           14  1
     32 ∷ 32 ∷ 32 ∷ 32 ∷ 32 ∷ 32 ∷ 32 ∷ 32 ∷ 32 ∷ 32 ∷ 51 ∷ 32 ∷ 32 ∷ 32 ∷ 32 ∷ 32 ∷ 32 ∷ 32 ∷ 32 ∷ 32 ∷ 32 ∷ 51 ∷ 32 ∷ 32 ∷ 32 ∷ 32 ∷ 32 ∷ 32 ∷ 32 ∷ 32 ∷ 32 ∷ 32 ∷ 48 ∷ 32 ∷ 32 ∷ 32 ∷ 32 ∷ 32 ∷ 32 ∷ 32 ∷ 32 ∷ 32 ∷ 32 ∷ 48 ∷ 32 ∷ 32 ∷ 32 ∷ 32 ∷ 32 ∷ 32 ∷ 32 ∷ 32 ∷ 32 ∷ 32 ∷ 32 ∷ 48 ∷ 32 ∷ 32 ∷ 32 ∷ 32 ∷ 32 ∷ 32 ∷ 32 ∷ 32 ∷ 32 ∷ 32 ∷ 32 ∷ 49 ∷ 52 ∷ 32 ∷ 32 ∷ 49 ∷ 10 ∷
     --          12          5          7          0           4            9  2
@@ -74,9 +74,9 @@ whole-bytes =
     []
 
 -- no run: the heading, the sums and that no run has a figure
-abbrev pub empty-bytes : List ℕ
-empty-bytes =
-    heading-bytes ++
+abbrev pub empty_bytes : List ℕ
+empty_bytes =
+    heading_bytes ++
     --           0          0          0          0           0               all runs
     32 ∷ 32 ∷ 32 ∷ 32 ∷ 32 ∷ 32 ∷ 32 ∷ 32 ∷ 32 ∷ 32 ∷ 48 ∷ 32 ∷ 32 ∷ 32 ∷ 32 ∷ 32 ∷ 32 ∷ 32 ∷ 32 ∷ 32 ∷ 32 ∷ 48 ∷ 32 ∷ 32 ∷ 32 ∷ 32 ∷ 32 ∷ 32 ∷ 32 ∷ 32 ∷ 32 ∷ 32 ∷ 48 ∷ 32 ∷ 32 ∷ 32 ∷ 32 ∷ 32 ∷ 32 ∷ 32 ∷ 32 ∷ 32 ∷ 32 ∷ 48 ∷ 32 ∷ 32 ∷ 32 ∷ 32 ∷ 32 ∷ 32 ∷ 32 ∷ 32 ∷ 32 ∷ 32 ∷ 32 ∷ 48 ∷ 32 ∷ 32 ∷ 32 ∷ 32 ∷ 32 ∷ 32 ∷ 32 ∷ 32 ∷ 32 ∷ 32 ∷ 32 ∷ 32 ∷ 32 ∷ 32 ∷ 32 ∷ 97 ∷ 108 ∷ 108 ∷ 32 ∷ 114 ∷ 117 ∷ 110 ∷ 115 ∷ 10 ∷
     -- highest loss: no run has a figure

@@ -1,8 +1,8 @@
 // The text of a sheet, in room that the caller lends: a heading, a line for each run, the sums and the highest loss (docs/SHEET.md). Every
 // call takes any input.
 ghost use Rattle.std.specs.Prelude.{◌≡◌, length, ◌≤◌};
-ghost use Rattle.text.specs.Room.{room-bytes, roomWith};
-ghost use Rattle.page.specs.Page.{headingText, lineText, closingText, sheetText};
+ghost use Rattle.text.specs.Room.{room_bytes, room_with};
+ghost use Rattle.page.specs.Page.{heading_text, line_text, closing_text, sheet_text};
 
 use sheet::{Highest, Run, Sheet, Sums};
 
@@ -25,18 +25,18 @@ pub enum Entry {
 
 // The heading of a sheet, at the start of the room; how many bytes it has.
 pub fn heading(room: &mut [u8; 65536]) -> usize
-    ensures value { result ≡ length headingText }
-    ensures room_after { room.new ≡ roomWith headingText room.old }
-    ensures upper_bound { result ≤ room-bytes }
+    ensures value { result ≡ length heading_text }
+    ensures room_after { room.new ≡ room_with heading_text room.old }
+    ensures upper_bound { result ≤ room_bytes }
 {
     lines::heading(room, 0)
 }
 
 // The line of an entry with its name.
 pub fn line(entry: Entry, name: &[u8], room: &mut [u8; 65536]) -> usize
-    ensures value { result ≡ length (lineText entry name.now) }
-    ensures room_after { room.new ≡ roomWith (lineText entry name.now) room.old }
-    ensures upper_bound { result ≤ room-bytes }
+    ensures value { result ≡ length (line_text entry name.now) }
+    ensures room_after { room.new ≡ room_with (line_text entry name.now) room.old }
+    ensures upper_bound { result ≤ room_bytes }
 {
     let at = lines::cells(room, 0, entry);
     lines::named(room, at, name)
@@ -44,9 +44,9 @@ pub fn line(entry: Entry, name: &[u8], room: &mut [u8; 65536]) -> usize
 
 // The lines that close a sheet: the sums, and the highest loss with the run's name.
 pub fn closing(sums: Sums, highest: Highest, name: &[u8], room: &mut [u8; 65536]) -> usize
-    ensures value { result ≡ length (closingText sums highest name.now) }
-    ensures room_after { room.new ≡ roomWith (closingText sums highest name.now) room.old }
-    ensures upper_bound { result ≤ room-bytes }
+    ensures value { result ≡ length (closing_text sums highest name.now) }
+    ensures room_after { room.new ≡ room_with (closing_text sums highest name.now) room.old }
+    ensures upper_bound { result ≤ room_bytes }
 {
     let at = lines::sums(room, 0, sums);
     lines::highest(room, at, highest, name)
@@ -54,9 +54,9 @@ pub fn closing(sums: Sums, highest: Highest, name: &[u8], room: &mut [u8; 65536]
 
 // The whole text of a sheet, with places for names. A count above 256 counts as 256.
 pub fn write(sheet: Sheet, room: &mut [u8; 65536]) -> usize
-    ensures value { result ≡ length (sheetText sheet) }
-    ensures room_after { room.new ≡ roomWith (sheetText sheet) room.old }
-    ensures upper_bound { result ≤ room-bytes }
+    ensures value { result ≡ length (sheet_text sheet) }
+    ensures room_after { room.new ≡ room_with (sheet_text sheet) room.old }
+    ensures upper_bound { result ≤ room_bytes }
 {
     let rows = sheet.rows;
     let highest = sheet.highest;

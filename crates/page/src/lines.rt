@@ -3,9 +3,9 @@
 ghost use Rattle.std.specs.Prelude.{suc, ◌-◌, ◌≤◌, min, ◌≡◌, [], take, length};
 ghost use Rattle.text.specs.Text.{decimal};
 ghost use Rattle.text.specs.Parts.{Told, roomy};
-ghost use Rattle.sheet.specs.Sheet.{most-runs};
+ghost use Rattle.sheet.specs.Sheet.{most_runs};
 ghost use Rattle.sheet.specs.declared.Highest.TheVariants.{NoFigure};
-ghost use Rattle.page.specs.Page.{aligned, column as columnText, all-places, countsText, name-bytes, shown as shownText, named as namedText, headingText, runCells, refusalWords, cells as cellsText, sumsText, lossText, highestText, rowsText, name_of};
+ghost use Rattle.page.specs.Page.{aligned, column as columnText, all_places, counts_text, name_bytes, shown as shownText, named as namedText, heading_text, run_cells, refusal_words, cells as cellsText, sums_text, loss_text, highest_text, rows_text, name_of};
 
 use crate::Entry;
 use sheet::{Highest, MOST_RUNS, Run, Sums};
@@ -53,7 +53,7 @@ fn counts(
     turned: u64,
 ) -> usize
     requires { roomy at 105 }
-    ensures { Told room.old room.new at result (countsText (decimal admitted) (decimal sent) (decimal lost) (decimal waiting) (decimal turned)) 105 }
+    ensures { Told room.old room.new at result (counts_text (decimal admitted) (decimal sent) (decimal lost) (decimal waiting) (decimal turned)) 105 }
 {
     let first = column(room, at, COUNT, admitted);
     let second = column(room, first, COUNT, sent);
@@ -65,7 +65,7 @@ fn counts(
 // A run's columns.
 fn run_cells(room: &mut [u8; 65536], at: usize, run: Run) -> usize
     requires { roomy at 126 }
-    ensures { Told room.old room.new at result (runCells run) 126 }
+    ensures { Told room.old room.new at result (run_cells run) 126 }
 {
     let five = counts(
         room,
@@ -82,7 +82,7 @@ fn run_cells(room: &mut [u8; 65536], at: usize, run: Run) -> usize
 // 'REFUSED number offset'
 fn refused(room: &mut [u8; 65536], at: usize, number: u32, offset: usize) -> usize
     requires { roomy at 39 }
-    ensures { Told room.old room.new at result (refusalWords number offset) 39 }
+    ensures { Told room.old room.new at result (refusal_words number offset) 39 }
 {
     let word = text::letters(room, at, b"REFUSED ");
     let first = text::number(room, word, number as u64);
@@ -93,7 +93,7 @@ fn refused(room: &mut [u8; 65536], at: usize, number: u32, offset: usize) -> usi
 // The same right-aligned in the columns' places.
 fn refused_cells(room: &mut [u8; 65536], at: usize, number: u32, offset: usize) -> usize
     requires { roomy at 126 }
-    ensures { Told room.old room.new at result (aligned all-places (refusalWords number offset)) 126 }
+    ensures { Told room.old room.new at result (aligned all_places (refusal_words number offset)) 126 }
 {
     let size = 9 + text::digits_of(number as u64) + text::digits_of(offset as u64);
     let aligned = text::spaces(room, at, free(ALL, size));
@@ -119,7 +119,7 @@ pub fn cells(room: &mut [u8; 65536], at: usize, entry: Entry) -> usize
 // How many bytes of a name are written.
 fn shown(name: &[u8]) -> usize
     ensures upper_bound { result ≤ length name.now }
-    ensures upper_bound_2 { result ≤ name-bytes }
+    ensures upper_bound_2 { result ≤ name_bytes }
     ensures name_value { take result name.now ≡ shownText name.now }
 {
     if NAME < name.len() {
@@ -152,7 +152,7 @@ fn numbered(room: &mut [u8; 65536], at: usize, n: u64) -> usize
 // The words over the columns.
 pub fn heading(room: &mut [u8; 65536], at: usize) -> usize
     requires { roomy at 75 }
-    ensures { Told room.old room.new at result headingText 75 }
+    ensures { Told room.old room.new at result heading_text 75 }
 {
     text::letters(
         room,
@@ -164,7 +164,7 @@ pub fn heading(room: &mut [u8; 65536], at: usize) -> usize
 // The line of the sums.
 pub fn sums(room: &mut [u8; 65536], at: usize, sums: Sums) -> usize
     requires { roomy at 129 }
-    ensures { Told room.old room.new at result (sumsText sums) 129 }
+    ensures { Told room.old room.new at result (sums_text sums) 129 }
 {
     let five = counts(
         room,
@@ -181,7 +181,7 @@ pub fn sums(room: &mut [u8; 65536], at: usize, sums: Sums) -> usize
 // 'highest loss lost/ended', before the name
 fn loss(room: &mut [u8; 65536], at: usize, lost: u64, ended: u64) -> usize
     requires { roomy at 54 }
-    ensures { Told room.old room.new at result (lossText lost ended) 54 }
+    ensures { Told room.old room.new at result (loss_text lost ended) 54 }
 {
     let word = text::letters(room, at, b"highest loss ");
     let first = text::number(room, word, lost);
@@ -192,7 +192,7 @@ fn loss(room: &mut [u8; 65536], at: usize, lost: u64, ended: u64) -> usize
 // 'If none has a figure, the sheet says so'
 fn no_figure(room: &mut [u8; 65536], at: usize) -> usize
     requires { roomy at 34 }
-    ensures { Told room.old room.new at result (highestText NoFigure []) 34 }
+    ensures { Told room.old room.new at result (highest_text NoFigure []) 34 }
 {
     text::letters(room, at, b"highest loss: no run has a figure\n")
 }
@@ -200,7 +200,7 @@ fn no_figure(room: &mut [u8; 65536], at: usize) -> usize
 // The line of the highest loss, with the run's name.
 pub fn highest(room: &mut [u8; 65536], at: usize, highest: Highest, name: &[u8]) -> usize
     requires { roomy at 4153 }
-    ensures { Told room.old room.new at result (highestText highest name.now) 4153 }
+    ensures { Told room.old room.new at result (highest_text highest name.now) 4153 }
 {
     let Highest::Run(p) = highest else {
         return no_figure(room, at);
@@ -211,7 +211,7 @@ pub fn highest(room: &mut [u8; 65536], at: usize, highest: Highest, name: &[u8])
 
 // A place counted from 1; one past the 256th counts as that.
 fn counted(place: usize) -> u64
-    ensures { result ≡ min (suc place) most-runs }
+    ensures { result ≡ min (suc place) most_runs }
 {
     if MOST_RUNS <= place {
         return MOST_RUNS as u64;
@@ -222,7 +222,7 @@ fn counted(place: usize) -> u64
 // The line of the highest loss, with the run's place for a name.
 pub fn highest_placed(room: &mut [u8; 65536], at: usize, highest: Highest) -> usize
     requires { roomy at 77 }
-    ensures { Told room.old room.new at result (highestText highest (name_of highest)) 77 }
+    ensures { Told room.old room.new at result (highest_text highest (name_of highest)) 77 }
 {
     let Highest::Run(p) = highest else {
         return no_figure(room, at);
@@ -233,7 +233,7 @@ pub fn highest_placed(room: &mut [u8; 65536], at: usize, highest: Highest) -> us
 
 // A count above 256 counts as 256.
 pub fn at_most(count: usize) -> usize
-    ensures { result ≡ min count most-runs }
+    ensures { result ≡ min count most_runs }
 {
     if MOST_RUNS < count {
         return MOST_RUNS;
@@ -243,9 +243,9 @@ pub fn at_most(count: usize) -> usize
 
 // The lines of the first so many runs, each with its place, counted from 1, for a name.
 pub fn rows(room: &mut [u8; 65536], at: usize, runs: [Run; 256], count: usize) -> usize
-    requires count_le_most_runs { count ≤ most-runs }
+    requires count_le_most_runs { count ≤ most_runs }
     requires roomy { roomy at 38144 }
-    ensures { Told room.old room.new at result (rowsText 0 (take count runs)) 38144 }
+    ensures { Told room.old room.new at result (rows_text 0 (take count runs)) 38144 }
 {
     let mut next = at;
     for i in 0..count {

@@ -96,57 +96,57 @@ pub number_same : {R : Type 0} → Same {R = R} number
 number_same zero k = refl
 number_same (suc n) k = refl
 
-pub test-same : {R : Type 0} → Same {R = R} test
-test-same true k = refl
-test-same false k = refl
+pub test_same : {R : Type 0} → Same {R = R} test
+test_same true k = refl
+test_same false k = refl
 
-discipline-same : {R : Type 0} → Same {R = R} discipline
-discipline-same PRI k = refl
-discipline-same RTDG k = refl
-discipline-same RTVC k = refl
+discipline_same : {R : Type 0} → Same {R = R} discipline
+discipline_same PRI k = refl
+discipline_same RTDG k = refl
+discipline_same RTVC k = refl
 
 side_same : {R : Type 0} → Same {R = R} side
 side_same Left k = refl
 side_same Right k = refl
 
-perhaps-same : {R X : Type 0} {bring : Brings R X} → Same bring → Same (perhaps bring)
-perhaps-same same none k = refl
-perhaps-same same (some x) k = same x λ y. k (some y)
+perhaps_same : {R X : Type 0} {bring : Brings R X} → Same bring → Same (perhaps bring)
+perhaps_same same none k = refl
+perhaps_same same (some x) k = same x λ y. k (some y)
 
 list_same : {R X : Type 0} {bring : Brings R X} → Same bring → Same (list bring)
 list_same same [] k = refl
 list_same {bring} same (x ∷ xs) k = same x (λ y. list bring xs λ ys. k (y ∷ ys)) ∙ list_same same xs λ ys. k (x ∷ ys)
 
-packet-same : {R : Type 0} → Same {R = R} packet
-packet-same p k = simp number_same
+packet_same : {R : Type 0} → Same {R = R} packet
+packet_same p k = simp number_same
 
-offer-same : {R : Type 0} → Same {R = R} offer
-offer-same o k = simp number_same
+offer_same : {R : Type 0} → Same {R = R} offer
+offer_same o k = simp number_same
 
-station-same : {R : Type 0} → Same {R = R} station
-station-same {R} s k = simp (number_same, list_same {R = R} packet-same, perhaps-same {R = R} offer-same)
+station_same : {R : Type 0} → Same {R = R} station
+station_same {R} s k = simp (number_same, list_same {R = R} packet_same, perhaps_same {R = R} offer_same)
 
-contention-same : {R : Type 0} → Same {R = R} contention
-contention-same {R} c k = simp (number_same, side_same, perhaps-same {R = R} number_same)
+contention_same : {R : Type 0} → Same {R = R} contention
+contention_same {R} c k = simp (number_same, side_same, perhaps_same {R = R} number_same)
 
-pub bus-same : {R : Type 0} → Same {R = R} bus
-bus-same {R} b k =
-    simp (discipline-same, number_same, list_same {R = R} station-same, perhaps-same {R = R} number_same, perhaps-same {R = R} contention-same)
+pub bus_same : {R : Type 0} → Same {R = R} bus
+bus_same {R} b k =
+    simp (discipline_same, number_same, list_same {R = R} station_same, perhaps_same {R = R} number_same, perhaps_same {R = R} contention_same)
 
 pub pair_same : {R X Y : Type 0} {first : Brings R X} {second : Brings R Y} → Same first → Same second → Same (pair first second)
 pair_same same same' p k = same p.0 _ ∙ same' p.1 _
 
 -- `computed` is `replies`
-pub computed-replies : (E : Engine) (bring : Brings (List Reply) E.State) → Same bring → (s : E.State) (calls : List Call)
+pub computed_replies : (E : Engine) (bring : Brings (List Reply) E.State) → Same bring → (s : E.State) (calls : List Call)
     → computed E bring s calls ≡ replies E s calls
-computed-replies E bring same s [] = refl
-computed-replies E bring same s (admission a ∷ calls) = same s _ ∙ ap (λ rest. reply E s (admission a) ∷ rest) (computed-replies E bring same _ calls)
-computed-replies E bring same s (one-begin ∷ calls) = same s _ ∙ ap (λ rest. reply E s one-begin ∷ rest) (computed-replies E bring same _ calls)
-computed-replies E bring same s (one-probe ∷ calls) = same s _ ∙ ap (λ rest. reply E s one-probe ∷ rest) (computed-replies E bring same _ calls)
-computed-replies E bring same s (one-step ∷ calls) = same s _ ∙ ap (λ rest. reply E s one-step ∷ rest) (computed-replies E bring same _ calls)
+computed_replies E bring same s [] = refl
+computed_replies E bring same s (admission a ∷ calls) = same s _ ∙ ap (λ rest. reply E s (admission a) ∷ rest) (computed_replies E bring same _ calls)
+computed_replies E bring same s (one-begin ∷ calls) = same s _ ∙ ap (λ rest. reply E s one-begin ∷ rest) (computed_replies E bring same _ calls)
+computed_replies E bring same s (one-probe ∷ calls) = same s _ ∙ ap (λ rest. reply E s one-probe ∷ rest) (computed_replies E bring same _ calls)
+computed_replies E bring same s (one-step ∷ calls) = same s _ ∙ ap (λ rest. reply E s one-step ∷ rest) (computed_replies E bring same _ calls)
 
 -- `closed` is `closing`, after the calls
-pub closed-closing : (E : Engine) (bring : Brings Totals E.State) → Same bring → (s : E.State) (calls : List Call)
+pub closed_closing : (E : Engine) (bring : Brings Totals E.State) → Same bring → (s : E.State) (calls : List Call)
     → closed E bring s calls ≡ E.closing (after E s calls)
-closed-closing E bring same s [] = same s _
-closed-closing E bring same s (c ∷ calls) = same s _ ∙ closed-closing E bring same (next E s c) calls
+closed_closing E bring same s [] = same s _
+closed_closing E bring same s (c ∷ calls) = same s _ ∙ closed_closing E bring same (next E s c) calls

@@ -5,7 +5,7 @@ use mathlib.Core.Option.{none}
 use Rattle.rules.specs.Conditions.{RefusalsExact}
 use Rattle.rules.specs.Engine.{Engine, machine}
 use Rattle.rules.specs.Demands.{Demand2, NoFalseWin, AddressesApart, StandsExactly, KeepsStanding, ReachedStands, HandsBack, StepIsBoth, BeginTells, BeginsAtAnyClock, OffersTheFirst, ContendersStay, QueuedAsAnswered, Promised}
-use Rattle.rules.specs.Examples.{firstFailing}
+use Rattle.rules.specs.Examples.{first_failing}
 use Rattle.rules.proofs.Tests.{tells, told}
 use Rattle.rules.proofs.Standing as Standing
 use Rattle.rules.proofs.Refusals as Refusals
@@ -28,56 +28,56 @@ use Rattle.rules.proofs.Starred as Starred
 -- ---- of the rules themselves, for any lent state
 
 -- a state passes the test exactly when it keeps the standing conditions
-pub standsExactly : StandsExactly
-standsExactly b = (tells (Standing.stands-exactly b), told (Standing.stands-exactly b))
+pub stands_exactly_so : StandsExactly
+stands_exactly_so b = (tells (Standing.stands_exactly b), told (Standing.stands_exactly b))
 
 -- accepted calls keep them
-pub keepsStanding : KeepsStanding
-keepsStanding = Keeps.keepsStanding
+pub keeps_standing : KeepsStanding
+keeps_standing = Keeps.keeps_standing
 
-pub reachedStands : ReachedStands
-reachedStands = Reach.reachedStands
+pub reached_stands : ReachedStands
+reached_stands = Reach.reached_stands
 
 -- refused calls hand back the state as lent, 14 and 15 but for the count of packets turned away, and zeros; the all-zero state does not stand
-pub handsBack : HandsBack
-handsBack = Refusals.handsBack
+pub hands_back : HandsBack
+hands_back = Refusals.hands_back
 
 -- each refusal number is given exactly when its condition holds and none tried earlier does
-pub refusalsExact : RefusalsExact
-refusalsExact = Refusals.refusalsExact
+pub refusals_exact : RefusalsExact
+refusals_exact = Refusals.refusals_exact
 
 -- an accepted step is a begin, where none is under way, and a probe; a begin answers what it did, and is accepted at any clock
-pub stepIsBoth : StepIsBoth
-stepIsBoth = Step.stepIsBoth
+pub step_is_both : StepIsBoth
+step_is_both = Step.step_is_both
 
-pub beginTells : BeginTells
-beginTells = Step.beginTells
+pub begin_tells : BeginTells
+begin_tells = Step.begin_tells
 
-pub beginsAtAnyClock : BeginsAtAnyClock
-beginsAtAnyClock = Step.beginsAtAnyClock
+pub begins_at_any_clock : BeginsAtAnyClock
+begins_at_any_clock = Step.begins_at_any_clock
 
 -- of its packets in time a station offers the one that goes before every other
-pub offersTheFirst : OffersTheFirst
-offersTheFirst = Offers.offersTheFirst
+pub offers_the_first : OffersTheFirst
+offers_the_first = Offers.offers_the_first
 
 -- contenders stay recorded, parameters fixed, until the contention ends, and nobody joins midway
-pub contendersStay : ContendersStay
-contendersStay = Recorded.contendersStay
+pub contenders_stay : ContendersStay
+contenders_stay = Recorded.contenders_stay
 
 -- the packet that an accepted admission queues bears the number answered
-pub queuedAsAnswered : QueuedAsAnswered
-queuedAsAnswered = Numbering.queuedAsAnswered
+pub queued_as_answered : QueuedAsAnswered
+queued_as_answered = Numbering.queued_as_answered
 
 -- an event says how many transmit
-pub noFalseWin : NoFalseWin
-noFalseWin = Least.noFalseWin
+pub no_false_win : NoFalseWin
+no_false_win = Least.no_false_win
 
 -- no two stations share a full address
-pub addressesApart : AddressesApart
-addressesApart = Least.addressesApart
+pub addresses_all_apart : AddressesApart
+addresses_all_apart = Least.addresses_all_apart
 
 -- the starred examples
-pub starred : firstFailing ≡ none
+pub starred : first_failing ≡ none
 starred = Starred.starred
 
 -- ---- of every engine that meets demand 2: steps are the machine's too, the winner is least, events, counts, numbers, waits and tallies are true, probes are
@@ -87,30 +87,30 @@ starred = Starred.starred
 pub promised : (E : Engine) → Demand2 E → Promised E
 promised E meets =
     record {
-      stepsAgree = Reach.stepsAgree E meets;
-      winnerIsLeast = Least.winnerIsLeast E meets;
-      eventsAreTrue = Least.eventsAreTrue E meets;
-      probesBounded = Probes.probesBounded E meets;
-      emptyEnds = Probes.emptyEnds E meets;
-      nobodyJoins = Joining.nobodyJoins E meets;
-      countsAreTrue = Counts.countsAreTrue E meets;
-      closesAsCounted = Counts.closesAsCounted E meets;
-      numbersAreAnswers = Numbering.numbersAreAnswers E meets;
-      waitsAreTrue = Waits.waitsAreTrue E meets;
+      steps_agree = Reach.steps_agree E meets;
+      winner_is_least = Least.winner_is_least E meets;
+      events_are_true = Least.events_are_true E meets;
+      probes_are_bounded = Probes.probes_are_bounded E meets;
+      empty_ends = Probes.empty_ends E meets;
+      nobody_joins = Joining.nobody_joins E meets;
+      counts_are_true = Counts.counts_are_true E meets;
+      closes_as_counted = Counts.closes_as_counted E meets;
+      numbers_are_answers = Numbering.numbers_are_answers E meets;
+      waits_are_true = Waits.waits_are_true E meets;
       demand3 = Demand3.demand3 E meets;
-      soonerThanDemand3 = Demand3.soonerThanDemand3 E meets;
+      sooner_than_demand3 = Demand3.sooner_than_demand3 E meets;
       in_turn = Demand3.in_turn E meets;
-      soonerInTurn = Demand3.soonerInTurn E meets;
-      waitOfTheOldest = OldestWait.waitOfTheOldest E meets;
-      waitInTurn = OldestWait.waitInTurn E meets;
-      talliesAreTrue = Passing.talliesAreTrue E meets;
-      nobodyPassesTwice = Passing.nobodyPassesTwice E meets;
+      sooner_in_turn = Demand3.sooner_in_turn E meets;
+      wait_of_the_oldest = OldestWait.wait_of_the_oldest E meets;
+      wait_in_turn = OldestWait.wait_in_turn E meets;
+      tallies_are_true = Passing.tallies_are_true E meets;
+      nobody_passes_twice = Passing.nobody_passes_twice E meets;
     }
 
 -- ---- and so of the machine, which meets it
 
-pub demand2-machine : Demand2 machine
-demand2-machine = Reach.demand2-machine
+pub demand2_machine : Demand2 machine
+demand2_machine = Reach.demand2_machine
 
-pub promised-machine : Promised machine
-promised-machine = promised machine demand2-machine
+pub promised_machine : Promised machine
+promised_machine = promised machine demand2_machine

@@ -47,9 +47,9 @@ pub negated : {A : Type 0} {t : Bool} → Whether A t → Whether (¬ A) (not t)
 negated (holds a) = fails (λ n. n a)
 negated (fails n) = holds n
 
-pub negated-twice : {A : Type 0} {t : Bool} → Whether A t → Whether A (not (not t))
-negated-twice (holds a) = holds a
-negated-twice (fails n) = fails n
+pub negated_twice : {A : Type 0} {t : Bool} → Whether A t → Whether A (not (not t))
+negated_twice (holds a) = holds a
+negated_twice (fails n) = fails n
 
 pub both : {A B : Type 0} {s t : Bool} → Whether A s → Whether B t → Whether (A × B) (s && t)
 both (holds a) (holds b) = holds (a, b)
@@ -66,13 +66,13 @@ one_of {A} {B} (fails n) (fails m) = fails neither
     neither (inr b) = m b
 
 -- one test where C holds, another where it does not
-pub by-case : {C A B : Type 0} {c s t : Bool} → Whether C c → Whether A s → Whether B t → Whether ((C × A) ⊎ ((¬ C) × B)) (cond c s t)
-by-case {C} {A} {B} (holds c) w v = in_words (λ a. inl (c, a)) back w
+pub by_case : {C A B : Type 0} {c s t : Bool} → Whether C c → Whether A s → Whether B t → Whether ((C × A) ⊎ ((¬ C) × B)) (cond c s t)
+by_case {C} {A} {B} (holds c) w v = in_words (λ a. inl (c, a)) back w
   where
     back : (C × A) ⊎ ((¬ C) × B) → A
     back (inl p) = p.1
     back (inr p) = absurd (p.0 c)
-by-case {C} {A} {B} (fails n) w v = in_words (λ b. inr (n, b)) back v
+by_case {C} {A} {B} (fails n) w v = in_words (λ b. inr (n, b)) back v
   where
     back : (C × A) ⊎ ((¬ C) × B) → B
     back (inl p) = absurd (n p.0)
@@ -107,10 +107,10 @@ inside {least} {most} {n} h = let p : ¬ (n < least) = λ k. h (inl k) in let q 
 -- ---- tests of lists
 
 module _ {X : Type 0} {P : X → Type 0} {t : X → Bool} where
-  pub for-each : ((x : X) → Whether (P x) (t x)) → (xs : List X) → Whether (All P xs) (each_of t xs)
-  for-each w [] = holds (all_nil P)
-  for-each w (x ∷ xs) =
-      in_words (λ p. all_cons x p.0 p.1) (λ h. (h x (at_head refl), λ y i. h y (in_tail i))) (both (w x) (for-each w xs))
+  pub for_each : ((x : X) → Whether (P x) (t x)) → (xs : List X) → Whether (All P xs) (each_of t xs)
+  for_each w [] = holds (all_nil P)
+  for_each w (x ∷ xs) =
+      in_words (λ p. all_cons x p.0 p.1) (λ h. (h x (at_head refl), λ y i. h y (in_tail i))) (both (w x) (for_each w xs))
 
   pub for_some : ((x : X) → Whether (P x) (t x)) → (xs : List X) → Whether (Some P xs) (some_of t xs)
   for_some w [] = fails (λ s. among_none s.1)
@@ -124,15 +124,15 @@ module _ {X : Type 0} {P : X → Type 0} {t : X → Bool} where
       back y p (inl e) = inl (subst P e p)
       back y p (inr i) = inr (y, i, p)
 
-  pub for-none : ((x : X) → Whether (P x) (t x)) → (xs : List X) → Whether (All (λ x. ¬ P x) xs) (not (some_of t xs))
-  for-none w xs = in_words (λ h x i p. h (x, i, p)) (λ h s. h s.0 s.1 s.2) (negated (for_some w xs))
+  pub for_none : ((x : X) → Whether (P x) (t x)) → (xs : List X) → Whether (All (λ x. ¬ P x) xs) (not (some_of t xs))
+  for_none w xs = in_words (λ h x i p. h (x, i, p)) (λ h s. h s.0 s.1 s.2) (negated (for_some w xs))
 
 pub is_among : {X : Type 0} {x : X} {t : X → Bool} → ((y : X) → Whether (x ≡ y) (t y)) → (xs : List X) → Whether (Among x xs) (some_of t xs)
 is_among {x} w xs = in_words (λ s. subst (λ y. Among y xs) (sym s.2) s.1) (λ i. (x, i, refl)) (for_some w xs)
 
-pub none-twice : (ns : List ℕ) → Whether (Distinct ns) (distinct ns)
-none-twice [] = holds tt
-none-twice (n ∷ ns) = both (negated (is_among (equal n) ns)) (none-twice ns)
+pub none_twice : (ns : List ℕ) → Whether (Distinct ns) (distinct ns)
+none_twice [] = holds tt
+none_twice (n ∷ ns) = both (negated (is_among (equal n) ns)) (none_twice ns)
 
 -- ---- lists of tests
 

@@ -2,7 +2,7 @@
 -- parameters and the first window are fixed. Assumes nothing.
 use Rattle.std.specs.Prelude.{ℕ, ◌+◌, ◌-◌, ◌/◌, min, Bool, false, not, ◌&&◌, ◌||◌, cond, List, [], ◌∷◌, map, leb, ltb, eqb}
 use Rattle.std.proofs.Math.Option.{Option, none, some}
-use Rattle.window.specs.Splitting.{firstWindow}
+use Rattle.window.specs.Splitting.{first_window}
 use Rattle.rules.specs.Lists.{keep, count, total}
 use Rattle.rules.specs.Bus.{Discipline, PRI, RTDG, RTVC, Packet, late, Offer, Station, Contention, Bus}
 
@@ -28,30 +28,30 @@ choice d (p ∷ queue) = chosen d p (choice d queue)
 
 -- 'PRI: the priority. RTDG: (latest start - T) divided by q, rounded down, and D - 1 where that is larger. RTVC: the capability'.
 -- Figure 6, line 4.
-abbrev pub parameterOf : Discipline → Bus → Station → Packet → ℕ
-parameterOf PRI b s p = p.value
-parameterOf RTDG b s p = min ((p.value - b.clock) / b.q) (b.D - 1)
-parameterOf RTVC b s p = s.capability
+abbrev pub parameter_of : Discipline → Bus → Station → Packet → ℕ
+parameter_of PRI b s p = p.value
+parameter_of RTDG b s p = min ((p.value - b.clock) / b.q) (b.D - 1)
+parameter_of RTVC b s p = s.capability
 
 -- 'RTVC: the capability, if no circuit has won in this round or the capability is above the last winner's; otherwise the station sits out'
-abbrev pub sits-out : Discipline → Option ℕ → ℕ → Bool
-sits-out PRI last capability = false
-sits-out RTDG last capability = false
-sits-out RTVC none capability = false
-sits-out RTVC (some winner) capability = leb capability winner
+abbrev pub sits_out : Discipline → Option ℕ → ℕ → Bool
+sits_out PRI last capability = false
+sits_out RTDG last capability = false
+sits_out RTVC none capability = false
+sits_out RTVC (some winner) capability = leb capability winner
 
 -- what a station offers, of the packet chosen
 abbrev pub offers : Bus → Station → Option Packet → Option Offer
 offers b s none = none
 offers b s (some p) =
     cond
-    (sits-out b.discipline b.last s.capability)
+    (sits_out b.discipline b.last s.capability)
     none
-    (some (record { parameter = parameterOf b.discipline b s p; packet = p }))
+    (some (record { parameter = parameter_of b.discipline b s p; packet = p }))
 
 -- 'In RTDG every queued packet with latest start below T is dropped and counted lost': what is left of a station's packets
-abbrev pub inTime : Bus → Station → List Packet
-inTime b s = keep (λ p. not (late b.discipline b.clock p.value)) s.queue
+abbrev pub in_time : Bus → Station → List Packet
+in_time b s = keep (λ p. not (late b.discipline b.clock p.value)) s.queue
 
 -- a station as the contention begins
 abbrev pub entered : Bus → Station → Station
@@ -59,17 +59,17 @@ entered b s =
     record {
       address = s.address;
       capability = s.capability;
-      queue = inTime b s;
-      offer = offers b s (choice b.discipline (inTime b s));
+      queue = in_time b s;
+      offer = offers b s (choice b.discipline (in_time b s));
     }
 
 -- how many packets a contention that begins now drops
-abbrev pub dropsOf : Bus → ℕ
-dropsOf b = total (λ s. count (λ p. late b.discipline b.clock p.value) s.queue) b.stations
+abbrev pub drops_of : Bus → ℕ
+drops_of b = total (λ s. count (λ p. late b.discipline b.clock p.value) s.queue) b.stations
 
 -- 'The window is the first window of D, start 0, side right.' Figure 6, line 3.
 abbrev pub opening : Bus → Contention
-opening b = record { window = firstWindow b.D; tie = none }
+opening b = record { window = first_window b.D; tie = none }
 
 -- 'If no contention is under way, a step first begins one at the present slot T.'
 abbrev pub begin : Bus → Bus
@@ -83,7 +83,7 @@ begin b =
       clock = b.clock;
       admitted = b.admitted;
       sent = b.sent;
-      lost = b.lost + dropsOf b;
+      lost = b.lost + drops_of b;
       turned = b.turned;
       last = b.last;
       contention = some (opening b);

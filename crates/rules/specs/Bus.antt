@@ -10,15 +10,15 @@ pub use Rattle.rules.specs.declared.Packet.{Packet}
 use Rattle.rules.specs.Lists.{total}
 
 -- 'stations N: 1 to 64'
-abbrev pub most-stations : ℕ
-most-stations = 64
+abbrev pub most_stations : ℕ
+most_stations = 64
 
 -- 'parameter space D', 'address space A: 2 to 65,536'
-abbrev pub least-space : ℕ
-least-space = 2
+abbrev pub least_space : ℕ
+least_space = 2
 
-abbrev pub most-space : ℕ
-most-space = 65_536
+abbrev pub most_space : ℕ
+most_space = 65_536
 
 -- 'laxity step q: RTDG: 1 to 65,535'
 abbrev pub most_step : ℕ
@@ -29,24 +29,24 @@ abbrev pub places : ℕ
 places = 16
 
 -- 'packet length: 1 to 4,096 slots'
-abbrev pub longest-packet : ℕ
-longest-packet = 4_096
+abbrev pub longest_packet : ℕ
+longest_packet = 4_096
 
 -- 'clock: slots 0 to 1,073,741,824'
-abbrev pub clock-end : ℕ
-clock-end = 1_073_741_824
+abbrev pub clock_end : ℕ
+clock_end = 1_073_741_824
 
 -- '17: step with the clock above 1,073,737,728'
-abbrev pub last-slot : ℕ
-last-slot = 1_073_737_728
+abbrev pub last_slot : ℕ
+last_slot = 1_073_737_728
 
 -- 'packets admitted: at most 4,294,967,295'
-abbrev pub most-admitted : ℕ
-most-admitted = 4_294_967_295
+abbrev pub most_admitted : ℕ
+most_admitted = 4_294_967_295
 
 -- packets turned away (P4): 'The count stops at 4,294,967,295.'
-abbrev pub most-turned : ℕ
-most-turned = 4_294_967_295
+abbrev pub most_turned : ℕ
+most_turned = 4_294_967_295
 
 -- 'by priority', 'by laxity', 'by virtual circuit'
 pub data Discipline : Type 0 where
@@ -117,8 +117,8 @@ amended clock last contention b =
     }
 
 -- a bus with another count of packets turned away, all else as it is
-abbrev pub withTurned : ℕ → Bus → Bus
-withTurned turned b =
+abbrev pub with_turned : ℕ → Bus → Bus
+with_turned turned b =
     record {
       discipline = b.discipline;
       D = b.D;
@@ -139,12 +139,12 @@ abbrev pub waiting : List Station → ℕ
 waiting stations = total (λ s. length s.queue) stations
 
 -- the packets' numbers in one queue, and in all queues
-abbrev pub numbersIn : List Packet → List ℕ
-numbersIn queue = map (λ p. p.number) queue
+abbrev pub numbers_in : List Packet → List ℕ
+numbers_in queue = map (λ p. p.number) queue
 
 abbrev pub numbers : List Station → List ℕ
 numbers [] = []
-numbers (s ∷ stations) = numbersIn s.queue ++ numbers stations
+numbers (s ∷ stations) = numbers_in s.queue ++ numbers stations
 
 -- 'an all-zero state'
 abbrev pub nothing : Bus

@@ -27,9 +27,9 @@ totals b =
     }
 
 -- 'zero in the answer's other fields'
-abbrev pub refusedTotals : ℕ → Totals
-refusedTotals n = record { refusal = n; clock = 0; admitted = 0; sent = 0; lost = 0; waiting = 0; turned = 0 }
+abbrev pub refused_totals : ℕ → Totals
+refused_totals n = record { refusal = n; clock = 0; admitted = 0; sent = 0; lost = 0; waiting = 0; turned = 0 }
 
 -- of a state that stands; any other is refused with 1
-abbrev pub closingCall : Bus → Totals
-closingCall b = cond (stands b) (totals b) (refusedTotals 1)
+abbrev pub closing_call : Bus → Totals
+closing_call b = cond (stands b) (totals b) (refused_totals 1)

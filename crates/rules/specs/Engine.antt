@@ -2,16 +2,16 @@
 -- replies that calls lead to. Assumes nothing.
 use Rattle.std.specs.Prelude.{ℕ, ◌≡◌, cond, List, [], ◌∷◌, eqb}
 use Rattle.rules.specs.Bus.{Bus}
-use Rattle.rules.specs.SetUp.{Request, Verdict, setUp}
+use Rattle.rules.specs.SetUp.{Request, Verdict, set_up}
 use Rattle.rules.specs.Admission.{Arrival, Admitted, admit}
-use Rattle.rules.specs.Probe.{Answer, refusedAnswer, dropping}
-use Rattle.rules.specs.Step.{Begun, beginCall, probeCall}
-use Rattle.rules.specs.Closing.{Totals, closingCall}
+use Rattle.rules.specs.Probe.{Answer, refused_answer, dropping}
+use Rattle.rules.specs.Step.{Begun, begin_call, probe_call}
+use Rattle.rules.specs.Closing.{Totals, closing_call}
 
 -- A state goes in and comes back, beside the answer; closing reads it.
 pub record Engine : Type 1 where
   pub State : Type 0
-  pub setUp : Request → Verdict × State
+  pub set_up : Request → Verdict × State
   pub admit : State → Arrival → Admitted × State
   pub begin : State → Begun × State
   pub probe : State → Answer × State
@@ -19,23 +19,23 @@ pub record Engine : Type 1 where
 
 -- paper 01 itself
 abbrev pub machine : Engine
-machine = record { State = Bus; setUp = setUp; admit = admit; begin = beginCall; probe = probeCall; closing = closingCall }
+machine = record { State = Bus; set_up = set_up; admit = admit; begin = begin_call; probe = probe_call; closing = closing_call }
 
 -- ---- a step of any engine is made of its begin and probe
 
 -- after a begin: its probe, with the drops of the begin; where either is refused, its number and the state as lent
-abbrev pub probedAfter : {S : Type 0} → S → ℕ → Answer × S → Answer × S
-probedAfter s drops p = cond (eqb p.0.refusal 0) (dropping drops p.0, p.1) (refusedAnswer p.0.refusal, s)
+abbrev pub probed_after : {S : Type 0} → S → ℕ → Answer × S → Answer × S
+probed_after s drops p = cond (eqb p.0.refusal 0) (dropping drops p.0, p.1) (refused_answer p.0.refusal, s)
 
-abbrev pub begunThen : (E : Engine) → E.State → Begun × E.State → Answer × E.State
-begunThen E s o = cond (eqb o.0.refusal 0) (probedAfter s o.0.drops (E.probe o.1)) (refusedAnswer o.0.refusal, s)
+abbrev pub begun_then : (E : Engine) → E.State → Begun × E.State → Answer × E.State
+begun_then E s o = cond (eqb o.0.refusal 0) (probed_after s o.0.drops (E.probe o.1)) (refused_answer o.0.refusal, s)
 
 -- 'If no contention is under way, a step first begins one': where a probe is refused with 26, a begin and a probe; otherwise that probe
-abbrev pub probedFirst : (E : Engine) → E.State → Answer × E.State → Answer × E.State
-probedFirst E s p = cond (eqb p.0.refusal 26) (begunThen E s (E.begin s)) p
+abbrev pub probed_first : (E : Engine) → E.State → Answer × E.State → Answer × E.State
+probed_first E s p = cond (eqb p.0.refusal 26) (begun_then E s (E.begin s)) p
 
 abbrev pub step_of : (E : Engine) → E.State → Answer × E.State
-step_of E s = probedFirst E s (E.probe s)
+step_of E s = probed_first E s (E.probe s)
 
 -- ---- calls and replies
 
@@ -79,38 +79,38 @@ replies E s (c ∷ calls) = reply E s c ∷ replies E (next E s c) calls
 
 -- the state reached from a set-up by calls, refused ones among them
 abbrev pub reach : (E : Engine) → Request → List Call → E.State
-reach E r calls = after E (E.setUp r).1 calls
+reach E r calls = after E (E.set_up r).1 calls
 
 -- the answers to the probes among replies, those of steps too
-abbrev pub probeIn : Reply → List Answer → List Answer
-probeIn (admitted a) rest = rest
-probeIn (begun o) rest = rest
-probeIn (probed a) rest = a ∷ rest
+abbrev pub probe_in : Reply → List Answer → List Answer
+probe_in (admitted a) rest = rest
+probe_in (begun o) rest = rest
+probe_in (probed a) rest = a ∷ rest
 
-abbrev pub probesIn : List Reply → List Answer
-probesIn [] = []
-probesIn (r ∷ rest) = probeIn r (probesIn rest)
+abbrev pub probes_in : List Reply → List Answer
+probes_in [] = []
+probes_in (r ∷ rest) = probe_in r (probes_in rest)
 
 -- the answers to the admissions among replies
-abbrev pub admissionIn : Reply → List Admitted → List Admitted
-admissionIn (admitted a) rest = a ∷ rest
-admissionIn (begun o) rest = rest
-admissionIn (probed a) rest = rest
+abbrev pub admission_in : Reply → List Admitted → List Admitted
+admission_in (admitted a) rest = a ∷ rest
+admission_in (begun o) rest = rest
+admission_in (probed a) rest = rest
 
-abbrev pub admissionsIn : List Reply → List Admitted
-admissionsIn [] = []
-admissionsIn (r ∷ rest) = admissionIn r (admissionsIn rest)
+abbrev pub admissions_in : List Reply → List Admitted
+admissions_in [] = []
+admissions_in (r ∷ rest) = admission_in r (admissions_in rest)
 
 -- the answers to the begins among replies
-abbrev pub beginIn : Reply → List Begun → List Begun
-beginIn (admitted a) rest = rest
-beginIn (begun o) rest = o ∷ rest
-beginIn (probed a) rest = rest
+abbrev pub begin_in : Reply → List Begun → List Begun
+begin_in (admitted a) rest = rest
+begin_in (begun o) rest = o ∷ rest
+begin_in (probed a) rest = rest
 
-abbrev pub beginsIn : List Reply → List Begun
-beginsIn [] = []
-beginsIn (r ∷ rest) = beginIn r (beginsIn rest)
+abbrev pub begins_in : List Reply → List Begun
+begins_in [] = []
+begins_in (r ∷ rest) = begin_in r (begins_in rest)
 
 -- the answers to the probes and steps among calls, from a state
 abbrev pub answers : (E : Engine) → E.State → List Call → List Answer
-answers E s calls = probesIn (replies E s calls)
+answers E s calls = probes_in (replies E s calls)

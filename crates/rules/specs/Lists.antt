@@ -38,9 +38,9 @@ module _ {X : Type 0} where
   total f (x ∷ xs) = f x + total f xs
 
 -- n numbers, each one more than the one before it
-abbrev pub countUp : ℕ → ℕ → List ℕ
-countUp first zero = []
-countUp first (suc n) = first ∷ countUp (suc first) n
+abbrev pub count_up : ℕ → ℕ → List ℕ
+count_up first zero = []
+count_up first (suc n) = first ∷ count_up (suc first) n
 
 -- x is one of the list's elements
 pub data Among {X : Type 0} (x : X) : List X → Type 0 where

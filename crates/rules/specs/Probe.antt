@@ -6,7 +6,7 @@ use Rattle.std.proofs.Math.Option.{Option, none, some}
 use Rattle.window.specs.declared.Side.{Side}
 use Rattle.window.specs.declared.Side.TheVariants.{Left, Right}
 use Rattle.window.specs.declared.Window.{Window}
-use Rattle.window.specs.Splitting.{firstWindow, left_half, moveRight, inWindow}
+use Rattle.window.specs.Splitting.{first_window, left_half, move_right, in_window}
 use Rattle.rules.specs.Lists.{keep}
 use Rattle.rules.specs.Bus.{Discipline, PRI, RTDG, RTVC, Packet, late, Offer, Station, Contention, Bus, amended}
 
@@ -18,13 +18,13 @@ pub record Contender : Type 0 where
   pub packet : Packet
 
 -- the contender that a station with an offer is
-abbrev pub contenderOf : Station → Offer → Contender
-contenderOf s o = record { address = s.address; capability = s.capability; parameter = o.parameter; packet = o.packet }
+abbrev pub contender_of : Station → Offer → Contender
+contender_of s o = record { address = s.address; capability = s.capability; parameter = o.parameter; packet = o.packet }
 
 -- a station before other contenders, if it has an offer
 abbrev pub contending : Station → Option Offer → List Contender → List Contender
 contending s none others = others
-contending s (some o) others = contenderOf s o ∷ others
+contending s (some o) others = contender_of s o ∷ others
 
 -- the contenders, in the stations' listed order
 abbrev pub contenders : List Station → List Contender
@@ -37,8 +37,8 @@ able d slot c = not (late d slot c.packet.value)
 
 -- 'its parameter (in the tie phase: its address) lies in the window'; the tie phase is 'among the contenders of that parameter'
 abbrev pub lies_in : Window → Option ℕ → Contender → Bool
-lies_in w none c = inWindow w c.parameter
-lies_in w (some tied) c = eqb c.parameter tied && inWindow w c.address
+lies_in w none c = in_window w c.parameter
+lies_in w (some tied) c = eqb c.parameter tied && in_window w c.address
 
 -- 'A contender transmits if ..' Figure 6, lines 6 and 7.
 abbrev pub transmits : Bus → Contention → Contender → Bool
@@ -49,11 +49,11 @@ abbrev pub transmitters : Bus → Contention → List Contender
 transmitters b c = keep (transmits b c) (contenders b.stations)
 
 -- the phases as numbers
-abbrev pub parameter-phase : ℕ
-parameter-phase = 0
+abbrev pub parameter_phase : ℕ
+parameter_phase = 0
 
-abbrev pub tie-phase : ℕ
-tie-phase = 1
+abbrev pub tie_phase : ℕ
+tie_phase = 1
 
 -- the events as numbers
 abbrev pub idle : ℕ
@@ -83,8 +83,8 @@ pub record Answer : Type 0 where
   pub ended : ℕ
 
 -- 'zero in the answer's other fields'
-abbrev pub refusedAnswer : ℕ → Answer
-refusedAnswer n =
+abbrev pub refused_answer : ℕ → Answer
+refused_answer n =
     record
     { refusal = n; drops = 0; slot = 0; phase = 0; start = 0; size = 0; event = 0; address = 0; number = 0; length = 0; wait = 0; ended = 0 }
 
@@ -107,9 +107,9 @@ dropping n a =
     }
 
 -- the phase, from the tied parameter
-abbrev pub phaseOf : Option ℕ → ℕ
-phaseOf none = parameter-phase
-phaseOf (some tied) = tie-phase
+abbrev pub phase_of : Option ℕ → ℕ
+phase_of none = parameter_phase
+phase_of (some tied) = tie_phase
 
 -- A bus with a contention under way, and what was dropped as it began, if it has begun just now.
 pub record Open : Type 0 where
@@ -124,7 +124,7 @@ answered o event address number length wait ended =
       refusal = 0;
       drops = o.drops;
       slot = o.bus.clock;
-      phase = phaseOf o.contention.tie;
+      phase = phase_of o.contention.tie;
       start = o.contention.window.start;
       size = o.contention.window.size;
       event = event;
@@ -140,16 +140,16 @@ abbrev pub unsent : Open → ℕ → ℕ → Answer
 unsent o event ended = answered o event 0 0 0 0 ended
 
 -- P1: 'the number of slots from there to the probe that won', from a packet's admission slot to a slot
-abbrev pub waitOf : Packet → ℕ → ℕ
-waitOf p slot = slot - p.admission.0
+abbrev pub wait_of : Packet → ℕ → ℕ
+wait_of p slot = slot - p.admission.0
 
 -- a contender's packet was sent, and the contention ended
-abbrev pub sentBy : Open → Contender → Answer
-sentBy o x = answered o success x.address x.packet.number x.packet.length (waitOf x.packet o.bus.clock) 1
+abbrev pub sent_by : Open → Contender → Answer
+sent_by o x = answered o success x.address x.packet.number x.packet.length (wait_of x.packet o.bus.clock) 1
 
 -- the contention goes on with another window, one slot later
-abbrev pub goesOn : Bus → Contention → Bus
-goesOn b c = amended (suc b.clock) b.last (some c) b
+abbrev pub going_further : Bus → Contention → Bus
+going_further b c = amended (suc b.clock) b.last (some c) b
 
 -- a station whose contention has ended without its packet sent
 abbrev pub withdrawn : Station → Station
@@ -184,10 +184,10 @@ left x s =
     }
 
 -- 'In RTVC the last winner is set.'
-abbrev pub lastWinner : Discipline → Contender → Option ℕ
-lastWinner PRI x = none
-lastWinner RTDG x = none
-lastWinner RTVC x = some x.capability
+abbrev pub last_winner : Discipline → Contender → Option ℕ
+last_winner PRI x = none
+last_winner RTDG x = none
+last_winner RTVC x = some x.capability
 
 -- 'The probed slot is its first, so the clock moves on by its length. The contention ends.'
 abbrev pub won : Bus → Contender → Bus
@@ -203,14 +203,14 @@ won b x =
       sent = suc b.sent;
       lost = b.lost;
       turned = b.turned;
-      last = lastWinner b.discipline x;
+      last = last_winner b.discipline x;
       contention = none;
     }
 
 -- the parameter tied in a window of size 1; in the tie phase it is tied already (no two addresses are equal, so that none collide there)
-abbrev pub tiedAt : Window → Option ℕ → ℕ
-tiedAt w none = w.start
-tiedAt w (some tied) = tied
+abbrev pub tied_at : Window → Option ℕ → ℕ
+tied_at w none = w.start
+tied_at w (some tied) = tied
 
 -- 'A window of size 2 or more becomes its left half, side left. A window of size 1 starts the tie phase among the contenders of
 -- that parameter: the first window of A, start 0, side right.' Figure 6, lines 20 to 22.
@@ -219,18 +219,18 @@ split b c =
     cond
     (leb 2 c.window.size)
     (record { window = left_half c.window; tie = c.tie })
-    (record { window = firstWindow b.A; tie = some (tiedAt c.window c.tie) })
+    (record { window = first_window b.A; tie = some (tied_at c.window c.tie) })
 
 -- 'Side left: the window moves right by its size, side right. Side right: the contention ends without a winner.' Figure 6, lines 25 to 27.
 abbrev pub unheard : Open → Side → Answer × Bus
-unheard o Left = (unsent o idle 0, goesOn o.bus (record { window = moveRight o.contention.window; tie = o.contention.tie }))
+unheard o Left = (unsent o idle 0, going_further o.bus (record { window = move_right o.contention.window; tie = o.contention.tie }))
 unheard o Right = (unsent o idle 1, unwon o.bus)
 
 -- one transmits: success; two or more: collision; none: idle. Figure 6, lines 12 to 29.
 abbrev pub heard : Open → List Contender → Answer × Bus
 heard o [] = unheard o o.contention.window.side
-heard o (x ∷ []) = (sentBy o x, won o.bus x)
-heard o (x ∷ y ∷ more) = (unsent o collision 0, goesOn o.bus (split o.bus o.contention))
+heard o (x ∷ []) = (sent_by o x, won o.bus x)
+heard o (x ∷ y ∷ more) = (unsent o collision 0, going_further o.bus (split o.bus o.contention))
 
 -- 'Every step then probes one slot.'
 abbrev pub probe : Open → Answer × Bus

@@ -3,15 +3,15 @@
 use Rattle.std.specs.Prelude.{ℕ, Bool, true, false, not, cond, List, [], ◌∷◌, map, ltb, eqb}
 use Rattle.std.proofs.Math.Option.{Option, none, some}
 use Rattle.rules.specs.Lists.{first_of}
-use Rattle.rules.specs.Bus.{last-slot, Offer, Station, Contention, Bus}
+use Rattle.rules.specs.Bus.{last_slot, Offer, Station, Contention, Bus}
 use Rattle.rules.specs.Standing.{stands}
-use Rattle.rules.specs.Begin.{begin, dropsOf, opening}
-use Rattle.rules.specs.Probe.{Answer, Open, probe, refusedAnswer}
+use Rattle.rules.specs.Begin.{begin, drops_of, opening}
+use Rattle.rules.specs.Probe.{Answer, Open, probe, refused_answer}
 
 -- whether a contention is under way
-abbrev pub is-under-way : Option Contention → Bool
-is-under-way none = false
-is-under-way (some c) = true
+abbrev pub is_under_way : Option Contention → Bool
+is_under_way none = false
+is_under_way (some c) = true
 
 -- ---- begin
 
@@ -22,9 +22,9 @@ pub record Contends : Type 0 where
   pub parameter : ℕ
 
 -- the same of a station, if it has an offer
-abbrev pub contendsWith : Station → Option Offer → Option Contends
-contendsWith s none = none
-contendsWith s (some o) = some (record { address = s.address; number = o.packet.number; parameter = o.parameter })
+abbrev pub contends_with : Station → Option Offer → Option Contends
+contends_with s none = none
+contends_with s (some o) = some (record { address = s.address; number = o.packet.number; parameter = o.parameter })
 
 -- A begin's answer: the drops, the slot, the first window's start and size, and who contends, station by station in the listed order.
 -- `refusal` is 0 where the begin is accepted.
@@ -37,75 +37,75 @@ pub record Begun : Type 0 where
   pub contenders : List (Option Contends)
 
 -- 'zero in the answer's other fields'
-abbrev pub refusedBegun : ℕ → Begun
-refusedBegun n = record { refusal = n; drops = 0; slot = 0; start = 0; size = 0; contenders = [] }
+abbrev pub refused_begun : ℕ → Begun
+refused_begun n = record { refusal = n; drops = 0; slot = 0; start = 0; size = 0; contenders = [] }
 
 -- 'who contends and what was dropped before the first slot is spent'
-abbrev pub begunAnswer : Bus → Begun
-begunAnswer b =
+abbrev pub begun_answer : Bus → Begun
+begun_answer b =
     record {
       refusal = 0;
-      drops = dropsOf b;
+      drops = drops_of b;
       slot = b.clock;
       start = (opening b).window.start;
       size = (opening b).window.size;
-      contenders = map (λ s. contendsWith s s.offer) (begin b).stations;
+      contenders = map (λ s. contends_with s s.offer) (begin b).stations;
     }
 
 -- '25, begin while one is under way; .. after 1'
-abbrev pub beginTests : Bus → List (ℕ × Bool)
-beginTests b = (1, not (stands b)) ∷ (25, is-under-way b.contention) ∷ []
+abbrev pub begin_tests : Bus → List (ℕ × Bool)
+begin_tests b = (1, not (stands b)) ∷ (25, is_under_way b.contention) ∷ []
 
 -- the first of them that holds, or 0
-abbrev pub beginRefusal : Bus → ℕ
-beginRefusal b = first_of 0 (beginTests b)
+abbrev pub begin_refusal : Bus → ℕ
+begin_refusal b = first_of 0 (begin_tests b)
 
 -- a begin: refused with its number and the state as lent, or the contention begun
-abbrev pub beginCall : Bus → Begun × Bus
-beginCall b = cond (eqb (beginRefusal b) 0) (begunAnswer b, begin b) (refusedBegun (beginRefusal b), b)
+abbrev pub begin_call : Bus → Begun × Bus
+begin_call b = cond (eqb (begin_refusal b) 0) (begun_answer b, begin b) (refused_begun (begin_refusal b), b)
 
 -- ---- probe
 
 -- the bus as it is probed in the contention under way: its contenders are those recorded, and its drops came with the beginning
-abbrev pub underWay : Bus → Contention → Open
-underWay b c = record { bus = b; contention = c; drops = 0 }
+abbrev pub open_under_way : Bus → Contention → Open
+open_under_way b c = record { bus = b; contention = c; drops = 0 }
 
 -- '26, probe while none is; .. after 1, and 26 before 17, which belongs to the probe'
-abbrev pub probeTests : Bus → List (ℕ × Bool)
-probeTests b = (1, not (stands b)) ∷ (26, not (is-under-way b.contention)) ∷ (17, ltb last-slot b.clock) ∷ []
+abbrev pub probe_tests : Bus → List (ℕ × Bool)
+probe_tests b = (1, not (stands b)) ∷ (26, not (is_under_way b.contention)) ∷ (17, ltb last_slot b.clock) ∷ []
 
 -- the first of them that holds, or 0
-abbrev pub probeRefusal : Bus → ℕ
-probeRefusal b = first_of 0 (probeTests b)
+abbrev pub probe_refusal : Bus → ℕ
+probe_refusal b = first_of 0 (probe_tests b)
 
 -- the slot probed in the contention under way; where none is, 26 has refused it
-abbrev pub probedIn : Bus → Option Contention → Answer × Bus
-probedIn b none = (refusedAnswer 26, b)
-probedIn b (some c) = probe (underWay b c)
+abbrev pub probed_in : Bus → Option Contention → Answer × Bus
+probed_in b none = (refused_answer 26, b)
+probed_in b (some c) = probe (open_under_way b c)
 
 -- a probe: refused with its number and the state as lent, or the slot probed
-abbrev pub probeCall : Bus → Answer × Bus
-probeCall b = cond (eqb (probeRefusal b) 0) (probedIn b b.contention) (refusedAnswer (probeRefusal b), b)
+abbrev pub probe_call : Bus → Answer × Bus
+probe_call b = cond (eqb (probe_refusal b) 0) (probed_in b b.contention) (refused_answer (probe_refusal b), b)
 
 -- ---- step
 
 -- 'If no contention is under way, a step first begins one'
-abbrev pub openedBy : Bus → Option Contention → Open
-openedBy b none = record { bus = begin b; contention = opening b; drops = dropsOf b }
-openedBy b (some c) = underWay b c
+abbrev pub opened_by : Bus → Option Contention → Open
+opened_by b none = record { bus = begin b; contention = opening b; drops = drops_of b }
+opened_by b (some c) = open_under_way b c
 
 -- the bus as the step probes it
 abbrev pub opened : Bus → Open
-opened b = openedBy b b.contention
+opened b = opened_by b b.contention
 
 -- 'a step tries 1, then 17'
-abbrev pub stepTests : Bus → List (ℕ × Bool)
-stepTests b = (1, not (stands b)) ∷ (17, ltb last-slot b.clock) ∷ []
+abbrev pub step_tests : Bus → List (ℕ × Bool)
+step_tests b = (1, not (stands b)) ∷ (17, ltb last_slot b.clock) ∷ []
 
 -- the first of them that holds, or 0
-abbrev pub stepRefusal : Bus → ℕ
-stepRefusal b = first_of 0 (stepTests b)
+abbrev pub step_refusal : Bus → ℕ
+step_refusal b = first_of 0 (step_tests b)
 
 -- a step: refused with its number and the state as lent, or the slot probed
 abbrev pub step : Bus → Answer × Bus
-step b = cond (eqb (stepRefusal b) 0) (probe (opened b)) (refusedAnswer (stepRefusal b), b)
+step b = cond (eqb (step_refusal b) 0) (probe (opened b)) (refused_answer (step_refusal b), b)

@@ -1,41 +1,41 @@
 -- Engines that break the rules, each the machine with one thing changed. 'Try these and see them rejected' (paper 01, 'What the
 -- histories may rely on'), and others: proofs/WrongEngines.antt refutes demand 2 of each of them, and other promises of those that break them; that nobody
--- passes twice `topEndsRound` keeps (`topEndsRound-passes`). Assumes nothing.
+-- passes twice `top_ends_round` keeps (`top_ends_round_passes`). Assumes nothing.
 use Rattle.std.specs.Prelude.{ℕ, zero, suc, ◌+◌, ◌-◌, ◌%◌, max, Bool, true, false, not, ◌&&◌, ◌||◌, cond, List, [], ◌∷◌, map, leb, eqb}
 use Rattle.std.proofs.Math.Option.{Option, none, some}
-use Rattle.window.specs.Splitting.{firstWindow}
+use Rattle.window.specs.Splitting.{first_window}
 use Rattle.rules.specs.Lists.{keep, each_of}
-use Rattle.rules.specs.Bus.{Packet, Station, Contention, Bus, amended, withTurned, nothing}
-use Rattle.rules.specs.SetUp.{fault, setUp}
-use Rattle.rules.specs.Admission.{oneMore, turnedAfter, admit}
-use Rattle.rules.specs.Probe.{Contender, transmitters, Answer, idle, success, refusedAnswer, dropping, Open, sentBy, withdrawn, lastWinner, heard, probe}
+use Rattle.rules.specs.Bus.{Packet, Station, Contention, Bus, amended, with_turned, nothing}
+use Rattle.rules.specs.SetUp.{fault, set_up}
+use Rattle.rules.specs.Admission.{one_higher, turned_after, admit}
+use Rattle.rules.specs.Probe.{Contender, transmitters, Answer, idle, success, refused_answer, dropping, Open, sent_by, withdrawn, last_winner, heard, probe}
 use Rattle.rules.specs.Begin.{begin}
-use Rattle.rules.specs.Step.{is-under-way, Begun, refusedBegun, beginCall, probeRefusal, probeCall, opened}
-use Rattle.rules.specs.Closing.{closingCall}
+use Rattle.rules.specs.Step.{is_under_way, Begun, refused_begun, begin_call, probe_refusal, probe_call, opened}
+use Rattle.rules.specs.Closing.{closing_call}
 use Rattle.rules.specs.Engine.{Engine}
 
 -- refuses every call, set-up too, with one and the same number
-abbrev pub refusesAll : ℕ → Engine
-refusesAll n =
+abbrev pub refuses_all : ℕ → Engine
+refuses_all n =
     record {
       State = Bus;
-      setUp = λ r. (fault (suc n) 0, nothing);
+      set_up = λ r. (fault (suc n) 0, nothing);
       admit = λ b a. (record { refusal = suc n; number = 0 }, b);
-      begin = λ b. (refusedBegun (suc n), b);
-      probe = λ b. (refusedAnswer (suc n), b);
-      closing = closingCall;
+      begin = λ b. (refused_begun (suc n), b);
+      probe = λ b. (refused_answer (suc n), b);
+      closing = closing_call;
     }
 
 -- sets up as the machine does, and refuses every call after it
-abbrev pub refusesCalls : ℕ → Engine
-refusesCalls n =
+abbrev pub refuses_calls : ℕ → Engine
+refuses_calls n =
     record {
       State = Bus;
-      setUp = setUp;
+      set_up = set_up;
       admit = λ b a. (record { refusal = suc n; number = 0 }, b);
-      begin = λ b. (refusedBegun (suc n), b);
-      probe = λ b. (refusedAnswer (suc n), b);
-      closing = closingCall;
+      begin = λ b. (refused_begun (suc n), b);
+      probe = λ b. (refused_answer (suc n), b);
+      closing = closing_call;
     }
 
 -- gives the machine's answers, and hands the state back untouched
@@ -43,40 +43,40 @@ abbrev pub untouched : Engine
 untouched =
     record {
       State = Bus;
-      setUp = setUp;
+      set_up = set_up;
       admit = λ b a. ((admit b a).0, b);
-      begin = λ b. ((beginCall b).0, b);
-      probe = λ b. ((probeCall b).0, b);
-      closing = closingCall;
+      begin = λ b. ((begin_call b).0, b);
+      probe = λ b. ((probe_call b).0, b);
+      closing = closing_call;
     }
 
 -- answers each admission with a number one too low, as if the first packet were 0
-abbrev pub oneTooLow : Engine
-oneTooLow =
+abbrev pub one_too_low : Engine
+one_too_low =
     record {
       State = Bus;
-      setUp = setUp;
+      set_up = set_up;
       admit = λ b a. (record { refusal = (admit b a).0.refusal; number = (admit b a).0.number - 1 }, (admit b a).1);
-      begin = beginCall;
-      probe = probeCall;
-      closing = closingCall;
+      begin = begin_call;
+      probe = probe_call;
+      closing = closing_call;
     }
 
 -- the machine with another probe
-abbrev pub probingBy : (Bus → Answer × Bus) → Engine
-probingBy other = record { State = Bus; setUp = setUp; admit = admit; begin = beginCall; probe = other; closing = closingCall }
+abbrev pub probing_by : (Bus → Answer × Bus) → Engine
+probing_by other = record { State = Bus; set_up = set_up; admit = admit; begin = begin_call; probe = other; closing = closing_call }
 
 -- the machine with another way to probe the contention under way
 abbrev pub probing : (Open → Answer × Bus) → Engine
-probing other = probingBy λ b. cond (eqb (probeRefusal b) 0) (other (opened b)) (refusedAnswer (probeRefusal b), b)
+probing other = probing_by λ b. cond (eqb (probe_refusal b) 0) (other (opened b)) (refused_answer (probe_refusal b), b)
 
 -- says idle each time, as if none transmitted
-abbrev pub alwaysIdle : Engine
-alwaysIdle = probing λ o. heard o []
+abbrev pub always_idle : Engine
+always_idle = probing λ o. heard o []
 
 -- makes up drops: one more at each probe
-abbrev pub madeUpDrops : Engine
-madeUpDrops = probing λ o. (dropping (suc (probe o).0.drops) (probe o).0, (probe o).1)
+abbrev pub made_up_drops : Engine
+made_up_drops = probing λ o. (dropping (suc (probe o).0.drops) (probe o).0, (probe o).1)
 
 -- makes up sent counts: on success the packet stays in its queue, and is sent again
 abbrev pub stays : Bus → Contender → Bus
@@ -92,19 +92,19 @@ stays b x =
       sent = b.sent;
       lost = b.lost;
       turned = b.turned;
-      last = lastWinner b.discipline x;
+      last = last_winner b.discipline x;
       contention = none;
     }
 
 -- what is heard, with the packet left in its queue
-abbrev pub heardStaying : Open → List Contender → Answer × Bus
-heardStaying o [] = heard o []
-heardStaying o (x ∷ []) = (sentBy o x, stays o.bus x)
-heardStaying o (x ∷ y ∷ more) = heard o (x ∷ y ∷ more)
+abbrev pub heard_staying : Open → List Contender → Answer × Bus
+heard_staying o [] = heard o []
+heard_staying o (x ∷ []) = (sent_by o x, stays o.bus x)
+heard_staying o (x ∷ y ∷ more) = heard o (x ∷ y ∷ more)
 
 -- the engine that makes up sent counts
-abbrev pub madeUpSent : Engine
-madeUpSent = probing λ o. heardStaying o (transmitters o.bus o.contention)
+abbrev pub made_up_sent : Engine
+made_up_sent = probing λ o. heard_staying o (transmitters o.bus o.contention)
 
 -- compares addresses without their upper byte: of transmitters whose addresses agree in the lower byte only the first is heard,
 -- so that a collision between 7 and 263 is booked as a lone win
@@ -117,74 +117,74 @@ abbrev pub low_byte : Engine
 low_byte = probing λ o. heard o (senders (transmitters o.bus o.contention))
 
 -- takes two who transmit for success of the first (P10: 'idle, success and collision follow from how many bits are set')
-abbrev pub firstOfTwo : List Contender → List Contender
-firstOfTwo [] = []
-firstOfTwo (x ∷ []) = x ∷ []
-firstOfTwo (x ∷ y ∷ []) = x ∷ []
-firstOfTwo (x ∷ y ∷ z ∷ more) = x ∷ y ∷ z ∷ more
+abbrev pub first_of_two : List Contender → List Contender
+first_of_two [] = []
+first_of_two (x ∷ []) = x ∷ []
+first_of_two (x ∷ y ∷ []) = x ∷ []
+first_of_two (x ∷ y ∷ z ∷ more) = x ∷ y ∷ z ∷ more
 
 -- the engine that takes two for one
-abbrev pub twoForOne : Engine
-twoForOne = probing λ o. heard o (firstOfTwo (transmitters o.bus o.contention))
+abbrev pub two_for_one : Engine
+two_for_one = probing λ o. heard o (first_of_two (transmitters o.bus o.contention))
 
 -- hears in a slot those who transmitted in the slot before, in a contention's first slot those who do; beside the bus it keeps the bus as the last
 -- probe found it, or as the contention began
-abbrev pub transmittersKept : Engine
-transmittersKept =
+abbrev pub transmitters_kept : Engine
+transmitters_kept =
     record {
       State = Bus × Bus;
-      setUp = λ r. ((setUp r).0, ((setUp r).1, (setUp r).1));
+      set_up = λ r. ((set_up r).0, ((set_up r).1, (set_up r).1));
       admit = λ s a. ((admit s.0 a).0, ((admit s.0 a).1, s.1));
-      begin = λ s. let o = beginCall s.0 in (o.0, (o.1, cond (eqb o.0.refusal 0) o.1 s.1));
+      begin = λ s. let o = begin_call s.0 in (o.0, (o.1, cond (eqb o.0.refusal 0) o.1 s.1));
       probe = λ s.
           let said = heard (opened s.0) (transmitters (opened s.1).bus (opened s.1).contention) in
-          cond (eqb (probeRefusal s.0) 0) (said.0, (said.1, s.0)) (refusedAnswer (probeRefusal s.0), s);
-      closing = λ s. closingCall s.0;
+          cond (eqb (probe_refusal s.0) 0) (said.0, (said.1, s.0)) (refused_answer (probe_refusal s.0), s);
+      closing = λ s. closing_call s.0;
     }
 
 -- makes up probes: plays the contention to its end in one call, in n probes more at the most, and answers its last probe alone
-abbrev pub playedOut : ℕ → Bus → Answer × Bus
-playedOut zero b = probeCall b
-playedOut (suc n) b =
-    elim (eqb (probeCall b).0.ended 1 || not (eqb (probeCall b).0.refusal 0)) [ true ↦ probeCall b | false ↦ playedOut n (probeCall b).1 ]
+abbrev pub played_out : ℕ → Bus → Answer × Bus
+played_out zero b = probe_call b
+played_out (suc n) b =
+    elim (eqb (probe_call b).0.ended 1 || not (eqb (probe_call b).0.refusal 0)) [ true ↦ probe_call b | false ↦ played_out n (probe_call b).1 ]
 
 -- the engine that makes up probes
-abbrev pub madeUpProbes : Engine
-madeUpProbes = probingBy (playedOut 66)
+abbrev pub made_up_probes : Engine
+made_up_probes = probing_by (played_out 66)
 
 -- arbitrates the first contention truly, and thereafter names the first listed station with a success each probe, whether or not it has
 -- a packet; beside the bus it keeps whether the first contention is over
-abbrev pub firstPacket : List Packet → Packet
-firstPacket [] = record { number = 0; value = 0; length = 1; admission = record { 0 = 0 } }
-firstPacket (p ∷ queue) = p
+abbrev pub first_packet : List Packet → Packet
+first_packet [] = record { number = 0; value = 0; length = 1; admission = record { 0 = 0 } }
+first_packet (p ∷ queue) = p
 
 -- the first listed station, as if it alone transmitted
-abbrev pub firstListed : List Station → List Contender
-firstListed [] = []
-firstListed (s ∷ stations) = record { address = s.address; capability = s.capability; parameter = 0; packet = firstPacket s.queue } ∷ []
+abbrev pub first_listed : List Station → List Contender
+first_listed [] = []
+first_listed (s ∷ stations) = record { address = s.address; capability = s.capability; parameter = 0; packet = first_packet s.queue } ∷ []
 
 -- a probe, before and after the first contention is over
 abbrev pub arbitrates : Bus → Bool → Answer × (Bus × Bool)
-arbitrates b false = ((probeCall b).0, ((probeCall b).1, eqb (probeCall b).0.ended 1))
-arbitrates b true = let said = heard (opened b) (firstListed b.stations) in (said.0, (said.1, true))
+arbitrates b false = ((probe_call b).0, ((probe_call b).1, eqb (probe_call b).0.ended 1))
+arbitrates b true = let said = heard (opened b) (first_listed b.stations) in (said.0, (said.1, true))
 
 -- the engine that names the first station
-abbrev pub firstStation : Engine
-firstStation =
+abbrev pub first_station : Engine
+first_station =
     record {
       State = Bus × Bool;
-      setUp = λ r. ((setUp r).0, ((setUp r).1, false));
+      set_up = λ r. ((set_up r).0, ((set_up r).1, false));
       admit = λ s a. ((admit s.0 a).0, ((admit s.0 a).1, s.1));
-      begin = λ s. ((beginCall s.0).0, ((beginCall s.0).1, s.1));
+      begin = λ s. ((begin_call s.0).0, ((begin_call s.0).1, s.1));
       probe = λ s. arbitrates s.0 s.1;
-      closing = λ s. closingCall s.0;
+      closing = λ s. closing_call s.0;
     }
 
 -- ---- waits
 
 -- an answer with another wait, where a packet was sent
-abbrev pub withWait : ℕ → Answer → Answer
-withWait n a =
+abbrev pub with_wait : ℕ → Answer → Answer
+with_wait n a =
     record {
       refusal = a.refusal;
       drops = a.drops;
@@ -201,71 +201,71 @@ withWait n a =
     }
 
 -- counts the wait to the packet's end
-abbrev pub waitToTheEnd : Engine
-waitToTheEnd = probing λ o. (withWait ((probe o).0.wait + (probe o).0.length) (probe o).0, (probe o).1)
+abbrev pub wait_to_the_end : Engine
+wait_to_the_end = probing λ o. (with_wait ((probe o).0.wait + (probe o).0.length) (probe o).0, (probe o).1)
 
 -- counts the wait from the contention's beginning; beside the bus it keeps the slot in which that began
-abbrev pub waitOfTheContention : Engine
-waitOfTheContention =
+abbrev pub wait_of_the_contention : Engine
+wait_of_the_contention =
     record {
       State = Bus × ℕ;
-      setUp = λ r. ((setUp r).0, ((setUp r).1, 0));
+      set_up = λ r. ((set_up r).0, ((set_up r).1, 0));
       admit = λ s a. ((admit s.0 a).0, ((admit s.0 a).1, s.1));
-      begin = λ s. let o = beginCall s.0 in (o.0, (o.1, cond (eqb o.0.refusal 0) s.0.clock s.1));
-      probe = λ s. (withWait ((probeCall s.0).0.slot - s.1) (probeCall s.0).0, ((probeCall s.0).1, s.1));
-      closing = λ s. closingCall s.0;
+      begin = λ s. let o = begin_call s.0 in (o.0, (o.1, cond (eqb o.0.refusal 0) s.0.clock s.1));
+      probe = λ s. (with_wait ((probe_call s.0).0.slot - s.1) (probe_call s.0).0, ((probe_call s.0).1, s.1));
+      closing = λ s. closing_call s.0;
     }
 
 -- counts the wait from the arrival's time, where that is earlier than the admission: in a run whose k-th accepted arrival has the time that
 -- `times` gives for k
-abbrev pub waitFromTheArrival : (ℕ → ℕ) → Engine
-waitFromTheArrival times = probing λ o. (withWait (max (probe o).0.wait ((probe o).0.slot - times (probe o).0.number)) (probe o).0, (probe o).1)
+abbrev pub wait_from_the_arrival : (ℕ → ℕ) → Engine
+wait_from_the_arrival times = probing λ o. (with_wait (max (probe o).0.wait ((probe o).0.slot - times (probe o).0.number)) (probe o).0, (probe o).1)
 
 -- the times of arrivals that come a slot after one another: 0 for packet 1, 1 for packet 2 and so on
-abbrev pub arrivalTimes : ℕ → ℕ
-arrivalTimes k = k - 1
+abbrev pub arrival_times : ℕ → ℕ
+arrival_times k = k - 1
 
 -- ---- begin and probe
 
 -- the machine with another begin
 abbrev pub beginning : (Bus → Begun × Bus) → Engine
-beginning other = record { State = Bus; setUp = setUp; admit = admit; begin = other; probe = probeCall; closing = closingCall }
+beginning other = record { State = Bus; set_up = set_up; admit = admit; begin = other; probe = probe_call; closing = closing_call }
 
 -- a begin's answer with no drops
-abbrev pub withoutDrops : Begun → Begun
-withoutDrops o = record { refusal = o.refusal; drops = 0; slot = o.slot; start = o.start; size = o.size; contenders = o.contenders }
+abbrev pub without_drops : Begun → Begun
+without_drops o = record { refusal = o.refusal; drops = 0; slot = o.slot; start = o.start; size = o.size; contenders = o.contenders }
 
 -- drops nothing as a contention begins, by its answer, and counts what it dropped in the contention's first probe; beside the bus it keeps what is
 -- still to be counted
-abbrev pub dropsLater : Engine
-dropsLater =
+abbrev pub drops_later : Engine
+drops_later =
     record {
       State = Bus × ℕ;
-      setUp = λ r. ((setUp r).0, ((setUp r).1, 0));
+      set_up = λ r. ((set_up r).0, ((set_up r).1, 0));
       admit = λ s a. ((admit s.0 a).0, ((admit s.0 a).1, s.1));
-      begin = λ s. let o = beginCall s.0 in cond (eqb o.0.refusal 0) (withoutDrops o.0, (o.1, o.0.drops)) (o.0, s);
-      probe = λ s. let p = probeCall s.0 in cond (eqb p.0.refusal 0) (dropping s.1 p.0, (p.1, 0)) (p.0, s);
-      closing = λ s. closingCall s.0;
+      begin = λ s. let o = begin_call s.0 in cond (eqb o.0.refusal 0) (without_drops o.0, (o.1, o.0.drops)) (o.0, s);
+      probe = λ s. let p = probe_call s.0 in cond (eqb p.0.refusal 0) (dropping s.1 p.0, (p.1, 0)) (p.0, s);
+      closing = λ s. closing_call s.0;
     }
 
 -- offers anew at the first probe, that of the first window of D, so that a packet admitted after the begin joins
-abbrev pub anewIn : Bus → Contention → Option ℕ → Bus
-anewIn b c none = cond (eqb c.window.size (firstWindow b.D).size) (begin b) b
-anewIn b c (some tied) = b
+abbrev pub anew_in : Bus → Contention → Option ℕ → Bus
+anew_in b c none = cond (eqb c.window.size (first_window b.D).size) (begin b) b
+anew_in b c (some tied) = b
 
 abbrev pub anew : Bus → Option Contention → Bus
 anew b none = b
-anew b (some c) = anewIn b c c.tie
+anew b (some c) = anew_in b c c.tie
 
-abbrev pub offersAnew : Engine
-offersAnew = probingBy λ b. cond (eqb (probeRefusal b) 0) (probeCall (anew b b.contention)) (probeCall b)
+abbrev pub offers_anew : Engine
+offers_anew = probing_by λ b. cond (eqb (probe_refusal b) 0) (probe_call (anew b b.contention)) (probe_call b)
 
 -- a begin takes a slot
-abbrev pub slotLater : Bus → Bus
-slotLater b = amended (suc b.clock) b.last b.contention b
+abbrev pub slot_later : Bus → Bus
+slot_later b = amended (suc b.clock) b.last b.contention b
 
-abbrev pub beginTakesASlot : Engine
-beginTakesASlot = beginning λ b. ((beginCall b).0, cond (eqb (beginCall b).0.refusal 0) (slotLater (beginCall b).1) b)
+abbrev pub begin_takes_a_slot : Engine
+begin_takes_a_slot = beginning λ b. ((begin_call b).0, cond (eqb (begin_call b).0.refusal 0) (slot_later (begin_call b).1) b)
 
 -- ---- rounds
 
@@ -273,34 +273,34 @@ beginTakesASlot = beginning λ b. ((beginCall b).0, cond (eqb (beginCall b).0.re
 abbrev pub with_last : Option ℕ → Bus → Bus
 with_last last b = amended b.clock last b.contention b
 
-abbrev pub roundEnded : Bus → Bus
-roundEnded b = with_last none b
+abbrev pub round_ended : Bus → Bus
+round_ended b = with_last none b
 
-abbrev pub roundOver : (Bus → Bool) → Bus → Bus
-roundOver over b = cond (over b) (roundEnded b) b
+abbrev pub round_over : (Bus → Bool) → Bus → Bus
+round_over over b = cond (over b) (round_ended b) b
 
 -- the machine, but that after a probe the round is over where a test holds
-abbrev pub endingRound : (Bus → Bool) → Engine
-endingRound over = probingBy λ b. ((probeCall b).0, roundOver over (probeCall b).1)
+abbrev pub ending_round : (Bus → Bool) → Engine
+ending_round over = probing_by λ b. ((probe_call b).0, round_over over (probe_call b).1)
 
 -- ends the round as soon as the top circuit has sent
-abbrev pub is-top : List Station → Option ℕ → Bool
-is-top stations none = false
-is-top stations (some winner) = each_of (λ s. leb s.capability winner) stations
+abbrev pub is_top : List Station → Option ℕ → Bool
+is_top stations none = false
+is_top stations (some winner) = each_of (λ s. leb s.capability winner) stations
 
-abbrev pub topSent : Bus → Bool
-topSent b = not (is-under-way b.contention) && is-top b.stations b.last
+abbrev pub top_sent : Bus → Bool
+top_sent b = not (is_under_way b.contention) && is_top b.stations b.last
 
-abbrev pub topEndsRound : Engine
-topEndsRound = endingRound topSent
+abbrev pub top_ends_round : Engine
+top_ends_round = ending_round top_sent
 
 -- ends the round with each contention, whoever has sent
-abbrev pub eachEndsRound : Engine
-eachEndsRound = endingRound λ b. not (is-under-way b.contention)
+abbrev pub each_ends_round : Engine
+each_ends_round = ending_round λ b. not (is_under_way b.contention)
 
 -- goes on with the round after a contention without a winner
-abbrev pub roundGoesOn : Engine
-roundGoesOn = probingBy λ b. ((probeCall b).0, cond (eqb (probeCall b).0.event idle) (with_last b.last (probeCall b).1) (probeCall b).1)
+abbrev pub round_goes_on : Engine
+round_goes_on = probing_by λ b. ((probe_call b).0, cond (eqb (probe_call b).0.event idle) (with_last b.last (probe_call b).1) (probe_call b).1)
 
 -- ---- packets turned away
 
@@ -309,25 +309,25 @@ abbrev pub counting : (ℕ → ℕ → ℕ) → Engine
 counting after =
     record {
       State = Bus;
-      setUp = setUp;
-      admit = λ b a. ((admit b a).0, withTurned (after (admit b a).0.refusal b.turned) (admit b a).1);
-      begin = beginCall;
-      probe = probeCall;
-      closing = closingCall;
+      set_up = set_up;
+      admit = λ b a. ((admit b a).0, with_turned (after (admit b a).0.refusal b.turned) (admit b a).1);
+      begin = begin_call;
+      probe = probe_call;
+      closing = closing_call;
     }
 
 -- counts a 12 too
-abbrev pub counts12Too : Engine
-counts12Too = counting λ refusal count. cond (eqb refusal 12) (oneMore count) (turnedAfter refusal count)
+abbrev pub counts12_too : Engine
+counts12_too = counting λ refusal count. cond (eqb refusal 12) (one_higher count) (turned_after refusal count)
 
 -- counts a 15 twice
-abbrev pub counts15Twice : Engine
-counts15Twice = counting λ refusal count. cond (eqb refusal 15) (oneMore (oneMore count)) (turnedAfter refusal count)
+abbrev pub counts15_twice : Engine
+counts15_twice = counting λ refusal count. cond (eqb refusal 15) (one_higher (one_higher count)) (turned_after refusal count)
 
 -- counts 14 alone
-abbrev pub counts14Alone : Engine
-counts14Alone = counting λ refusal count. cond (eqb refusal 14) (oneMore count) count
+abbrev pub counts14_alone : Engine
+counts14_alone = counting λ refusal count. cond (eqb refusal 14) (one_higher count) count
 
 -- starts again at a contention
-abbrev pub startsAgain : Engine
-startsAgain = beginning λ b. ((beginCall b).0, cond (eqb (beginCall b).0.refusal 0) (withTurned 0 (beginCall b).1) b)
+abbrev pub starts_again : Engine
+starts_again = beginning λ b. ((begin_call b).0, cond (eqb (begin_call b).0.refusal 0) (with_turned 0 (begin_call b).1) b)

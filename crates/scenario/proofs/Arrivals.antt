@@ -10,47 +10,47 @@ use lib.Seq.{drop-drop}
 use borrow.Author.Tests.{eq-eqb, ne_eqb}
 use Rattle.rules.proofs.Laws.{clash}
 use Rattle.state.specs.declared.Arrival.{Arrival}
-use Rattle.scenario.specs.Format.{Said, readRecord, outOfPlace}
-use Rattle.scenario.specs.Reading.{arrival-bytes, run-bytes, arrivalFrom, stepsFrom}
-use Rattle.scenario.specs.Reading.{EndingRead, refusedEnding, withArrival, run_from, arrivalsFrom}
+use Rattle.scenario.specs.Format.{Said, read_record, out_of_place}
+use Rattle.scenario.specs.Reading.{arrival_bytes, run_bytes, arrival_from, steps_from}
+use Rattle.scenario.specs.Reading.{EndingRead, refused_ending, with_arrival, run_from, arrivals_from}
 use Rattle.scenario.specs.Parts.{ArrivalsAt}
-use Rattle.scenario.proofs.ReadingLaws.{arrivalsBy}
+use Rattle.scenario.proofs.ReadingLaws.{arrivals_by}
 
 -- what no turn refuses is, where the record says an arrival, that arrival and those after it
 taken :
-    (x : Said) (turns previous at : ℕ) (rest : List ℕ) → x.kind ≡ 3 → (arrivalsBy x turns previous at rest).refusal ≡ 0
-    → arrivalsBy x turns previous at rest
-    ≡ withArrival
-    (arrivalFrom x.values)
-    (arrivalsFrom turns (arrivalFrom x.values).time.0 (at + arrival-bytes) (drop arrival-bytes rest))
+    (x : Said) (turns previous at : ℕ) (rest : List ℕ) → x.kind ≡ 3 → (arrivals_by x turns previous at rest).refusal ≡ 0
+    → arrivals_by x turns previous at rest
+    ≡ with_arrival
+    (arrival_from x.values)
+    (arrivals_from turns (arrival_from x.values).time.0 (at + arrival_bytes) (drop arrival_bytes rest))
 taken x turns previous at rest e f = go (eqb x.kind 3) (ltb a previous) (eq-eqb x.kind 3 e) f
   where
     a : ℕ
-    a = (arrivalFrom x.values).time.0
+    a = (arrival_from x.values).time.0
 
     more : EndingRead
-    more = withArrival (arrivalFrom x.values) (arrivalsFrom turns a (at + arrival-bytes) (drop arrival-bytes rest))
+    more = with_arrival (arrival_from x.values) (arrivals_from turns a (at + arrival_bytes) (drop arrival_bytes rest))
 
     run : EndingRead
-    run = run_from x at (length (drop run-bytes rest))
+    run = run_from x at (length (drop run_bytes rest))
 
     go :
-        (t late : Bool) → t ≡ true → (cond t (cond late (refusedEnding 21 at) more) run).refusal ≡ 0
-        → cond t (cond late (refusedEnding 21 at) more) run ≡ more
+        (t late : Bool) → t ≡ true → (cond t (cond late (refused_ending 21 at) more) run).refusal ≡ 0
+        → cond t (cond late (refused_ending 21 at) more) run ≡ more
     go true true k f = absurd (omega arith)
     go true false k f = refl
     go false late k f = clash k refl
 
 -- and where it says none, no arrivals
-ended : (x : Said) (turns previous at : ℕ) (rest : List ℕ) → ¬ (x.kind ≡ 3) → (arrivalsBy x turns previous at rest).arrivals ≡ []
-ended x turns previous at rest e = simp (ne_eqb x.kind 3 e) (go (eqb x.kind 4) (eqb (length (drop run-bytes rest)) 0))
+ended : (x : Said) (turns previous at : ℕ) (rest : List ℕ) → ¬ (x.kind ≡ 3) → (arrivals_by x turns previous at rest).arrivals ≡ []
+ended x turns previous at rest e = simp (ne_eqb x.kind 3 e) (go (eqb x.kind 4) (eqb (length (drop run_bytes rest)) 0))
   where
     go :
         (t u : Bool)
         → (cond
         t
-        (cond u (record { refusal = 0; offset = 0; arrivals = []; steps = stepsFrom x.values }) (refusedEnding 20 (at + run-bytes)))
-        (refusedEnding (outOfPlace x) at)
+        (cond u (record { refusal = 0; offset = 0; arrivals = []; steps = steps_from x.values }) (refused_ending 20 (at + run_bytes)))
+        (refused_ending (out_of_place x) at)
         ).arrivals
         ≡ []
     go true true = refl
@@ -60,25 +60,25 @@ ended x turns previous at rest e = simp (ne_eqb x.kind 3 e) (go (eqb x.kind 4) (
 module _ {input : List ℕ} {at : ℕ} {arrivals : List Arrival} where
   -- where the record at an offset is an arrival, it is the first of those that stand there, and the others stand past its bytes
   pub arrivals-here :
-      ArrivalsAt input at arrivals → (readRecord (drop at input)).kind ≡ 3
-      → (later : List Arrival) × (arrivals ≡ arrivalFrom (readRecord (drop at input)).values ∷ later) × ArrivalsAt input (at + 16) later
+      ArrivalsAt input at arrivals → (read_record (drop at input)).kind ≡ 3
+      → (later : List Arrival) × (arrivals ≡ arrival_from (read_record (drop at input)).values ∷ later) × ArrivalsAt input (at + 16) later
   arrivals-here here e = go here.turns here.fine here.collected
     where
       x : Said
-      x = readRecord (drop at input)
+      x = read_record (drop at input)
 
       a : ℕ
-      a = (arrivalFrom x.values).time.0
+      a = (arrival_from x.values).time.0
 
       go :
-          (turns : ℕ) → (arrivalsFrom turns here.previous at (drop at input)).refusal ≡ 0
-          → (arrivalsFrom turns here.previous at (drop at input)).arrivals ≡ arrivals
-          → (later : List Arrival) × (arrivals ≡ arrivalFrom (readRecord (drop at input)).values ∷ later) × ArrivalsAt input (at + 16) later
+          (turns : ℕ) → (arrivals_from turns here.previous at (drop at input)).refusal ≡ 0
+          → (arrivals_from turns here.previous at (drop at input)).arrivals ≡ arrivals
+          → (later : List Arrival) × (arrivals ≡ arrival_from (read_record (drop at input)).values ∷ later) × ArrivalsAt input (at + 16) later
       go zero f c = absurd (omega arith)
       go (suc turns) f c =
           let turn = taken x turns here.previous at (drop at input) e f in
-          let past = ap (arrivalsFrom turns a (at + 16)) (drop-drop 16 at input) in (
-            (arrivalsFrom turns a (at + 16) (drop 16 (drop at input))).arrivals,
+          let past = ap (arrivals_from turns a (at + 16)) (drop-drop 16 at input) in (
+            (arrivals_from turns a (at + 16) (drop 16 (drop at input))).arrivals,
             sym c ∙ ap (λ (x : EndingRead). x.arrivals) turn,
             record {
               turns = turns;
@@ -89,12 +89,12 @@ module _ {input : List ℕ} {at : ℕ} {arrivals : List Arrival} where
           )
 
   -- where it is none, none stand there
-  pub arrivals-none : ArrivalsAt input at arrivals → ¬ ((readRecord (drop at input)).kind ≡ 3) → arrivals ≡ []
-  arrivals-none here e = go here.turns here.fine here.collected
+  pub arrivals_none : ArrivalsAt input at arrivals → ¬ ((read_record (drop at input)).kind ≡ 3) → arrivals ≡ []
+  arrivals_none here e = go here.turns here.fine here.collected
     where
       go :
-          (turns : ℕ) → (arrivalsFrom turns here.previous at (drop at input)).refusal ≡ 0
-          → (arrivalsFrom turns here.previous at (drop at input)).arrivals ≡ arrivals
+          (turns : ℕ) → (arrivals_from turns here.previous at (drop at input)).refusal ≡ 0
+          → (arrivals_from turns here.previous at (drop at input)).arrivals ≡ arrivals
           → arrivals ≡ []
       go zero f c = absurd (omega arith)
-      go (suc turns) f c = sym c ∙ ended (readRecord (drop at input)) turns here.previous at (drop at input) e
+      go (suc turns) f c = sym c ∙ ended (read_record (drop at input)) turns here.previous at (drop at input) e

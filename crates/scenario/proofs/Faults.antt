@@ -1,8 +1,8 @@
 -- The table of refused scenarios (specs/Faults.antt) holds, by computation. Assumes nothing.
 use mathlib.Core.Path.{◌≡◌, refl}
 use mathlib.Core.Option.{none}
-use Rattle.scenario.specs.Faults.{faults, firstWrong}
+use Rattle.scenario.specs.Faults.{faults, first_wrong}
 
 -- no row is wrong
-pub all-refused : firstWrong 1 faults ≡ none
-all-refused = refl
+pub all_refused : first_wrong 1 faults ≡ none
+all_refused = refl

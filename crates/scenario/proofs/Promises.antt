@@ -11,7 +11,7 @@ use Rattle.scenario.specs.declared.Record.{Record}
 use Rattle.scenario.specs.Format.{said}
 use Rattle.scenario.specs.Reading.{accepted, reading}
 use Rattle.scenario.specs.Writing.{Bytes, written, Good}
-use Rattle.scenario.specs.Faults.{faults, firstWrong}
+use Rattle.scenario.specs.Faults.{faults, first_wrong}
 use Rattle.scenario.proofs.Faults as Faults
 use Rattle.scenario.proofs.Unique as Unique
 use Rattle.scenario.proofs.Written as Written
@@ -29,9 +29,9 @@ pub accepted-only :
 accepted-only = Written.accepted-only
 
 -- no two answers to a record read say the same
-pub said-injective : (r r' : Record) → said r ≡ said r' → r ≡ r'
-said-injective = Unique.said-injective
+pub said_injective : (r r' : Record) → said r ≡ said r' → r ≡ r'
+said_injective = Unique.said_injective
 
 -- which number at which offset: the table of refused scenarios holds
-pub all-refused : firstWrong 1 faults ≡ none
-all-refused = Faults.all-refused
+pub all_refused : first_wrong 1 faults ≡ none
+all_refused = Faults.all_refused

@@ -17,20 +17,20 @@ use borrow.Author.Tests.{eqb-true, eqb-false, ltb-true, ltb-false, eq-eqb, ne_eq
 use Rattle.rules.specs.Lists.{each_of, has, verdict, first_of}
 use Rattle.rules.proofs.Laws.{and-true, or-false}
 use Rattle.rules.specs.declared.Verdict.{Verdict}
-use Rattle.rules.specs.Bus.{most-stations}
-use Rattle.rules.specs.SetUp.{Asked, Request, fine, settingsTests, stationTests, rowTests, setUpVerdict}
+use Rattle.rules.specs.Bus.{most_stations}
+use Rattle.rules.specs.SetUp.{Asked, Request, fine, settings_tests, station_tests, row_tests, set_up_verdict}
 use Rattle.state.specs.declared.Arrival.{Arrival}
 use Rattle.state.specs.declared.Listed.{Listed}
 use Rattle.state.specs.declared.Settings.{Settings}
 use Rattle.state.specs.State.{nobody}
-use Rattle.state.specs.SetUp.{asked_of, settingsRefusal}
-use Rattle.state.proofs.SettingUp.{settings-pass}
+use Rattle.state.specs.SetUp.{asked_of, settings_refusal}
+use Rattle.state.proofs.SettingUp.{settings_pass}
 use Rattle.scenario.specs.declared.Record.TheVariants as Is
-use Rattle.scenario.specs.Format.{Record, said, outOfPlace}
-use Rattle.scenario.specs.Format.{Kind, arrivalKind, Said, kinds, row_of, refusedRecord, lengthIn, kindIn, saidBy, bodyIn, read_body, readRecord}
-use Rattle.scenario.specs.Reading.{EndingRead, set-up-bytes, station-bytes, arrival-bytes, run-bytes}
-use Rattle.scenario.specs.Reading.{askedFrom, StationsRead, withStation, stationsFrom, stationOffset, Reading, refused}
-use Rattle.scenario.specs.Reading.{arrivalFrom, refusedEnding, withArrival, run_from, arrivalsFrom}
+use Rattle.scenario.specs.Format.{Record, said, out_of_place}
+use Rattle.scenario.specs.Format.{Kind, arrival_kind, Said, kinds, row_of, refused_record, length_in, kind_in, said_by, body_in, read_body, read_record}
+use Rattle.scenario.specs.Reading.{EndingRead, set_up_bytes, station_bytes, arrival_bytes, run_bytes}
+use Rattle.scenario.specs.Reading.{asked_from, StationsRead, with_station, stations_from, station_offset, Reading, refused}
+use Rattle.scenario.specs.Reading.{arrival_from, refused_ending, with_arrival, run_from, arrivals_from}
 use Rattle.scenario.specs.Parts.{run_at}
 use Rattle.scenario.specs.contracts.Record.{the_type}
 
@@ -41,8 +41,8 @@ abbrev pub size_of : ℕ → ℕ
 size_of kind =
     cond
     (eqb kind 1)
-    set-up-bytes
-    (cond (eqb kind 2) station-bytes (cond (eqb kind 3) arrival-bytes (cond (eqb kind 4) run-bytes 0)))
+    set_up_bytes
+    (cond (eqb kind 2) station_bytes (cond (eqb kind 3) arrival_bytes (cond (eqb kind 4) run_bytes 0)))
 
 -- whether a row of the table has these bytes: the two of its length, and what follows them
 abbrev sized : Kind → Bool
@@ -62,7 +62,7 @@ rows_fit rest kind long (row ∷ rows) e =
   where
     read :
         (t : Bool) → ltb (length rest) (2 + row.length) ≡ t → size_of row.kind ≡ 2 + row.length
-        → size_of (cond t (refusedRecord 18) (saidBy row (bodyIn row.length rest))).kind ≤ length rest
+        → size_of (cond t (refused_record 18) (said_by row (body_in row.length rest))).kind ≤ length rest
     read true l s = omega arith
     read false l s = let h = ltb-false (length rest) (2 + row.length) l in rw s h
 
@@ -73,36 +73,36 @@ rows_fit rest kind long (row ∷ rows) e =
     go false s later = later
 
 -- a record of a known kind has its bytes in the rest
-record-fits : (rest : List ℕ) → size_of (readRecord rest).kind ≤ length rest
-record-fits rest = go (ltb (length rest) 4)
+record_fits : (rest : List ℕ) → size_of (read_record rest).kind ≤ length rest
+record_fits rest = go (ltb (length rest) 4)
   where
-    go : (t : Bool) → size_of (cond t (refusedRecord 18) (read_body (row_of (kindIn rest) (lengthIn rest) kinds) rest)).kind ≤ length rest
+    go : (t : Bool) → size_of (cond t (refused_record 18) (read_body (row_of (kind_in rest) (length_in rest) kinds) rest)).kind ≤ length rest
     go true = omega arith
-    go false = rows_fit rest (kindIn rest) (lengthIn rest) kinds refl
+    go false = rows_fit rest (kind_in rest) (length_in rest) kinds refl
 
 -- and so ends within the input
 pub record-within :
-    (input : List ℕ) (at k : ℕ) → (readRecord (drop at input)).kind ≡ k → 0 < size_of k → at + size_of k ≤ length input
+    (input : List ℕ) (at k : ℕ) → (read_record (drop at input)).kind ≡ k → 0 < size_of k → at + size_of k ≤ length input
 record-within input at k e some! =
-    let h : size_of k ≤ length (drop at input) = subst (λ n. size_of n ≤ length (drop at input)) e (record-fits (drop at input)) in
+    let h : size_of k ≤ length (drop at input) = subst (λ n. size_of n ≤ length (drop at input)) e (record_fits (drop at input)) in
     omega (arith, length-drop at input)
 
 -- ---- the variants of a record
 
 -- the place of a variant among the others is the kind of what it says
-kind-tag : (found : Record) → (said found).kind ≡ tag_of the_type found
-kind-tag (Is.Refused n) = refl
-kind-tag (Is.SetUp g) = refl
-kind-tag (Is.Station s) = refl
-kind-tag (Is.Arrival a) = refl
-kind-tag (Is.Run steps) = refl
+kind_tag : (found : Record) → (said found).kind ≡ tag_of the_type found
+kind_tag (Is.Refused n) = refl
+kind_tag (Is.SetUp g) = refl
+kind_tag (Is.Station s) = refl
+kind_tag (Is.Arrival a) = refl
+kind_tag (Is.Run steps) = refl
 
 -- a record that is one of the other variants is not of the kind
 pub other-kind :
     (k : ℕ) (others : List ℕ) (found : Record) (x : Said) → said found ≡ x → has k others ≡ false → OneOf others (tag_of the_type found)
     → ¬ (x.kind ≡ k)
 other-kind k others found x e none one s =
-    let tag : k ≡ tag_of the_type found = sym s ∙ ap (λ (y : Said). y.kind) (sym e) ∙ kind-tag found in
+    let tag : k ≡ tag_of the_type found = sym s ∙ ap (λ (y : Said). y.kind) (sym e) ∙ kind_tag found in
     go others none one tag
   where
     go : (ks : List ℕ) → has k ks ≡ false → OneOf ks (tag_of the_type found) → k ≡ tag_of the_type found → ⊥
@@ -114,34 +114,34 @@ other-kind k others found x e none one s =
 -- ---- the stations
 
 -- one turn of the stations, by what the record says
-abbrev stationsBy : Said → ℕ → ℕ → List ℕ → StationsRead
-stationsBy x n offset rest =
+abbrev stations_by : Said → ℕ → ℕ → List ℕ → StationsRead
+stations_by x n offset rest =
     cond
     (eqb x.kind 2)
-    (withStation (askedFrom x.values) (stationsFrom n (offset + station-bytes) (drop station-bytes rest)))
-    (record { refusal = outOfPlace x; offset = offset; asked = [] })
+    (with_station (asked_from x.values) (stations_from n (offset + station_bytes) (drop station_bytes rest)))
+    (record { refusal = out_of_place x; offset = offset; asked = [] })
 
 -- stations taken in front of those that are read after them
-abbrev pub withStations : List Asked → StationsRead → StationsRead
-withStations taken x = record { refusal = x.refusal; offset = x.offset; asked = taken ++ x.asked }
+abbrev pub with_stations : List Asked → StationsRead → StationsRead
+with_stations taken x = record { refusal = x.refusal; offset = x.offset; asked = taken ++ x.asked }
 
 -- the stations of a row of n, where the first i stand in the array and the others are yet to be read
-abbrev pub stationsAfter : List ℕ → List Listed → ℕ → ℕ → StationsRead
-stationsAfter input stations n i =
-    withStations (map asked_of (take i stations)) (stationsFrom (n - i) (stationOffset i) (drop (stationOffset i) input))
+abbrev pub stations_after : List ℕ → List Listed → ℕ → ℕ → StationsRead
+stations_after input stations n i =
+    with_stations (map asked_of (take i stations)) (stations_from (n - i) (station_offset i) (drop (station_offset i) input))
 
 -- one turn where the next record is a station, which is put into the array
 pub station-turn :
     (input : List ℕ) (stations : List Listed) (n i : ℕ) (s : Listed) → i < n → i < length stations
-    → said (Is.Station s) ≡ readRecord (drop (stationOffset i) input)
-    → stationsAfter input stations n i ≡ stationsAfter input (set stations i s) n (i + 1)
+    → said (Is.Station s) ≡ read_record (drop (station_offset i) input)
+    → stations_after input stations n i ≡ stations_after input (set stations i s) n (i + 1)
 station-turn input stations n i s h l e =
-    ap (λ k. withStations before (stationsFrom k (stationOffset i) rest)) more
-    ∙ ap (λ x. withStations before (stationsBy x m (stationOffset i) rest)) (sym e)
+    ap (λ k. with_stations before (stations_from k (station_offset i) rest)) more
+    ∙ ap (λ x. with_stations before (stations_by x m (station_offset i) rest)) (sym e)
     ∙ ap₂
-    (λ o r. withStations before (withStation (asked_of s) (stationsFrom m o r)))
+    (λ o r. with_stations before (with_station (asked_of s) (stations_from m o r)))
     next
-    (drop-drop station-bytes (stationOffset i) input ∙ ap (λ o. drop o input) next)
+    (drop-drop station_bytes (station_offset i) input ∙ ap (λ o. drop o input) next)
     ∙ ap
     (λ asked. record { refusal = later.refusal; offset = later.offset; asked = asked })
     (sym (append_snoc before (asked_of s) later.asked) ∙ ap (λ taken. taken ++ later.asked) (sym one_more))
@@ -150,18 +150,18 @@ station-turn input stations n i s h l e =
     before = map asked_of (take i stations)
 
     rest : List ℕ
-    rest = drop (stationOffset i) input
+    rest = drop (station_offset i) input
 
     m : ℕ
     m = n - (i + 1)
 
     later : StationsRead
-    later = stationsFrom m (stationOffset (i + 1)) (drop (stationOffset (i + 1)) input)
+    later = stations_from m (station_offset (i + 1)) (drop (station_offset (i + 1)) input)
 
     more : n - i ≡ suc m
     more = omega arith
 
-    next : stationOffset i + station-bytes ≡ stationOffset (i + 1)
+    next : station_offset i + station_bytes ≡ station_offset (i + 1)
     next = omega arith
 
     one_more : map asked_of (take (i + 1) (set stations i s)) ≡ before ++ (asked_of s ∷ [])
@@ -172,21 +172,21 @@ station-turn input stations n i s h l e =
 
 -- where it is none
 pub station-other :
-    (input : List ℕ) (stations : List Listed) (n i : ℕ) → i < n → ¬ ((readRecord (drop (stationOffset i) input)).kind ≡ 2)
-    → stationsAfter input stations n i
+    (input : List ℕ) (stations : List Listed) (n i : ℕ) → i < n → ¬ ((read_record (drop (station_offset i) input)).kind ≡ 2)
+    → stations_after input stations n i
     ≡ record {
-      refusal = outOfPlace (readRecord (drop (stationOffset i) input));
-      offset = stationOffset i;
+      refusal = out_of_place (read_record (drop (station_offset i) input));
+      offset = station_offset i;
       asked = map asked_of (take i stations);
     }
 station-other input stations n i h e =
     let more : n - i ≡ suc (n - (i + 1)) = omega arith in
-    ap (λ k. withStations before (stationsFrom k (stationOffset i) (drop (stationOffset i) input))) more
+    ap (λ k. with_stations before (stations_from k (station_offset i) (drop (station_offset i) input))) more
     ∙ simp (ne_eqb x.kind 2 e)
-    (ap (λ asked. record { refusal = outOfPlace x; offset = stationOffset i; asked = asked }) (append-nil before))
+    (ap (λ asked. record { refusal = out_of_place x; offset = station_offset i; asked = asked }) (append-nil before))
   where
     x : Said
-    x = readRecord (drop (stationOffset i) input)
+    x = read_record (drop (station_offset i) input)
 
     before : List Asked
     before = map asked_of (take i stations)
@@ -194,11 +194,11 @@ station-other input stations n i h e =
 -- and where all are read
 pub stations-end :
     (input : List ℕ) (stations : List Listed) (n i : ℕ) → i ≤ n → n ≤ i
-    → stationsAfter input stations n i ≡ record { refusal = 0; offset = 0; asked = map asked_of (take n stations) }
+    → stations_after input stations n i ≡ record { refusal = 0; offset = 0; asked = map asked_of (take n stations) }
 stations-end input stations n i h l =
     let same : i ≡ n = omega arith in
     let none : n - i ≡ 0 = omega arith in
-    ap (λ k. withStations (map asked_of (take i stations)) (stationsFrom k (stationOffset i) (drop (stationOffset i) input))) none
+    ap (λ k. with_stations (map asked_of (take i stations)) (stations_from k (station_offset i) (drop (station_offset i) input))) none
     ∙ ap
     (λ asked. record { refusal = 0; offset = 0; asked = asked })
     (append-nil (map asked_of (take i stations)) ∙ ap (λ k. map asked_of (take k stations)) same)
@@ -206,124 +206,124 @@ stations-end input stations n i h l =
 -- ---- the arrivals
 
 -- one turn of the arrivals, by what the record says
-abbrev pub arrivalsBy : Said → ℕ → ℕ → ℕ → List ℕ → EndingRead
-arrivalsBy x turns previous offset rest =
+abbrev pub arrivals_by : Said → ℕ → ℕ → ℕ → List ℕ → EndingRead
+arrivals_by x turns previous offset rest =
     cond
     (eqb x.kind 3)
     (cond
-    (ltb (arrivalFrom x.values).time.0 previous)
-    (refusedEnding 21 offset)
-    (withArrival
-    (arrivalFrom x.values)
-    (arrivalsFrom turns (arrivalFrom x.values).time.0 (offset + arrival-bytes) (drop arrival-bytes rest))))
-    (run_from x offset (length (drop run-bytes rest)))
+    (ltb (arrival_from x.values).time.0 previous)
+    (refused_ending 21 offset)
+    (with_arrival
+    (arrival_from x.values)
+    (arrivals_from turns (arrival_from x.values).time.0 (offset + arrival_bytes) (drop arrival_bytes rest))))
+    (run_from x offset (length (drop run_bytes rest)))
 
 -- any number of turns above the bytes that are left is enough
 enough :
     (turns turns' previous offset : ℕ) (rest : List ℕ) → length rest < turns → length rest < turns'
-    → arrivalsFrom turns previous offset rest ≡ arrivalsFrom turns' previous offset rest
+    → arrivals_from turns previous offset rest ≡ arrivals_from turns' previous offset rest
 enough zero turns' previous offset rest h h' = absurd (omega arith)
 enough (suc turns) zero previous offset rest h h' = absurd (omega arith)
 enough (suc turns) (suc turns') previous offset rest h h' =
-    go (eqb x.kind 3) refl (enough turns turns' a (offset + arrival-bytes) (drop arrival-bytes rest))
+    go (eqb x.kind 3) refl (enough turns turns' a (offset + arrival_bytes) (drop arrival_bytes rest))
   where
     x : Said
-    x = readRecord rest
+    x = read_record rest
 
     a : ℕ
-    a = (arrivalFrom x.values).time.0
+    a = (arrival_from x.values).time.0
 
     later : ℕ → EndingRead
-    later k = arrivalsFrom k a (offset + arrival-bytes) (drop arrival-bytes rest)
+    later k = arrivals_from k a (offset + arrival_bytes) (drop arrival_bytes rest)
 
     by : Bool → EndingRead → EndingRead
     by t more =
         cond
         t
-        (cond (ltb a previous) (refusedEnding 21 offset) (withArrival (arrivalFrom x.values) more))
-        (run_from x offset (length (drop run-bytes rest)))
+        (cond (ltb a previous) (refused_ending 21 offset) (with_arrival (arrival_from x.values) more))
+        (run_from x offset (length (drop run_bytes rest)))
 
     go :
         (t : Bool) → eqb x.kind 3 ≡ t
-        → (length (drop arrival-bytes rest) < turns → length (drop arrival-bytes rest) < turns' → later turns ≡ later turns')
+        → (length (drop arrival_bytes rest) < turns → length (drop arrival_bytes rest) < turns' → later turns ≡ later turns')
         → by t (later turns) ≡ by t (later turns')
     go true e same =
         let long : 16 ≤ length rest = record-within rest 0 3 (eqb-true x.kind 3 e) (omega arith) in
-        let left = length-drop arrival-bytes rest in
+        let left = length-drop arrival_bytes rest in
         ap (by true) (same (omega arith) (omega arith))
     go false e same = refl
 
 -- an arrival's record ends within the input
-pub arrival-within : (input : List ℕ) (at : ℕ) → (readRecord (drop at input)).kind ≡ arrivalKind.kind → at + arrival-bytes ≤ length input
-arrival-within input at e = record-within input at 3 e (omega arith)
+pub arrival_within : (input : List ℕ) (at : ℕ) → (read_record (drop at input)).kind ≡ arrival_kind.kind → at + arrival_bytes ≤ length input
+arrival_within input at e = record-within input at 3 e (omega arith)
 
 -- one turn where the record is an arrival; t is whether its time is below the previous one's
 pub arrival-turn :
-    (input : List ℕ) (at previous : ℕ) (a : Arrival) (t : Bool) → said (Is.Arrival a) ≡ readRecord (drop at input)
+    (input : List ℕ) (at previous : ℕ) (a : Arrival) (t : Bool) → said (Is.Arrival a) ≡ read_record (drop at input)
     → t ≡ ltb a.time.0 previous
-    → arrivalsFrom (suc (length input)) previous at (drop at input)
+    → arrivals_from (suc (length input)) previous at (drop at input)
     ≡ cond
     t
-    (refusedEnding 21 at)
-    (withArrival a (arrivalsFrom (suc (length input)) a.time.0 (at + arrival-bytes) (drop (at + arrival-bytes) input)))
+    (refused_ending 21 at)
+    (with_arrival a (arrivals_from (suc (length input)) a.time.0 (at + arrival_bytes) (drop (at + arrival_bytes) input)))
 arrival-turn input at previous a t e late =
-    let within : at + 16 ≤ length input = arrival-within input at (ap (λ (y : Said). y.kind) (sym e)) in
-    let left = length-drop (at + arrival-bytes) input in
-    ap (λ x. arrivalsBy x (length input) previous at (drop at input)) (sym e)
+    let within : at + 16 ≤ length input = arrival_within input at (ap (λ (y : Said). y.kind) (sym e)) in
+    let left = length-drop (at + arrival_bytes) input in
+    ap (λ x. arrivals_by x (length input) previous at (drop at input)) (sym e)
     ∙ ap₂
-    (λ b rest. cond b (refusedEnding 21 at) (withArrival a (arrivalsFrom (length input) a.time.0 (at + arrival-bytes) rest)))
+    (λ b rest. cond b (refused_ending 21 at) (with_arrival a (arrivals_from (length input) a.time.0 (at + arrival_bytes) rest)))
     (sym late)
-    (drop-drop arrival-bytes at input)
+    (drop-drop arrival_bytes at input)
     ∙ ap
-    (λ later. cond t (refusedEnding 21 at) (withArrival a later))
-    (enough (length input) (suc (length input)) a.time.0 (at + arrival-bytes) (drop (at + arrival-bytes) input) (omega arith) (omega arith))
+    (λ later. cond t (refused_ending 21 at) (with_arrival a later))
+    (enough (length input) (suc (length input)) a.time.0 (at + arrival_bytes) (drop (at + arrival_bytes) input) (omega arith) (omega arith))
 
 -- and where it is none
 pub arrivals-over :
-    (input : List ℕ) (turns previous at : ℕ) → ¬ ((readRecord (drop at input)).kind ≡ 3)
-    → arrivalsFrom (suc turns) previous at (drop at input) ≡ run_at input at
-arrivals-over input turns previous at e = rw (ne_eqb (readRecord (drop at input)).kind 3 e)
+    (input : List ℕ) (turns previous at : ℕ) → ¬ ((read_record (drop at input)).kind ≡ 3)
+    → arrivals_from (suc turns) previous at (drop at input) ≡ run_at input at
+arrivals-over input turns previous at e = rw (ne_eqb (read_record (drop at input)).kind 3 e)
 
 -- ---- the run
 
 -- where the record is no run
 pub run-other :
-    (input : List ℕ) (at : ℕ) → ¬ ((readRecord (drop at input)).kind ≡ 4)
-    → run_at input at ≡ refusedEnding (outOfPlace (readRecord (drop at input))) at
-run-other input at e = rw (ne_eqb (readRecord (drop at input)).kind 4 e)
+    (input : List ℕ) (at : ℕ) → ¬ ((read_record (drop at input)).kind ≡ 4)
+    → run_at input at ≡ refused_ending (out_of_place (read_record (drop at input))) at
+run-other input at e = rw (ne_eqb (read_record (drop at input)).kind 4 e)
 
 -- where it is one; t is whether bytes come after it
 pub run-here :
-    (input : List ℕ) (at steps : ℕ) (t : Bool) → said (Is.Run steps) ≡ readRecord (drop at input)
-    → t ≡ ltb (at + run-bytes) (length input)
+    (input : List ℕ) (at steps : ℕ) (t : Bool) → said (Is.Run steps) ≡ read_record (drop at input)
+    → t ≡ ltb (at + run_bytes) (length input)
     → run_at input at
-    ≡ cond t (refusedEnding 20 (at + run-bytes)) (record { refusal = 0; offset = 0; arrivals = []; steps = steps })
+    ≡ cond t (refused_ending 20 (at + run_bytes)) (record { refusal = 0; offset = 0; arrivals = []; steps = steps })
 run-here input at steps t e more =
-    ap (λ x. run_from x at after) (sym e) ∙ ap (λ b. cond b last (refusedEnding 20 (at + run-bytes))) (none t more) ∙ swap t
+    ap (λ x. run_from x at after) (sym e) ∙ ap (λ b. cond b last (refused_ending 20 (at + run_bytes))) (none t more) ∙ swap t
   where
     after : ℕ
-    after = length (drop run-bytes (drop at input))
+    after = length (drop run_bytes (drop at input))
 
     last : EndingRead
     last = record { refusal = 0; offset = 0; arrivals = []; steps = steps }
 
-    none : (u : Bool) → u ≡ ltb (at + run-bytes) (length input) → eqb after 0 ≡ not u
+    none : (u : Bool) → u ≡ ltb (at + run_bytes) (length input) → eqb after 0 ≡ not u
     none true l =
-        let h = ltb-true (at + run-bytes) (length input) (sym l) in
-        ne_eqb after 0 (λ z. omega (arith, length-drop run-bytes (drop at input), length-drop at input))
+        let h = ltb-true (at + run_bytes) (length input) (sym l) in
+        ne_eqb after 0 (λ z. omega (arith, length-drop run_bytes (drop at input), length-drop at input))
     none false l =
-        let h = ltb-false (at + run-bytes) (length input) (sym l) in
-        eq-eqb after 0 (omega (arith, length-drop run-bytes (drop at input), length-drop at input))
+        let h = ltb-false (at + run_bytes) (length input) (sym l) in
+        eq-eqb after 0 (omega (arith, length-drop run_bytes (drop at input), length-drop at input))
 
-    swap : (u : Bool) → cond (not u) last (refusedEnding 20 (at + run-bytes)) ≡ cond u (refusedEnding 20 (at + run-bytes)) last
+    swap : (u : Bool) → cond (not u) last (refused_ending 20 (at + run_bytes)) ≡ cond u (refused_ending 20 (at + run_bytes)) last
     swap true = refl
     swap false = refl
 
 -- ---- the set-up
 
 -- settings that are not refused have no more than 64 stations
-pub few-stations : (g : Settings) → settingsRefusal g ≡ 0 → g.n ≤ 64
-few-stations g e = (settings-pass g (replicate most-stations (asked_of nobody)) e).few
+pub few_stations : (g : Settings) → settings_refusal g ≡ 0 → g.n ≤ 64
+few_stations g e = (settings_pass g (replicate most_stations (asked_of nobody)) e).few
 
 -- each of these tests is about the station at place i
 abbrev About : ℕ → List (Verdict × Bool) → Type 0
@@ -343,26 +343,26 @@ tests-about m i (t ∷ ts) us a h l = go t.1 (tests-about m i ts us a.1 h l)
 -- the verdict on the stations from place i on is about one of m, if these are that many at most
 row-about :
     (r : Request) (m i : ℕ) (earlier later : List Asked) → i + length later ≤ m
-    → (first_of fine (rowTests r i earlier later)).station ≤ m
+    → (first_of fine (row_tests r i earlier later)).station ≤ m
 row-about r m i earlier [] h = omega arith
 row-about r m i earlier (s ∷ later) h =
     tests-about
     m
     i
-    (stationTests r i earlier s)
-    (rowTests r (suc i) (earlier ++ (s ∷ [])) later)
+    (station_tests r i earlier s)
+    (row_tests r (suc i) (earlier ++ (s ∷ [])) later)
     (refl, (refl, (refl, (refl, tt))))
     (omega arith)
     (row-about r m (suc i) (earlier ++ (s ∷ [])) later (omega arith))
 
 -- the verdict on a set-up is about one of its stations
-pub verdict-about : (r : Request) → (setUpVerdict r).station ≤ r.N
-verdict-about r =
+pub verdict_about : (r : Request) → (set_up_verdict r).station ≤ r.N
+verdict_about r =
     tests-about
     r.N
     0
-    (settingsTests r)
-    (rowTests r 0 [] (take r.N r.row))
+    (settings_tests r)
+    (row_tests r 0 [] (take r.N r.row))
     (refl, (refl, (refl, (refl, (refl, tt)))))
     (omega arith)
     (row-about r r.N 0 [] (take r.N r.row) (omega (arith, length-take r.N r.row)))
@@ -376,5 +376,5 @@ refused-by n m offset at x e f h =
     ap₂ refused e f ∙ ap (λ t. cond t x (refused n offset)) (sym (ne_eqb n 0 (λ z. h (e ∙ z))))
 
 -- and 0 does not
-pub not-refused : (n m offset : ℕ) (x : Reading) → m ≡ n → m ≡ 0 → cond (eqb n 0) x (refused n offset) ≡ x
-not-refused n m offset x e z = ap (λ t. cond t x (refused n offset)) (eq-eqb n 0 (sym e ∙ z))
+pub not_refused : (n m offset : ℕ) (x : Reading) → m ≡ n → m ≡ 0 → cond (eqb n 0) x (refused n offset) ≡ x
+not_refused n m offset x e z = ap (λ t. cond t x (refused n offset)) (eq-eqb n 0 (sym e ∙ z))

@@ -8,14 +8,14 @@ use native.Mathlib.Omega.{arith}
 use lib.Dec.{ltb, eqb}
 use lib.ListN.{length}
 use borrow.Author.Tests.{eqb-true, le-ltb}
-use Rattle.scenario.specs.Format.{Kind, Said, kinds, row_of, refusedRecord, lengthIn, kindIn, saidBy, bodyIn, read_body, readRecord}
-use Rattle.scenario.specs.Parts.{known, isKind, saidByKind}
-use Rattle.scenario.proofs.Numbers.{fieldsFrom, fields-from}
+use Rattle.scenario.specs.Format.{Kind, Said, kinds, row_of, refused_record, length_in, kind_in, said_by, body_in, read_body, read_record}
+use Rattle.scenario.specs.Parts.{known, is_kind, said_by_kind}
+use Rattle.scenario.proofs.Numbers.{fields_from, fields_are_from}
 
 -- A row is there exactly where the test for it passes.
-pub known-row : (t : Bool) (row : Kind) → known (cond t (some row) none) ≡ t
-known-row true row = refl
-known-row false row = refl
+pub known_row : (t : Bool) (row : Kind) → known (cond t (some row) none) ≡ t
+known_row true row = refl
+known_row false row = refl
 
 -- What holds of the kind and the length of each row.
 abbrev Each : (ℕ → ℕ → Type 0) → List Kind → Type 0
@@ -39,53 +39,53 @@ by_rows P (row ∷ rows) each kind long e =
 
 -- What holds of the four kinds with their lengths holds of every known one.
 by_kind :
-    (P : ℕ → ℕ → Type 0) → P 1 14 → P 2 6 → P 3 14 → P 4 4 → (kind long : ℕ) → isKind kind long ≡ true → P kind long
+    (P : ℕ → ℕ → Type 0) → P 1 14 → P 2 6 → P 3 14 → P 4 4 → (kind long : ℕ) → is_kind kind long ≡ true → P kind long
 by_kind P a b c d = by_rows P kinds (a, (b, (c, (d, tt))))
 
 -- A known kind's record has a kind before its end.
-pub known-long : (kind long : ℕ) → isKind kind long ≡ true → 4 ≤ 2 + long
-known-long = by_kind (λ (kind long : ℕ). 4 ≤ 2 + long) (omega arith) (omega arith) (omega arith) (omega arith)
+pub known_long : (kind long : ℕ) → is_kind kind long ≡ true → 4 ≤ 2 + long
+known_long = by_kind (λ (kind long : ℕ). 4 ≤ 2 + long) (omega arith) (omega arith) (omega arith) (omega arith)
 
 -- A known kind's record is read by its kind.
 known-body :
-    (rest : List ℕ) (kind long : ℕ) → isKind kind long ≡ true
-    → read_body (row_of kind long kinds) rest ≡ cond (ltb (length rest) (2 + long)) (refusedRecord 18) (saidByKind kind (bodyIn long rest))
+    (rest : List ℕ) (kind long : ℕ) → is_kind kind long ≡ true
+    → read_body (row_of kind long kinds) rest ≡ cond (ltb (length rest) (2 + long)) (refused_record 18) (said_by_kind kind (body_in long rest))
 known-body rest =
     by_kind
     (λ (kind long : ℕ).
-    read_body (row_of kind long kinds) rest ≡ cond (ltb (length rest) (2 + long)) (refusedRecord 18) (saidByKind kind (bodyIn long rest)))
+    read_body (row_of kind long kinds) rest ≡ cond (ltb (length rest) (2 + long)) (refused_record 18) (said_by_kind kind (body_in long rest)))
     refl
     refl
     refl
     refl
 
 -- A record with no row is refused.
-unknown-body : (row : Option Kind) (rest : List ℕ) → known row ≡ false → read_body row rest ≡ refusedRecord 19
-unknown-body none rest e = refl
-unknown-body (some row) rest e = absurd (true≢false e)
+unknown_body : (row : Option Kind) (rest : List ℕ) → known row ≡ false → read_body row rest ≡ refused_record 19
+unknown_body none rest e = refl
+unknown_body (some row) rest e = absurd (true≢false e)
 
-module _ (rest : List ℕ) (kind long : ℕ) (four : 4 ≤ length rest) (k : kind ≡ kindIn rest) (l : long ≡ lengthIn rest) where
+module _ (rest : List ℕ) (kind long : ℕ) (four : 4 ≤ length rest) (k : kind ≡ kind_in rest) (l : long ≡ length_in rest) where
   -- A record of at least four bytes is read by the kind and the length that they hold.
-  read_as : readRecord rest ≡ read_body (row_of kind long kinds) rest
+  read_as : read_record rest ≡ read_body (row_of kind long kinds) rest
   read_as =
-      ap (λ (t : Bool). cond t (refusedRecord 18) (read_body (row_of (kindIn rest) (lengthIn rest) kinds) rest)) (le-ltb _ _ four)
+      ap (λ (t : Bool). cond t (refused_record 18) (read_body (row_of (kind_in rest) (length_in rest) kinds) rest)) (le-ltb _ _ four)
       ∙ ap₂ (λ (x y : ℕ). read_body (row_of x y kinds) rest) (sym k) (sym l)
 
   -- One of an unknown kind, or of a length not that of its kind, is refused.
-  pub read-unknown : isKind kind long ≡ false → refusedRecord 19 ≡ readRecord rest
-  read-unknown e = sym (read_as ∙ unknown-body (row_of kind long kinds) rest e)
+  pub read_unknown : is_kind kind long ≡ false → refused_record 19 ≡ read_record rest
+  read_unknown e = sym (read_as ∙ unknown_body (row_of kind long kinds) rest e)
 
   -- One of a known kind is refused where its body is short, and else says what its body says.
   pub read_known :
-      (short : Bool) → ltb (length rest) (2 + long) ≡ short → isKind kind long ≡ true
-      → cond short (refusedRecord 18) (saidByKind kind (bodyIn long rest)) ≡ readRecord rest
+      (short : Bool) → ltb (length rest) (2 + long) ≡ short → is_kind kind long ≡ true
+      → cond short (refused_record 18) (said_by_kind kind (body_in long rest)) ≡ read_record rest
   read_known short s e =
-      ap (λ (t : Bool). cond t (refusedRecord 18) (saidByKind kind (bodyIn long rest))) (sym s)
+      ap (λ (t : Bool). cond t (refused_record 18) (said_by_kind kind (body_in long rest))) (sym s)
       ∙ sym (read_as ∙ known-body rest kind long e)
 
 -- What a body says by its row, from the numbers at the offsets of its fields.
 pub said-by :
-    (row : Kind) (body : List ℕ) (values : List ℕ) → values ≡ fieldsFrom row.widths 0 body
-    → ◌≡◌ {A = Said} (record { refusal = 0; kind = row.kind; values = values }) (saidBy row body)
+    (row : Kind) (body : List ℕ) (values : List ℕ) → values ≡ fields_from row.widths 0 body
+    → ◌≡◌ {A = Said} (record { refusal = 0; kind = row.kind; values = values }) (said_by row body)
 said-by row body values e =
-    ap {B = Said} (λ (vs : List ℕ). record { refusal = 0; kind = row.kind; values = vs }) (e ∙ sym (fields-from row.widths 0 body))
+    ap {B = Said} (λ (vs : List ℕ). record { refusal = 0; kind = row.kind; values = vs }) (e ∙ sym (fields_are_from row.widths 0 body))

@@ -8,21 +8,21 @@ use native.Mathlib.Omega.{arith}
 use lib.Dec.{ltb, eqb}
 use lib.ListN.{length, drop}
 use borrow.Author.Tests.{eqb-true, eqb-false}
-use Rattle.rules.specs.SetUp.{Request, setUpVerdict}
+use Rattle.rules.specs.SetUp.{Request, set_up_verdict}
 use Rattle.state.specs.declared.Settings.{Settings}
-use Rattle.state.specs.SetUp.{requestWith, settingsRefusal}
-use Rattle.scenario.specs.Format.{setUpKind, Said, readRecord, outOfPlace}
-use Rattle.scenario.specs.Reading.{most_bytes, set-up-bytes, settingsFrom, StationsRead, stationsFrom, EndingRead}
-use Rattle.scenario.specs.Reading.{Reading, refused, accepted, stationOffset, readEnding, readArrivals, readStations}
-use Rattle.scenario.specs.Reading.{readSettings, reading}
-use Rattle.scenario.specs.Parts.{endingAt}
-use Rattle.scenario.proofs.WrittenRecords.{told, place-refused}
+use Rattle.state.specs.SetUp.{request_with, settings_refusal}
+use Rattle.scenario.specs.Format.{set_up_kind, Said, read_record, out_of_place}
+use Rattle.scenario.specs.Reading.{most_bytes, set_up_bytes, settings_from, StationsRead, stations_from, EndingRead}
+use Rattle.scenario.specs.Reading.{Reading, refused, accepted, station_offset, read_ending, read_arrivals, read_stations}
+use Rattle.scenario.specs.Reading.{read_settings, reading}
+use Rattle.scenario.specs.Parts.{ending_at}
+use Rattle.scenario.proofs.WrittenRecords.{told, place_refused}
 use Rattle.scenario.specs.Parts.{ArrivalsAt}
 
 -- 'REFUSED number' bears a number; what is accepted is set up, and its arrivals stand from past its stations on
 abbrev pub Sound : List ℕ → Reading → Type 0
 Sound input (refused n offset) = ¬ (n ≡ 0)
-Sound input (accepted r arrivals steps) = ((setUpVerdict r).refusal ≡ 0) × ArrivalsAt input (stationOffset r.N) arrivals
+Sound input (accepted r arrivals steps) = ((set_up_verdict r).refusal ≡ 0) × ArrivalsAt input (station_offset r.N) arrivals
 
 -- by a test of the number
 by_number :
@@ -34,49 +34,49 @@ by_number input n offset x h = go (eqb n 0) refl
     go false e = eqb-false n 0 e
 
 -- with any settings
-sound-settings : (input : List ℕ) (g : Settings) → Sound input (readSettings g input)
-sound-settings input g =
+sound_settings : (input : List ℕ) (g : Settings) → Sound input (read_settings g input)
+sound_settings input g =
     by_number
     input
-    (settingsRefusal g)
+    (settings_refusal g)
     0
-    (readStations g x input)
+    (read_stations g x input)
     (λ z.
     by_number
     input
     x.refusal
     x.offset
-    (readArrivals r input)
+    (read_arrivals r input)
     (λ z.
     by_number
     input
-    (setUpVerdict r).refusal
-    (stationOffset (setUpVerdict r).station)
-    (readEnding r y)
+    (set_up_verdict r).refusal
+    (station_offset (set_up_verdict r).station)
+    (read_ending r y)
     (λ fine. by_number input y.refusal y.offset (accepted r y.arrivals y.steps) (λ z. (fine, here z)))))
   where
     x : StationsRead
-    x = stationsFrom g.n set-up-bytes (drop set-up-bytes input)
+    x = stations_from g.n set_up_bytes (drop set_up_bytes input)
 
     r : Request
-    r = requestWith g x.asked
+    r = request_with g x.asked
 
     y : EndingRead
-    y = endingAt input (stationOffset r.N)
+    y = ending_at input (station_offset r.N)
 
-    here : y.refusal ≡ 0 → ArrivalsAt input (stationOffset r.N) y.arrivals
+    here : y.refusal ≡ 0 → ArrivalsAt input (station_offset r.N) y.arrivals
     here z = record { turns = suc (length input); previous = 0; fine = z; collected = refl }
 
 -- whatever the bytes
 pub sound : (input : List ℕ) → Sound input (reading input)
-sound input = go (ltb most_bytes (length input)) (eqb x.kind setUpKind.kind)
+sound input = go (ltb most_bytes (length input)) (eqb x.kind set_up_kind.kind)
   where
     x : Said
-    x = readRecord input
+    x = read_record input
 
     go :
         (long t : Bool)
-        → Sound input (cond long (refused 22 0) (cond t (readSettings (settingsFrom x.values) input) (refused (outOfPlace x) 0)))
+        → Sound input (cond long (refused 22 0) (cond t (read_settings (settings_from x.values) input) (refused (out_of_place x) 0)))
     go true t = λ z. omega arith
-    go false true = sound-settings input (settingsFrom x.values)
-    go false false = place-refused input x (told input)
+    go false true = sound_settings input (settings_from x.values)
+    go false false = place_refused input x (told input)

@@ -8,7 +8,7 @@ use Rattle.window.specs.Determined.{Determines}
 use Rattle.window.proofs.Unique.{unique}
 use Rattle.scenario.specs.Format.{Record, Said, said}
 use Rattle.scenario.specs.declared.Record.TheVariants as Is
-use Rattle.scenario.specs.Reading.{settingsFrom, arrivalFrom, stepsFrom}
+use Rattle.scenario.specs.Reading.{settings_from, arrival_from, steps_from}
 use Rattle.scenario.proofs.record_at.Reads as record_at
 use Rattle.scenario.proofs.read.Reads as read
 
@@ -16,25 +16,25 @@ use Rattle.scenario.proofs.read.Reads as read
 abbrev saying : Said → Record
 saying x =
     cond (eqb x.kind 0) (Is.Refused x.refusal)
-    (cond (eqb x.kind 1) (Is.SetUp (settingsFrom x.values))
+    (cond (eqb x.kind 1) (Is.SetUp (settings_from x.values))
     (cond (eqb x.kind 2)
     (Is.Station (record { address = record { 0 = get_or x.values 0 0 }; capability = record { 0 = get_or x.values 1 0 } }))
-    (cond (eqb x.kind 3) (Is.Arrival (arrivalFrom x.values)) (Is.Run (stepsFrom x.values)))))
+    (cond (eqb x.kind 3) (Is.Arrival (arrival_from x.values)) (Is.Run (steps_from x.values)))))
 
 -- Each record is the one that says what it says.
-saying-said : (r : Record) → saying (said r) ≡ r
-saying-said (Is.Refused n) = refl
-saying-said (Is.SetUp g) = refl
-saying-said (Is.Station s) = refl
-saying-said (Is.Arrival a) = refl
-saying-said (Is.Run steps) = refl
+saying_said : (r : Record) → saying (said r) ≡ r
+saying_said (Is.Refused n) = refl
+saying_said (Is.SetUp g) = refl
+saying_said (Is.Station s) = refl
+saying_said (Is.Arrival a) = refl
+saying_said (Is.Run steps) = refl
 
 -- Two records that say the same are equal.
-pub said-injective : (r r' : Record) → said r ≡ said r' → r ≡ r'
-said-injective r r' e = sym (saying-said r) ∙ ap saying e ∙ saying-said r'
+pub said_injective : (r r' : Record) → said r ≡ said r' → r ≡ r'
+said_injective r r' e = sym (saying_said r) ∙ ap saying e ∙ saying_said r'
 
-pub record-at-determined : Determines record_at.Learnt
-record-at-determined κs args r r' end end' p q = said-injective r r' (unique p q)
+pub record_at_determined : Determines record_at.Learnt
+record_at_determined κs args r r' end end' p q = said_injective r r' (unique p q)
 
-pub read-determined : Determines read.Learnt
-read-determined κs args r r' end end' = unique
+pub read_determined : Determines read.Learnt
+read_determined κs args r r' end end' = unique

@@ -11,27 +11,27 @@ use lib.Seq.{take_all, drop_at, drop-drop}
 use borrow.Author.Tests.{le-ltb, ltb-false, eqb-true}
 use Rattle.rules.specs.Lists.{outside, at_head, in_tail, All, first_of}
 use Rattle.rules.specs.declared.Verdict.{Verdict}
-use Rattle.rules.specs.Bus.{most-stations, least-space, most-space, RTDG, RTVC, code}
-use Rattle.rules.specs.SetUp.{Asked, Request, fine, fault, step-outside, settingsTests, setUpVerdict}
-use Rattle.rules.specs.Conditions.{StepOutside, CapabilityOutside, rowConditions, setUpConditions}
+use Rattle.rules.specs.Bus.{most_stations, least_space, most_space, RTDG, RTVC, code}
+use Rattle.rules.specs.SetUp.{Asked, Request, fine, fault, step_outside, settings_tests, set_up_verdict}
+use Rattle.rules.specs.Conditions.{StepOutside, CapabilityOutside, row_conditions, set_up_conditions}
 use Rattle.rules.proofs.Laws.{all_cons, all_nil}
 use Rattle.rules.proofs.Tests.{Whether, holds, fails, stable, equal, inside, NoneHolds}
-use Rattle.rules.proofs.Standing.{set-up-accepted}
+use Rattle.rules.proofs.Standing.{set_up_accepted}
 use Rattle.state.specs.declared.Arrival.{Arrival}
 use Rattle.state.specs.declared.Settings.{Settings}
-use Rattle.state.specs.SetUp.{requestWith, settingsRefusal}
-use Rattle.state.proofs.SettingUp.{SettingsPass, set-up-turn, set-up-pass}
-use Rattle.scenario.specs.Format.{setUpKind, stationKind, arrivalKind, runKind, Said, readRecord, outOfPlace}
-use Rattle.scenario.specs.Reading.{most_bytes, set-up-bytes, station-bytes, arrival-bytes, run-bytes}
-use Rattle.scenario.specs.Reading.{settingsFrom, askedFrom, arrivalFrom, stepsFrom, StationsRead, withStation, stationsFrom}
-use Rattle.scenario.specs.Reading.{EndingRead, refusedEnding, withArrival, run_from, arrivalsFrom}
-use Rattle.scenario.specs.Reading.{Reading, refused, accepted, stationOffset, readEnding, readArrivals, readStations}
-use Rattle.scenario.specs.Reading.{readSettings, readSetUp, reading}
-use Rattle.scenario.specs.Writing.{Bytes, recordBytes, setUpValues, stationValues, arrivalValues, runValues}
-use Rattle.scenario.specs.Writing.{stationsBytes, endingBytes, written, ArrivalFits, InOrder, Good}
-use Rattle.scenario.proofs.ReadingLaws.{arrivalsBy, not-refused}
-use Rattle.scenario.proofs.WrittenRecords.{bytes_drop, Fit, set-up-row, station-row, arrival-row, run_row}
-use Rattle.scenario.proofs.WrittenRecords.{past-record, record-read, told, place-refused, record-written}
+use Rattle.state.specs.SetUp.{request_with, settings_refusal}
+use Rattle.state.proofs.SettingUp.{SettingsPass, set-up-turn, set_up_pass}
+use Rattle.scenario.specs.Format.{set_up_kind, station_kind, arrival_kind, run_kind, Said, read_record, out_of_place}
+use Rattle.scenario.specs.Reading.{most_bytes, set_up_bytes, station_bytes, arrival_bytes, run_bytes}
+use Rattle.scenario.specs.Reading.{settings_from, asked_from, arrival_from, steps_from, StationsRead, with_station, stations_from}
+use Rattle.scenario.specs.Reading.{EndingRead, refused_ending, with_arrival, run_from, arrivals_from}
+use Rattle.scenario.specs.Reading.{Reading, refused, accepted, station_offset, read_ending, read_arrivals, read_stations}
+use Rattle.scenario.specs.Reading.{read_settings, read_set_up, reading}
+use Rattle.scenario.specs.Writing.{Bytes, record_bytes, set_up_values, station_values, arrival_values, run_values}
+use Rattle.scenario.specs.Writing.{stations_bytes, ending_bytes, written, ArrivalFits, InOrder, Good}
+use Rattle.scenario.proofs.ReadingLaws.{arrivals_by, not_refused}
+use Rattle.scenario.proofs.WrittenRecords.{bytes_drop, Fit, set_up_row, station_row, arrival_row, run_row}
+use Rattle.scenario.proofs.WrittenRecords.{past_record, record_read, told, place_refused, record-written}
 
 -- ---- an accepted set-up
 
@@ -44,8 +44,8 @@ step_fits d q h = go (equal d (code RTDG))
     go (fails n) = omega (arith, stable (equal q 1) (λ m. h (inr (n, m))))
 
 -- a capability fits its two bytes
-capability-fits : (d D c : ℕ) → D ≤ 65_536 → ¬ CapabilityOutside d D c → c < 65_536
-capability-fits d D c l h = go (equal d (code RTVC))
+capability_fits : (d D c : ℕ) → D ≤ 65_536 → ¬ CapabilityOutside d D c → c < 65_536
+capability_fits d D c l h = go (equal d (code RTVC))
   where
     go : {t : Bool} → Whether (d ≡ code RTVC) t → c < 65_536
     go (holds e) = let k : ¬ (D ≤ c) = λ k. h (inl (e, k)) in omega arith
@@ -53,29 +53,29 @@ capability-fits d D c l h = go (equal d (code RTVC))
 
 -- the fields of a station fit
 abbrev pub StationFits : Asked → Type 0
-StationFits s = Fit stationKind.widths (stationValues s)
+StationFits s = Fit station_kind.widths (station_values s)
 
 -- those of stations that pass 7 to 10 do
 row_fits :
-    (r : Request) (i : ℕ) (earlier later : List Asked) → r.A ≤ 65_536 → r.D ≤ 65_536 → NoneHolds (rowConditions r i earlier later)
+    (r : Request) (i : ℕ) (earlier later : List Asked) → r.A ≤ 65_536 → r.D ≤ 65_536 → NoneHolds (row_conditions r i earlier later)
     → All StationFits later
 row_fits r i earlier [] a d h = all_nil StationFits
 row_fits r i earlier (s ∷ later) a d h =
     let in-space : ¬ (r.A ≤ s.address) = h.0 in
     all_cons
     s
-    (omega arith, (capability-fits r.discipline r.D s.capability d h.1.1.0, tt))
+    (omega arith, (capability_fits r.discipline r.D s.capability d h.1.1.0, tt))
     (row_fits r (suc i) (earlier ++ (s ∷ [])) later a d h.1.1.1.1)
 
 -- a set-up that is not refused
-module _ (r : Request) (e : (setUpVerdict r).refusal ≡ 0) where
+module _ (r : Request) (e : (set_up_verdict r).refusal ≡ 0) where
   -- none of its refusals holds
-  passed : NoneHolds (setUpConditions r)
-  passed = set-up-accepted r e
+  passed : NoneHolds (set_up_conditions r)
+  passed = set_up_accepted r e
 
   -- its numbers fit their widths
-  pub set-up-fits : Fit setUpKind.widths (setUpValues r)
-  set-up-fits =
+  pub set_up_fits : Fit set_up_kind.widths (set_up_values r)
+  set_up_fits =
       let d : ¬ (2 < r.discipline) = passed.0 in (
         omega arith,
         (
@@ -91,172 +91,172 @@ module _ (r : Request) (e : (setUpVerdict r).refusal ≡ 0) where
       )
 
   -- and so do those of its stations
-  pub stations-fit : length r.row ≡ r.N → All StationFits r.row
-  stations-fit n =
+  pub stations_fit : length r.row ≡ r.N → All StationFits r.row
+  stations_fit n =
       subst
       (All StationFits)
       (take_all r.N r.row (omega arith))
       (row_fits r 0 [] (take r.N r.row) (inside passed.1.1.0).1 (inside passed.1.0).1 passed.1.1.1.1.1)
 
   -- its settings as they are read
-  abbrev pub settingsOf : Settings
-  settingsOf = settingsFrom (setUpValues r)
+  abbrev pub settings_of : Settings
+  settings_of = settings_from (set_up_values r)
 
   -- are not refused
-  pub settings-fine : settingsRefusal settingsOf ≡ 0
-  settings-fine =
+  pub settings_fine : settings_refusal settings_of ≡ 0
+  settings_fine =
       ap
       (λ t.
       (first_of
       fine
       ((fault 2 0, ltb 2 r.discipline)
-      ∷ (fault 3 0, outside least-space most-space r.D)
-      ∷ (fault 4 0, outside least-space most-space r.A)
-      ∷ (fault 5 0, step-outside r.discipline r.q)
-      ∷ (fault 6 0, outside 1 most-stations r.N || t)
+      ∷ (fault 3 0, outside least_space most_space r.D)
+      ∷ (fault 4 0, outside least_space most_space r.A)
+      ∷ (fault 5 0, step_outside r.discipline r.q)
+      ∷ (fault 6 0, outside 1 most_stations r.N || t)
       ∷ [])
       ).refusal)
       (le-ltb 64 r.N pass.few ∙ sym (le-ltb (length r.row) r.N pass.filled))
       ∙ go (eqb v.refusal 0) refl
     where
-      pass : SettingsPass settingsOf r.row
-      pass = set-up-pass settingsOf r.row e
+      pass : SettingsPass settings_of r.row
+      pass = set_up_pass settings_of r.row e
 
       v : Verdict
-      v = first_of fine (settingsTests r)
+      v = first_of fine (settings_tests r)
 
       go : (t : Bool) → eqb v.refusal 0 ≡ t → v.refusal ≡ 0
       go true same = eqb-true v.refusal 0 same
-      go false same = ap (λ (w : Verdict). w.refusal) (sym (set-up-turn settingsOf r.row v false refl same)) ∙ e
+      go false same = ap (λ (w : Verdict). w.refusal) (sym (set-up-turn settings_of r.row v false refl same)) ∙ e
 
 -- ---- the writing of a good scenario is accepted
 
 -- stations that fit are read as they are written
 stations-read :
     (row : List Asked) (offset : ℕ) (more : List ℕ) → All StationFits row
-    → stationsFrom (length row) offset (stationsBytes row ++ more) ≡ record { refusal = 0; offset = 0; asked = row }
+    → stations_from (length row) offset (stations_bytes row ++ more) ≡ record { refusal = 0; offset = 0; asked = row }
 stations-read [] offset more f = refl
 stations-read (s ∷ later) offset more f =
-    ap (stationsFrom (suc (length later)) offset) (append_assoc this (stationsBytes later) more)
+    ap (stations_from (suc (length later)) offset) (append_assoc this (stations_bytes later) more)
     ∙ ap
     (λ x.
     cond
     (eqb x.kind 2)
-    (withStation (askedFrom x.values) (next (drop station-bytes rest)))
-    (record { refusal = outOfPlace x; offset = offset; asked = [] }))
-    (record-read stationKind (stationValues s) (stationsBytes later ++ more) station-row fits)
-    ∙ ap (λ l. withStation s (next l)) (past-record stationKind (stationValues s) (stationsBytes later ++ more) station-row fits)
-    ∙ ap (withStation s) (stations-read later (offset + station-bytes) more (λ x i. f x (in_tail i)))
+    (with_station (asked_from x.values) (next (drop station_bytes rest)))
+    (record { refusal = out_of_place x; offset = offset; asked = [] }))
+    (record_read station_kind (station_values s) (stations_bytes later ++ more) station_row fits)
+    ∙ ap (λ l. with_station s (next l)) (past_record station_kind (station_values s) (stations_bytes later ++ more) station_row fits)
+    ∙ ap (with_station s) (stations-read later (offset + station_bytes) more (λ x i. f x (in_tail i)))
   where
     this : List ℕ
-    this = recordBytes stationKind (stationValues s)
+    this = record_bytes station_kind (station_values s)
 
     rest : List ℕ
-    rest = this ++ (stationsBytes later ++ more)
+    rest = this ++ (stations_bytes later ++ more)
 
     next : List ℕ → StationsRead
-    next = stationsFrom (length later) (offset + station-bytes)
+    next = stations_from (length later) (offset + station_bytes)
 
     fits : StationFits s
     fits = f s (at_head refl)
 
 -- and take their bytes
-pub stations-count : (row : List Asked) → length (stationsBytes row) ≡ station-bytes * length row
-stations-count [] = refl
-stations-count (s ∷ later) = omega (arith, stations-count later)
+pub stations_count : (row : List Asked) → length (stations_bytes row) ≡ station_bytes * length row
+stations_count [] = refl
+stations_count (s ∷ later) = omega (arith, stations_count later)
 
 -- an arrival that fits has fields that fit
-pub arrival-fit : (a : Arrival) → ArrivalFits a → Fit arrivalKind.widths (arrivalValues a)
-arrival-fit a f = (f.time, (f.address, (f.value, (f.length, tt))))
+pub arrival_fit : (a : Arrival) → ArrivalFits a → Fit arrival_kind.widths (arrival_values a)
+arrival_fit a f = (f.time, (f.address, (f.value, (f.length, tt))))
 
 -- arrivals that fit and come in order are read as they are written, and so is the run after them
 ending-read :
     (arrivals : List Arrival) (steps turns previous offset : ℕ) → length arrivals < turns → All ArrivalFits arrivals
     → InOrder previous arrivals → steps < 65_536
-    → arrivalsFrom turns previous offset (endingBytes arrivals steps) ≡ record { refusal = 0; offset = 0; arrivals = arrivals; steps = steps }
+    → arrivals_from turns previous offset (ending_bytes arrivals steps) ≡ record { refusal = 0; offset = 0; arrivals = arrivals; steps = steps }
 ending-read arrivals steps zero previous offset h f o k = absurd (omega arith)
 ending-read [] steps (suc turns) previous offset h f o k =
     ap
-    (λ x. arrivalsBy x turns previous offset (recordBytes runKind (runValues steps)))
-    (record-read runKind (runValues steps) [] run_row (k, tt))
+    (λ x. arrivals_by x turns previous offset (record_bytes run_kind (run_values steps)))
+    (record_read run_kind (run_values steps) [] run_row (k, tt))
 ending-read (a ∷ later) steps (suc turns) previous offset h f o k =
-    ap (λ x. arrivalsBy x turns previous offset rest) (record-read arrivalKind (arrivalValues a) (endingBytes later steps) arrival-row fits)
+    ap (λ x. arrivals_by x turns previous offset rest) (record_read arrival_kind (arrival_values a) (ending_bytes later steps) arrival_row fits)
     ∙ ap₂
-    (λ t l. cond t (refusedEnding 21 offset) (withArrival a (next l)))
+    (λ t l. cond t (refused_ending 21 offset) (with_arrival a (next l)))
     (le-ltb a.time.0 previous o.0)
-    (past-record arrivalKind (arrivalValues a) (endingBytes later steps) arrival-row fits)
+    (past_record arrival_kind (arrival_values a) (ending_bytes later steps) arrival_row fits)
     ∙ ap
-    (withArrival a)
-    (ending-read later steps turns a.time.0 (offset + arrival-bytes) (omega arith) (λ x i. f x (in_tail i)) o.1 k)
+    (with_arrival a)
+    (ending-read later steps turns a.time.0 (offset + arrival_bytes) (omega arith) (λ x i. f x (in_tail i)) o.1 k)
   where
     rest : List ℕ
-    rest = recordBytes arrivalKind (arrivalValues a) ++ endingBytes later steps
+    rest = record_bytes arrival_kind (arrival_values a) ++ ending_bytes later steps
 
     next : List ℕ → EndingRead
-    next = arrivalsFrom turns a.time.0 (offset + arrival-bytes)
+    next = arrivals_from turns a.time.0 (offset + arrival_bytes)
 
-    fits : Fit arrivalKind.widths (arrivalValues a)
-    fits = arrival-fit a (f a (at_head refl))
+    fits : Fit arrival_kind.widths (arrival_values a)
+    fits = arrival_fit a (f a (at_head refl))
 
 -- there are no fewer bytes than arrivals
-ending-long : (arrivals : List Arrival) (steps : ℕ) → length arrivals ≤ length (endingBytes arrivals steps)
-ending-long [] steps = omega arith
-ending-long (a ∷ later) steps = omega (arith, ending-long later steps)
+ending_long : (arrivals : List Arrival) (steps : ℕ) → length arrivals ≤ length (ending_bytes arrivals steps)
+ending_long [] steps = omega arith
+ending_long (a ∷ later) steps = omega (arith, ending_long later steps)
 
 -- No good scenario is refused: its bytes are accepted, as what they were written from.
 pub accepted-if :
     (r : Request) (arrivals : List Arrival) (steps : ℕ) → Good r arrivals steps
     → reading (written r arrivals steps) ≡ accepted r arrivals steps
 accepted-if r arrivals steps good =
-    ap (λ t. cond t (refused 22 0) (readSetUp (readRecord input) input)) (le-ltb most_bytes (length input) good.short)
-    ∙ ap (λ x. readSetUp x input) (record-read setUpKind (setUpValues r) behind set-up-row fits)
-    ∙ not-refused (settingsRefusal g) (settingsRefusal g) 0 (readStations g stations input) refl (settings-fine r good.set-up)
-    ∙ ap (λ x. readStations g x input) stations-are
-    ∙ not-refused (setUpVerdict r).refusal (setUpVerdict r).refusal _ _ refl good.set-up
-    ∙ ap (readEnding r) ending-is
+    ap (λ t. cond t (refused 22 0) (read_set_up (read_record input) input)) (le-ltb most_bytes (length input) good.short)
+    ∙ ap (λ x. read_set_up x input) (record_read set_up_kind (set_up_values r) behind set_up_row fits)
+    ∙ not_refused (settings_refusal g) (settings_refusal g) 0 (read_stations g stations input) refl (settings_fine r good.set_up_call)
+    ∙ ap (λ x. read_stations g x input) stations_are
+    ∙ not_refused (set_up_verdict r).refusal (set_up_verdict r).refusal _ _ refl good.set_up_call
+    ∙ ap (read_ending r) ending-is
   where
     input : List ℕ
     input = written r arrivals steps
 
     behind : List ℕ
-    behind = stationsBytes r.row ++ endingBytes arrivals steps
+    behind = stations_bytes r.row ++ ending_bytes arrivals steps
 
     g : Settings
-    g = settingsFrom (setUpValues r)
+    g = settings_from (set_up_values r)
 
     stations : StationsRead
-    stations = stationsFrom r.N set-up-bytes (drop set-up-bytes input)
+    stations = stations_from r.N set_up_bytes (drop set_up_bytes input)
 
-    fits : Fit setUpKind.widths (setUpValues r)
-    fits = set-up-fits r good.set-up
+    fits : Fit set_up_kind.widths (set_up_values r)
+    fits = set_up_fits r good.set_up_call
 
-    past-set-up : drop set-up-bytes input ≡ behind
-    past-set-up = past-record setUpKind (setUpValues r) behind set-up-row fits
+    past_set_up : drop set_up_bytes input ≡ behind
+    past_set_up = past_record set_up_kind (set_up_values r) behind set_up_row fits
 
-    stations-are : stations ≡ record { refusal = 0; offset = 0; asked = r.row }
-    stations-are =
-        ap₂ (λ n l. stationsFrom n set-up-bytes l) (sym good.stations) past-set-up
-        ∙ stations-read r.row set-up-bytes (endingBytes arrivals steps) (stations-fit r good.set-up good.stations)
+    stations_are : stations ≡ record { refusal = 0; offset = 0; asked = r.row }
+    stations_are =
+        ap₂ (λ n l. stations_from n set_up_bytes l) (sym good.stations) past_set_up
+        ∙ stations-read r.row set_up_bytes (ending_bytes arrivals steps) (stations_fit r good.set_up_call good.stations)
 
-    past-stations : drop (stationOffset r.N) input ≡ endingBytes arrivals steps
-    past-stations =
-        sym (drop-drop (station-bytes * r.N) set-up-bytes input)
-        ∙ ap (drop (station-bytes * r.N)) past-set-up
-        ∙ drop_at (stationsBytes r.row) (endingBytes arrivals steps) (station-bytes * r.N)
-        (stations-count r.row ∙ ap (λ n. station-bytes * n) good.stations)
+    past_stations : drop (station_offset r.N) input ≡ ending_bytes arrivals steps
+    past_stations =
+        sym (drop-drop (station_bytes * r.N) set_up_bytes input)
+        ∙ ap (drop (station_bytes * r.N)) past_set_up
+        ∙ drop_at (stations_bytes r.row) (ending_bytes arrivals steps) (station_bytes * r.N)
+        (stations_count r.row ∙ ap (λ n. station_bytes * n) good.stations)
 
     ending-is :
-        arrivalsFrom (suc (length input)) 0 (stationOffset r.N) (drop (stationOffset r.N) input)
+        arrivals_from (suc (length input)) 0 (station_offset r.N) (drop (station_offset r.N) input)
         ≡ record { refusal = 0; offset = 0; arrivals = arrivals; steps = steps }
     ending-is =
-        ap (arrivalsFrom (suc (length input)) 0 (stationOffset r.N)) past-stations
+        ap (arrivals_from (suc (length input)) 0 (station_offset r.N)) past_stations
         ∙ ending-read
         arrivals
         steps
         (suc (length input))
         0
-        (stationOffset r.N)
-        (omega (arith, ending-long arrivals steps, length-append (stationsBytes r.row) (endingBytes arrivals steps)))
+        (station_offset r.N)
+        (omega (arith, ending_long arrivals steps, length-append (stations_bytes r.row) (ending_bytes arrivals steps)))
         good.fit
         good.order
         good.few
@@ -265,89 +265,89 @@ accepted-if r arrivals steps good =
 
 -- stations that are not refused are written from what is read, and are as many as are to be read
 stations-written :
-    (n offset : ℕ) (rest : List ℕ) → Bytes rest → (stationsFrom n offset rest).refusal ≡ 0
-    → (rest ≡ stationsBytes (stationsFrom n offset rest).asked ++ drop (station-bytes * n) rest)
-    × (length (stationsFrom n offset rest).asked ≡ n)
+    (n offset : ℕ) (rest : List ℕ) → Bytes rest → (stations_from n offset rest).refusal ≡ 0
+    → (rest ≡ stations_bytes (stations_from n offset rest).asked ++ drop (station_bytes * n) rest)
+    × (length (stations_from n offset rest).asked ≡ n)
 stations-written zero offset rest b e = (refl, refl)
 stations-written (suc n) offset rest b e =
-    go (eqb x.kind 2) refl e (stations-written n (offset + station-bytes) (drop station-bytes rest) (bytes_drop station-bytes rest b))
+    go (eqb x.kind 2) refl e (stations-written n (offset + station_bytes) (drop station_bytes rest) (bytes_drop station_bytes rest b))
   where
     x : Said
-    x = readRecord rest
+    x = read_record rest
 
     later : StationsRead
-    later = stationsFrom n (offset + station-bytes) (drop station-bytes rest)
+    later = stations_from n (offset + station_bytes) (drop station_bytes rest)
 
     left : List ℕ
-    left = drop (station-bytes * n) (drop station-bytes rest)
+    left = drop (station_bytes * n) (drop station_bytes rest)
 
     by : Bool → StationsRead
-    by t = cond t (withStation (askedFrom x.values) later) (record { refusal = outOfPlace x; offset = offset; asked = [] })
+    by t = cond t (with_station (asked_from x.values) later) (record { refusal = out_of_place x; offset = offset; asked = [] })
 
     go :
         (t : Bool) → eqb x.kind 2 ≡ t → (by t).refusal ≡ 0
-        → (later.refusal ≡ 0 → (drop station-bytes rest ≡ stationsBytes later.asked ++ left) × (length later.asked ≡ n))
-        → (rest ≡ stationsBytes (by t).asked ++ drop (station-bytes * suc n) rest) × (length (by t).asked ≡ suc n)
+        → (later.refusal ≡ 0 → (drop station_bytes rest ≡ stations_bytes later.asked ++ left) × (length later.asked ≡ n))
+        → (rest ≡ stations_bytes (by t).asked ++ drop (station_bytes * suc n) rest) × (length (by t).asked ≡ suc n)
     go true k f more =
         let this =
-        record-written stationKind station-row (λ vs. stationValues (askedFrom vs)) (λ body. refl) rest x (told rest) b (eqb-true _ _ k) in
+        record-written station_kind station_row (λ vs. station_values (asked_from vs)) (λ body. refl) rest x (told rest) b (eqb-true _ _ k) in
         let those = more f in
-        let one_more : station-bytes + station-bytes * n ≡ station-bytes * suc n = omega arith in (
+        let one_more : station_bytes + station_bytes * n ≡ station_bytes * suc n = omega arith in (
           this.0
-              ∙ ap (λ l. recordBytes stationKind (stationValues (askedFrom x.values)) ++ l) those.0
-              ∙ sym (append_assoc (recordBytes stationKind (stationValues (askedFrom x.values))) (stationsBytes later.asked) left)
+              ∙ ap (λ l. record_bytes station_kind (station_values (asked_from x.values)) ++ l) those.0
+              ∙ sym (append_assoc (record_bytes station_kind (station_values (asked_from x.values))) (stations_bytes later.asked) left)
               ∙ ap
-              (λ l. stationsBytes (askedFrom x.values ∷ later.asked) ++ l)
-              (drop-drop (station-bytes * n) station-bytes rest ∙ ap (λ m. drop m rest) one_more),
+              (λ l. stations_bytes (asked_from x.values ∷ later.asked) ++ l)
+              (drop-drop (station_bytes * n) station_bytes rest ∙ ap (λ m. drop m rest) one_more),
           ap suc those.1,
         )
-    go false k f more = absurd (place-refused rest x (told rest) f)
+    go false k f more = absurd (place_refused rest x (told rest) f)
 
 -- what arrivals and a run that are not refused tell: they are written from what is read, fit, and come in order
 record Ended (rest : List ℕ) (previous : ℕ) (x : EndingRead) : Type 0 where
-  bytes : rest ≡ endingBytes x.arrivals x.steps
+  bytes : rest ≡ ending_bytes x.arrivals x.steps
   fit : All ArrivalFits x.arrivals
   order : InOrder previous x.arrivals
   few : x.steps < 65_536
 
 -- the run
 run-written :
-    (rest : List ℕ) (previous offset : ℕ) → Bytes rest → (run_from (readRecord rest) offset (length (drop run-bytes rest))).refusal ≡ 0
-    → Ended rest previous (run_from (readRecord rest) offset (length (drop run-bytes rest)))
-run-written rest previous offset b e = go (eqb x.kind 4) refl (eqb (length (drop run-bytes rest)) 0) refl e
+    (rest : List ℕ) (previous offset : ℕ) → Bytes rest → (run_from (read_record rest) offset (length (drop run_bytes rest))).refusal ≡ 0
+    → Ended rest previous (run_from (read_record rest) offset (length (drop run_bytes rest)))
+run-written rest previous offset b e = go (eqb x.kind 4) refl (eqb (length (drop run_bytes rest)) 0) refl e
   where
     x : Said
-    x = readRecord rest
+    x = read_record rest
 
     by : Bool → Bool → EndingRead
     by t u =
         cond
         t
-        (cond u (record { refusal = 0; offset = 0; arrivals = []; steps = stepsFrom x.values }) (refusedEnding 20 (offset + run-bytes)))
-        (refusedEnding (outOfPlace x) offset)
+        (cond u (record { refusal = 0; offset = 0; arrivals = []; steps = steps_from x.values }) (refused_ending 20 (offset + run_bytes)))
+        (refused_ending (out_of_place x) offset)
 
     none : (l : List ℕ) → length l ≡ 0 → l ≡ []
     none [] h = refl
     none (y ∷ l) h = absurd (omega arith)
 
     go :
-        (t : Bool) → eqb x.kind 4 ≡ t → (u : Bool) → eqb (length (drop run-bytes rest)) 0 ≡ u → (by t u).refusal ≡ 0
+        (t : Bool) → eqb x.kind 4 ≡ t → (u : Bool) → eqb (length (drop run_bytes rest)) 0 ≡ u → (by t u).refusal ≡ 0
         → Ended rest previous (by t u)
     go true k true l f =
-        let this = record-written runKind run_row (λ vs. runValues (stepsFrom vs)) (λ body. refl) rest x (told rest) b (eqb-true _ _ k) in
+        let this = record-written run_kind run_row (λ vs. run_values (steps_from vs)) (λ body. refl) rest x (told rest) b (eqb-true _ _ k) in
         record {
-          bytes = this.0 ∙ ap (λ l. recordBytes runKind (runValues (stepsFrom x.values)) ++ l) (none _ (eqb-true _ _ l));
+          bytes = this.0 ∙ ap (λ l. record_bytes run_kind (run_values (steps_from x.values)) ++ l) (none _ (eqb-true _ _ l));
           fit = all_nil ArrivalFits;
           order = tt;
           few = this.1.0;
         }
     go true k false l f = absurd (omega arith)
-    go false k u l f = absurd (place-refused rest x (told rest) f)
+    go false k u l f = absurd (place_refused rest x (told rest) f)
 
 -- and before it the arrivals
 ending-written :
-    (turns previous offset : ℕ) (rest : List ℕ) → Bytes rest → (arrivalsFrom turns previous offset rest).refusal ≡ 0
-    → Ended rest previous (arrivalsFrom turns previous offset rest)
+    (turns previous offset : ℕ) (rest : List ℕ) → Bytes rest → (arrivals_from turns previous offset rest).refusal ≡ 0
+    → Ended rest previous (arrivals_from turns previous offset rest)
 ending-written zero previous offset rest b e = absurd (omega arith)
 ending-written (suc turns) previous offset rest b e =
     go
@@ -356,32 +356,32 @@ ending-written (suc turns) previous offset rest b e =
     (ltb a.time.0 previous)
     refl
     e
-    (ending-written turns a.time.0 (offset + arrival-bytes) (drop arrival-bytes rest) (bytes_drop arrival-bytes rest b))
+    (ending-written turns a.time.0 (offset + arrival_bytes) (drop arrival_bytes rest) (bytes_drop arrival_bytes rest b))
   where
     x : Said
-    x = readRecord rest
+    x = read_record rest
 
     a : Arrival
-    a = arrivalFrom x.values
+    a = arrival_from x.values
 
     later : EndingRead
-    later = arrivalsFrom turns a.time.0 (offset + arrival-bytes) (drop arrival-bytes rest)
+    later = arrivals_from turns a.time.0 (offset + arrival_bytes) (drop arrival_bytes rest)
 
     by : Bool → Bool → EndingRead
     by t late =
-        cond t (cond late (refusedEnding 21 offset) (withArrival a later)) (run_from x offset (length (drop run-bytes rest)))
+        cond t (cond late (refused_ending 21 offset) (with_arrival a later)) (run_from x offset (length (drop run_bytes rest)))
 
     go :
         (t : Bool) → eqb x.kind 3 ≡ t → (late : Bool) → ltb a.time.0 previous ≡ late → (by t late).refusal ≡ 0
-        → (later.refusal ≡ 0 → Ended (drop arrival-bytes rest) a.time.0 later)
+        → (later.refusal ≡ 0 → Ended (drop arrival_bytes rest) a.time.0 later)
         → Ended rest previous (by t late)
     go true k true l f more = absurd (omega arith)
     go true k false l f more =
         let this =
-        record-written arrivalKind arrival-row (λ vs. arrivalValues (arrivalFrom vs)) (λ body. refl) rest x (told rest) b (eqb-true _ _ k) in
+        record-written arrival_kind arrival_row (λ vs. arrival_values (arrival_from vs)) (λ body. refl) rest x (told rest) b (eqb-true _ _ k) in
         let those = more f in
         record {
-          bytes = this.0 ∙ ap (λ l. recordBytes arrivalKind (arrivalValues a) ++ l) those.bytes;
+          bytes = this.0 ∙ ap (λ l. record_bytes arrival_kind (arrival_values a) ++ l) those.bytes;
           fit =
               all_cons
               a
@@ -410,22 +410,22 @@ unfolding Wrote
 wrote input b = go (ltb most_bytes (length input)) refl
   where
     x : Said
-    x = readRecord input
+    x = read_record input
 
     g : Settings
-    g = settingsFrom x.values
+    g = settings_from x.values
 
     stations : StationsRead
-    stations = stationsFrom g.n set-up-bytes (drop set-up-bytes input)
+    stations = stations_from g.n set_up_bytes (drop set_up_bytes input)
 
     r : Request
-    r = requestWith g stations.asked
+    r = request_with g stations.asked
 
     v : Verdict
-    v = setUpVerdict r
+    v = set_up_verdict r
 
     ending : EndingRead
-    ending = arrivalsFrom (suc (length input)) 0 (stationOffset r.N) (drop (stationOffset r.N) input)
+    ending = arrivals_from (suc (length input)) 0 (station_offset r.N) (drop (station_offset r.N) input)
 
     -- where nothing refuses
     all :
@@ -433,24 +433,24 @@ wrote input b = go (ltb most_bytes (length input)) refl
         → (input ≡ written r ending.arrivals ending.steps) × Good r ending.arrivals ending.steps
     all short k s p e =
         let first =
-        record-written setUpKind set-up-row (λ vs. setUpValues (requestWith (settingsFrom vs) [])) (λ body. refl) input x (told input) b k in
-        let row = stations-written g.n set-up-bytes (drop set-up-bytes input) (bytes_drop set-up-bytes input b) s in
+        record-written set_up_kind set_up_row (λ vs. set_up_values (request_with (settings_from vs) [])) (λ body. refl) input x (told input) b k in
+        let row = stations-written g.n set_up_bytes (drop set_up_bytes input) (bytes_drop set_up_bytes input b) s in
         let last =
         ending-written
         (suc (length input))
         0
-        (stationOffset r.N)
-        (drop (stationOffset r.N) input)
-        (bytes_drop (stationOffset r.N) input b)
+        (station_offset r.N)
+        (drop (station_offset r.N) input)
+        (bytes_drop (station_offset r.N) input b)
         e in
         let whole : input ≡ written r ending.arrivals ending.steps =
         first.0
         ∙ ap
-        (λ l. recordBytes setUpKind (setUpValues r) ++ l)
-        (row.0 ∙ ap (λ l. stationsBytes stations.asked ++ l) (drop-drop (station-bytes * g.n) set-up-bytes input ∙ last.bytes)) in (
+        (λ l. record_bytes set_up_kind (set_up_values r) ++ l)
+        (row.0 ∙ ap (λ l. stations_bytes stations.asked ++ l) (drop-drop (station_bytes * g.n) set_up_bytes input ∙ last.bytes)) in (
           whole,
           record {
-            set-up = p;
+            set_up_call = p;
             stations = row.1;
             fit = last.fit;
             order = last.order;
@@ -459,13 +459,13 @@ wrote input b = go (ltb most_bytes (length input)) refl
           },
         )
 
-    go : (t : Bool) → ltb most_bytes (length input) ≡ t → Wrote input (cond t (refused 22 0) (readSetUp x input))
+    go : (t : Bool) → ltb most_bytes (length input) ≡ t → Wrote input (cond t (refused 22 0) (read_set_up x input))
     go true l = tt
     go false l =
-        by-test input (eqb x.kind 1) (readSettings g input) (outOfPlace x) 0 (λ k.
-        by-test input (eqb (settingsRefusal g) 0) (readStations g stations input) (settingsRefusal g) 0 (λ q.
-        by-test input (eqb stations.refusal 0) (readArrivals r input) stations.refusal stations.offset (λ s.
-        by-test input (eqb v.refusal 0) (readEnding r ending) v.refusal (stationOffset v.station) (λ p.
+        by-test input (eqb x.kind 1) (read_settings g input) (out_of_place x) 0 (λ k.
+        by-test input (eqb (settings_refusal g) 0) (read_stations g stations input) (settings_refusal g) 0 (λ q.
+        by-test input (eqb stations.refusal 0) (read_arrivals r input) stations.refusal stations.offset (λ s.
+        by-test input (eqb v.refusal 0) (read_ending r ending) v.refusal (station_offset v.station) (λ p.
         by-test input (eqb ending.refusal 0) (accepted r ending.arrivals ending.steps) ending.refusal ending.offset (λ e.
         all (ltb-false _ _ l) (eqb-true _ _ k) (eqb-true _ _ s) (eqb-true _ _ p) (eqb-true _ _ e))))))
 

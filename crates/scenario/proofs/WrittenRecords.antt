@@ -13,9 +13,9 @@ use lib.Seq.{length-take-le, take_at, drop_at, drop-drop}
 use borrow.Author.Tests.{le-ltb, ltb-false, eqb-true, ne_eqb}
 use Rattle.rules.specs.Lists.{total, at_head, in_tail, All}
 use Rattle.rules.proofs.Laws.{all_cons, all_nil}
-use Rattle.scenario.specs.Format.{number, fields, Kind, setUpKind, stationKind, arrivalKind, runKind, kinds, row_of, Said, refusedRecord}
-use Rattle.scenario.specs.Format.{lengthIn, kindIn, saidBy, bodyIn, read_body, readRecord, outOfPlace}
-use Rattle.scenario.specs.Writing.{Bytes, bytes_of, bodyBytes, recordBytes}
+use Rattle.scenario.specs.Format.{number, fields, Kind, set_up_kind, station_kind, arrival_kind, run_kind, kinds, row_of, Said, refused_record}
+use Rattle.scenario.specs.Format.{length_in, kind_in, said_by, body_in, read_body, read_record, out_of_place}
+use Rattle.scenario.specs.Writing.{Bytes, bytes_of, body_bytes, record_bytes}
 
 -- ---- numbers
 
@@ -25,29 +25,29 @@ bytes_count zero n = refl
 bytes_count (suc w) n = ap suc (bytes_count w (n / 256))
 
 -- the number that the bytes of a number stand for is that number, if its width is enough
-number-bytes : (w n : ℕ) → n < 256 ^ w → number (bytes_of w n) ≡ n
-number-bytes zero n h = omega arith
-number-bytes (suc w) n h =
+number_bytes : (w n : ℕ) → n < 256 ^ w → number (bytes_of w n) ≡ n
+number_bytes zero n h = omega arith
+number_bytes (suc w) n h =
     let below : n / 256 < 256 ^ w = omega (arith, pow-suc 256 w) in
-    omega (arith, number-bytes w (n / 256) below)
+    omega (arith, number_bytes w (n / 256) below)
 
 -- bytes are those of the number that they stand for
-bytes-number : (w : ℕ) (xs : List ℕ) → length xs ≡ w → Bytes xs → bytes_of w (number xs) ≡ xs
-bytes-number zero [] e b = refl
-bytes-number zero (x ∷ xs) e b = absurd (omega arith)
-bytes-number (suc w) [] e b = absurd (omega arith)
-bytes-number (suc w) (x ∷ xs) e b =
+bytes_number : (w : ℕ) (xs : List ℕ) → length xs ≡ w → Bytes xs → bytes_of w (number xs) ≡ xs
+bytes_number zero [] e b = refl
+bytes_number zero (x ∷ xs) e b = absurd (omega arith)
+bytes_number (suc w) [] e b = absurd (omega arith)
+bytes_number (suc w) (x ∷ xs) e b =
     let below = b x (at_head refl) in
     let first : (x + 256 * number xs) % 256 ≡ x = omega arith in
     let others : (x + 256 * number xs) / 256 ≡ number xs = omega arith in
     ap₂ (λ n m. n ∷ bytes_of w m) first others
-    ∙ ap (λ l. x ∷ l) (bytes-number w xs (omega arith) (λ y i. b y (in_tail i)))
+    ∙ ap (λ l. x ∷ l) (bytes_number w xs (omega arith) (λ y i. b y (in_tail i)))
 
 -- and that is below what their width holds
-number-below : (w : ℕ) (xs : List ℕ) → Bytes xs → number (take w xs) < 256 ^ w
-number-below zero xs b = omega arith
-number-below (suc w) [] b = omega (arith, one-le-pow (suc w) 256 (omega arith))
-number-below (suc w) (x ∷ xs) b = omega (arith, pow-suc 256 w, b x (at_head refl), number-below w xs (λ y i. b y (in_tail i)))
+number_below : (w : ℕ) (xs : List ℕ) → Bytes xs → number (take w xs) < 256 ^ w
+number_below zero xs b = omega arith
+number_below (suc w) [] b = omega (arith, one-le-pow (suc w) 256 (omega arith))
+number_below (suc w) (x ∷ xs) b = omega (arith, pow-suc 256 w, b x (at_head refl), number_below w xs (λ y i. b y (in_tail i)))
 
 -- of bytes the first may be taken
 bytes_take : (n : ℕ) (xs : List ℕ) → Bytes xs → Bytes (take n xs)
@@ -62,12 +62,12 @@ bytes_drop (suc n) [] b = b
 bytes_drop (suc n) (x ∷ xs) b = bytes_drop n xs (λ y i. b y (in_tail i))
 
 -- a number at the front of bytes is written there
-number-first : (w n : ℕ) (xs : List ℕ) → w ≤ length xs → Bytes xs → number (take w xs) ≡ n → xs ≡ bytes_of w n ++ drop w xs
-number-first w n xs h b e =
+number_first : (w n : ℕ) (xs : List ℕ) → w ≤ length xs → Bytes xs → number (take w xs) ≡ n → xs ≡ bytes_of w n ++ drop w xs
+number_first w n xs h b e =
     sym (take-append-drop w xs)
     ∙ ap
     (λ l. l ++ drop w xs)
-    (sym (bytes-number w (take w xs) (length-take-le w xs h) (bytes_take w xs b)) ∙ ap (bytes_of w) e)
+    (sym (bytes_number w (take w xs) (length-take-le w xs h) (bytes_take w xs b)) ∙ ap (bytes_of w) e)
 
 -- ---- fields
 
@@ -83,207 +83,207 @@ abbrev size : List ℕ → ℕ
 size ws = total (λ w. w) ws
 
 -- a body takes the bytes of its fields
-body-count : (ws vs : List ℕ) → Fit ws vs → length (bodyBytes ws vs) ≡ size ws
-body-count [] [] f = refl
-body-count [] (v ∷ vs) f = absurd f
-body-count (w ∷ ws) [] f = absurd f
-body-count (w ∷ ws) (v ∷ vs) f =
-    length-append (bytes_of w v) (bodyBytes ws vs) ∙ ap₂ (λ m n. m + n) (bytes_count w v) (body-count ws vs f.1)
+body_count : (ws vs : List ℕ) → Fit ws vs → length (body_bytes ws vs) ≡ size ws
+body_count [] [] f = refl
+body_count [] (v ∷ vs) f = absurd f
+body_count (w ∷ ws) [] f = absurd f
+body_count (w ∷ ws) (v ∷ vs) f =
+    length-append (bytes_of w v) (body_bytes ws vs) ∙ ap₂ (λ m n. m + n) (bytes_count w v) (body_count ws vs f.1)
 
 -- the fields of a body are the values it was written from
-fields-body : (ws vs : List ℕ) → Fit ws vs → fields ws (bodyBytes ws vs) ≡ vs
-fields-body [] [] f = refl
-fields-body [] (v ∷ vs) f = absurd f
-fields-body (w ∷ ws) [] f = absurd f
-fields-body (w ∷ ws) (v ∷ vs) f =
+fields_body : (ws vs : List ℕ) → Fit ws vs → fields ws (body_bytes ws vs) ≡ vs
+fields_body [] [] f = refl
+fields_body [] (v ∷ vs) f = absurd f
+fields_body (w ∷ ws) [] f = absurd f
+fields_body (w ∷ ws) (v ∷ vs) f =
     ap₂
     (λ n ns. n ∷ ns)
-    (ap number (take_at (bytes_of w v) (bodyBytes ws vs) w (bytes_count w v)) ∙ number-bytes w v f.0)
-    (ap (fields ws) (drop_at (bytes_of w v) (bodyBytes ws vs) w (bytes_count w v)) ∙ fields-body ws vs f.1)
+    (ap number (take_at (bytes_of w v) (body_bytes ws vs) w (bytes_count w v)) ∙ number_bytes w v f.0)
+    (ap (fields ws) (drop_at (bytes_of w v) (body_bytes ws vs) w (bytes_count w v)) ∙ fields_body ws vs f.1)
 
 -- a body is written from its fields
-body-fields : (ws body : List ℕ) → length body ≡ size ws → Bytes body → bodyBytes ws (fields ws body) ≡ body
-body-fields [] [] e b = refl
-body-fields [] (x ∷ body) e b = absurd (omega arith)
-body-fields (w ∷ ws) body e b =
-    ap (λ l. bytes_of w (number (take w body)) ++ l) (body-fields ws (drop w body) (omega (arith, length-drop w body)) (bytes_drop w body b))
-    ∙ sym (number-first w (number (take w body)) body (omega arith) b refl)
+body_fields : (ws body : List ℕ) → length body ≡ size ws → Bytes body → body_bytes ws (fields ws body) ≡ body
+body_fields [] [] e b = refl
+body_fields [] (x ∷ body) e b = absurd (omega arith)
+body_fields (w ∷ ws) body e b =
+    ap (λ l. bytes_of w (number (take w body)) ++ l) (body_fields ws (drop w body) (omega (arith, length-drop w body)) (bytes_drop w body b))
+    ∙ sym (number_first w (number (take w body)) body (omega arith) b refl)
 
 -- and its fields fit
 fields_fit : (ws body : List ℕ) → Bytes body → Fit ws (fields ws body)
 fields_fit [] body b = tt
-fields_fit (w ∷ ws) body b = (number-below w body b, fields_fit ws (drop w body) (bytes_drop w body b))
+fields_fit (w ∷ ws) body b = (number_below w body b, fields_fit ws (drop w body) (bytes_drop w body b))
 
 -- ---- records as they are written
 
 -- the row with this kind
-abbrev ofKind : ℕ → Kind
-ofKind kind = cond (eqb kind 1) setUpKind (cond (eqb kind 2) stationKind (cond (eqb kind 3) arrivalKind runKind))
+abbrev of_kind : ℕ → Kind
+of_kind kind = cond (eqb kind 1) set_up_kind (cond (eqb kind 2) station_kind (cond (eqb kind 3) arrival_kind run_kind))
 
 -- a row of the table: it is found by its kind and its length and has its kind alone, which is not 0; its length is that of a kind and its
 -- body; and both are of two bytes
 pub record InTable (row : Kind) : Type 0 where
   found : row_of row.kind row.length kinds ≡ some row
-  alone : ofKind row.kind ≡ row
+  alone : of_kind row.kind ≡ row
   named : 0 < row.kind
   sized : row.length ≡ 2 + size row.widths
   kind_fits : row.kind < 65_536
-  length-fits : row.length < 65_536
+  length_fits : row.length < 65_536
 
 -- the four rows
-pub set-up-row : InTable setUpKind
-set-up-row =
-    record { found = refl; alone = refl; named = omega arith; sized = refl; kind_fits = omega arith; length-fits = omega arith }
+pub set_up_row : InTable set_up_kind
+set_up_row =
+    record { found = refl; alone = refl; named = omega arith; sized = refl; kind_fits = omega arith; length_fits = omega arith }
 
-pub station-row : InTable stationKind
-station-row =
-    record { found = refl; alone = refl; named = omega arith; sized = refl; kind_fits = omega arith; length-fits = omega arith }
+pub station_row : InTable station_kind
+station_row =
+    record { found = refl; alone = refl; named = omega arith; sized = refl; kind_fits = omega arith; length_fits = omega arith }
 
-pub arrival-row : InTable arrivalKind
-arrival-row =
-    record { found = refl; alone = refl; named = omega arith; sized = refl; kind_fits = omega arith; length-fits = omega arith }
+pub arrival_row : InTable arrival_kind
+arrival_row =
+    record { found = refl; alone = refl; named = omega arith; sized = refl; kind_fits = omega arith; length_fits = omega arith }
 
-pub run_row : InTable runKind
+pub run_row : InTable run_kind
 run_row =
-    record { found = refl; alone = refl; named = omega arith; sized = refl; kind_fits = omega arith; length-fits = omega arith }
+    record { found = refl; alone = refl; named = omega arith; sized = refl; kind_fits = omega arith; length_fits = omega arith }
 
 -- one record in front of any bytes
 module _ (row : Kind) (vs more : List ℕ) (known : InTable row) (f : Fit row.widths vs) where
   -- it takes the bytes of its length, and two for that
-  record-count : length (recordBytes row vs) ≡ 2 + row.length
-  record-count = omega (arith, body-count row.widths vs f, known.sized)
+  record_count : length (record_bytes row vs) ≡ 2 + row.length
+  record_count = omega (arith, body_count row.widths vs f, known.sized)
 
   -- past it comes what was behind it
-  pub past-record : drop (2 + row.length) (recordBytes row vs ++ more) ≡ more
-  past-record = drop_at (recordBytes row vs) more (2 + row.length) record-count
+  pub past_record : drop (2 + row.length) (record_bytes row vs ++ more) ≡ more
+  past_record = drop_at (record_bytes row vs) more (2 + row.length) record_count
 
   -- it says its kind and its values
-  pub record-read : readRecord (recordBytes row vs ++ more) ≡ record { refusal = 0; kind = row.kind; values = vs }
-  record-read =
-      ap (λ t. cond t (refusedRecord 18) (read_body (row_of (kindIn rest) (lengthIn rest) kinds) rest)) (le-ltb (length rest) 4 (omega arith))
+  pub record_read : read_record (record_bytes row vs ++ more) ≡ record { refusal = 0; kind = row.kind; values = vs }
+  record_read =
+      ap (λ t. cond t (refused_record 18) (read_body (row_of (kind_in rest) (length_in rest) kinds) rest)) (le-ltb (length rest) 4 (omega arith))
       ∙ ap₂
       (λ k l. read_body (row_of k l kinds) rest)
-      (number-bytes 2 row.kind known.kind_fits)
-      (number-bytes 2 row.length known.length-fits)
+      (number_bytes 2 row.kind known.kind_fits)
+      (number_bytes 2 row.length known.length_fits)
       ∙ ap (λ o. read_body o rest) known.found
-      ∙ ap (λ t. cond t (refusedRecord 18) (saidBy row (bodyIn row.length rest))) (le-ltb (length rest) (2 + row.length) long)
+      ∙ ap (λ t. cond t (refused_record 18) (said_by row (body_in row.length rest))) (le-ltb (length rest) (2 + row.length) long)
       ∙ ap {B = Said} (λ values. record { refusal = 0; kind = row.kind; values = values })
-      (ap (fields row.widths) body ∙ fields-body row.widths vs f)
+      (ap (fields row.widths) body ∙ fields_body row.widths vs f)
     where
       rest : List ℕ
-      rest = recordBytes row vs ++ more
+      rest = record_bytes row vs ++ more
 
       long : 2 + row.length ≤ length rest
-      long = omega (arith, length-append (recordBytes row vs) more, record-count)
+      long = omega (arith, length-append (record_bytes row vs) more, record_count)
 
-      body : bodyIn row.length rest ≡ bodyBytes row.widths vs
-      body = take_at (bodyBytes row.widths vs) more (row.length - 2) (omega (arith, body-count row.widths vs f, known.sized))
+      body : body_in row.length rest ≡ body_bytes row.widths vs
+      body = take_at (body_bytes row.widths vs) more (row.length - 2) (omega (arith, body_count row.widths vs f, known.sized))
 
 -- ---- records as they are read
 
 -- what can be said by the rest of an input: a refusal, or what a whole record says by its row of the table
 pub data Told (rest : List ℕ) : Said → Type 0 where
-  nothing : (n : ℕ) → 0 < n → Told rest (refusedRecord n)
+  nothing : (n : ℕ) → 0 < n → Told rest (refused_record n)
   by_row :
-      (row : Kind) → InTable row → kindIn rest ≡ row.kind → lengthIn rest ≡ row.length → 2 + row.length ≤ length rest
-      → Told rest (saidBy row (bodyIn row.length rest))
+      (row : Kind) → InTable row → kind_in rest ≡ row.kind → length_in rest ≡ row.length → 2 + row.length ≤ length rest
+      → Told rest (said_by row (body_in row.length rest))
 
 -- what the rows say
-rows_told : (rest : List ℕ) (rows : List Kind) → All InTable rows → Told rest (read_body (row_of (kindIn rest) (lengthIn rest) rows) rest)
+rows_told : (rest : List ℕ) (rows : List Kind) → All InTable rows → Told rest (read_body (row_of (kind_in rest) (length_in rest) rows) rest)
 rows_told rest [] known = nothing 19 (omega arith)
 rows_told rest (row ∷ rows) known =
     go
-    (eqb (kindIn rest) row.kind)
+    (eqb (kind_in rest) row.kind)
     refl
-    (eqb (lengthIn rest) row.length)
+    (eqb (length_in rest) row.length)
     refl
     (rows_told rest rows (λ x i. known x (in_tail i)))
   where
     others : Option Kind
-    others = row_of (kindIn rest) (lengthIn rest) rows
+    others = row_of (kind_in rest) (length_in rest) rows
 
-    short : (s : Bool) → ltb (length rest) (2 + row.length) ≡ s → kindIn rest ≡ row.kind → lengthIn rest ≡ row.length
-        → Told rest (cond s (refusedRecord 18) (saidBy row (bodyIn row.length rest)))
+    short : (s : Bool) → ltb (length rest) (2 + row.length) ≡ s → kind_in rest ≡ row.kind → length_in rest ≡ row.length
+        → Told rest (cond s (refused_record 18) (said_by row (body_in row.length rest)))
     short true q k l = nothing 18 (omega arith)
     short false q k l = by_row row (known row (at_head refl)) k l (ltb-false (length rest) (2 + row.length) q)
 
     go :
-        (t : Bool) → eqb (kindIn rest) row.kind ≡ t → (u : Bool) → eqb (lengthIn rest) row.length ≡ u
+        (t : Bool) → eqb (kind_in rest) row.kind ≡ t → (u : Bool) → eqb (length_in rest) row.length ≡ u
         → Told rest (read_body others rest) → Told rest (read_body (cond (t && u) (some row) others) rest)
     go true k true l later = short (ltb (length rest) (2 + row.length)) refl (eqb-true _ _ k) (eqb-true _ _ l)
     go true k false l later = later
     go false k u l later = later
 
 -- what a record says
-pub told : (rest : List ℕ) → Told rest (readRecord rest)
+pub told : (rest : List ℕ) → Told rest (read_record rest)
 told rest = go (ltb (length rest) 4)
   where
     table : All InTable kinds
     table =
         all_cons
-        setUpKind
-        set-up-row
-        (all_cons stationKind station-row (all_cons arrivalKind arrival-row (all_cons runKind run_row (all_nil InTable))))
+        set_up_kind
+        set_up_row
+        (all_cons station_kind station_row (all_cons arrival_kind arrival_row (all_cons run_kind run_row (all_nil InTable))))
 
-    go : (t : Bool) → Told rest (cond t (refusedRecord 18) (read_body (row_of (kindIn rest) (lengthIn rest) kinds) rest))
+    go : (t : Bool) → Told rest (cond t (refused_record 18) (read_body (row_of (kind_in rest) (length_in rest) kinds) rest))
     go true = nothing 18 (omega arith)
     go false = rows_told rest kinds table
 
 -- what is out of place is refused
-pub place-refused : (rest : List ℕ) (x : Said) → Told rest x → ¬ (outOfPlace x ≡ 0)
-place-refused rest x (nothing n h) e = omega arith
-place-refused rest x (by_row row known k l long) e =
+pub place_refused : (rest : List ℕ) (x : Said) → Told rest x → ¬ (out_of_place x ≡ 0)
+place_refused rest x (nothing n h) e = omega arith
+place_refused rest x (by_row row known k l long) e =
     let some! : ¬ (row.kind ≡ 0) = λ z. omega (arith, known.named) in
     let z : ◌≡◌ {A = ℕ} 20 0 = ap (λ t. cond t 0 20) (sym (ne_eqb row.kind 0 some!)) ∙ e in
     omega arith
 
 -- a whole record is written from the fields of its body
 whole-record :
-    (row : Kind) (rest : List ℕ) → InTable row → Bytes rest → kindIn rest ≡ row.kind → lengthIn rest ≡ row.length
+    (row : Kind) (rest : List ℕ) → InTable row → Bytes rest → kind_in rest ≡ row.kind → length_in rest ≡ row.length
     → 2 + row.length ≤ length rest
-    → rest ≡ recordBytes row (fields row.widths (bodyIn row.length rest)) ++ drop (2 + row.length) rest
+    → rest ≡ record_bytes row (fields row.widths (body_in row.length rest)) ++ drop (2 + row.length) rest
 whole-record row rest known b k l long =
-    number-first 2 row.length rest (omega arith) b l
+    number_first 2 row.length rest (omega arith) b l
     ∙ ap
     (λ xs. bytes_of 2 row.length ++ xs)
-    (number-first 2 row.kind (drop 2 rest) (omega (arith, length-drop 2 rest, known.sized)) (bytes_drop 2 rest b) k)
+    (number_first 2 row.kind (drop 2 rest) (omega (arith, length-drop 2 rest, known.sized)) (bytes_drop 2 rest b) k)
     ∙ ap
     (λ xs. bytes_of 2 row.length ++ (bytes_of 2 row.kind ++ xs))
     (drop-drop 2 2 rest
     ∙ sym (take-append-drop (row.length - 2) (drop 4 rest))
     ∙ ap₂
     (λ body more. body ++ more)
-    (sym (body-fields row.widths (bodyIn row.length rest) count (bytes_take (row.length - 2) (drop 4 rest) (bytes_drop 4 rest b))))
+    (sym (body_fields row.widths (body_in row.length rest) count (bytes_take (row.length - 2) (drop 4 rest) (bytes_drop 4 rest b))))
     (drop-drop (row.length - 2) 4 rest ∙ ap (λ n. drop n rest) all))
   where
     all : 4 + (row.length - 2) ≡ 2 + row.length
     all = omega (arith, known.sized)
 
-    count : length (bodyIn row.length rest) ≡ size row.widths
+    count : length (body_in row.length rest) ≡ size row.widths
     count = length-take-le (row.length - 2) (drop 4 rest) (omega (arith, length-drop 4 rest)) ∙ omega (arith, known.sized)
 
 -- a record of a row's kind is written from its values, if `again` gives the fields of any body
 pub record-written :
     (row : Kind) → InTable row → (again : List ℕ → List ℕ) → ((body : List ℕ) → again (fields row.widths body) ≡ fields row.widths body)
     → (rest : List ℕ) (x : Said) → Told rest x → Bytes rest → x.kind ≡ row.kind
-    → (rest ≡ recordBytes row (again x.values) ++ drop (2 + row.length) rest) × Fit row.widths (again x.values)
+    → (rest ≡ record_bytes row (again x.values) ++ drop (2 + row.length) rest) × Fit row.widths (again x.values)
 record-written row known again same rest x (nothing n h) b e = absurd (omega (arith, known.named))
 record-written row known again same rest x (by_row row' known' k l long) b e =
     subst
-    (λ (y : Kind). (rest ≡ recordBytes y (again values) ++ drop (2 + y.length) rest) × Fit y.widths (again values))
+    (λ (y : Kind). (rest ≡ record_bytes y (again values) ++ drop (2 + y.length) rest) × Fit y.widths (again values))
     one (
-      whole-record row' rest known' b k l long ∙ ap (λ vs. recordBytes row' vs ++ drop (2 + row'.length) rest) (sym as_read),
+      whole-record row' rest known' b k l long ∙ ap (λ vs. record_bytes row' vs ++ drop (2 + row'.length) rest) (sym as_read),
       subst (Fit row'.widths) (sym as_read) (fields_fit row'.widths body (bytes_take (row'.length - 2) (drop 4 rest) (bytes_drop 4 rest b))),
     )
   where
     body : List ℕ
-    body = bodyIn row'.length rest
+    body = body_in row'.length rest
 
     values : List ℕ
     values = fields row'.widths body
 
     one : row' ≡ row
-    one = sym known'.alone ∙ ap ofKind e ∙ known.alone
+    one = sym known'.alone ∙ ap of_kind e ∙ known.alone
 
     as_read : again values ≡ values
     as_read = subst (λ (y : Kind). again (fields y.widths body) ≡ fields y.widths body) (sym one) (same body)

@@ -4,8 +4,8 @@ use Rattle.std.proofs.Math.Option.{Option, none, some}
 use Rattle.state.specs.declared.Arrival.{Arrival}
 use Rattle.scenario.specs.declared.Passed.{Passed}
 use Rattle.scenario.specs.declared.Ending.{Ending}
-use Rattle.scenario.specs.Format.{Kind, Said, kinds, row_of, setUpKind, stationKind, arrivalKind, runKind, saidBy, readRecord}
-use Rattle.scenario.specs.Reading.{EndingRead, run-bytes, run_from, arrivalsFrom}
+use Rattle.scenario.specs.Format.{Kind, Said, kinds, row_of, set_up_kind, station_kind, arrival_kind, run_kind, said_by, read_record}
+use Rattle.scenario.specs.Reading.{EndingRead, run_bytes, run_from, arrivals_from}
 
 -- whether there is a row
 abbrev pub known : Option Kind → Bool
@@ -13,36 +13,36 @@ known none = false
 known (some row) = true
 
 -- whether this is a known kind, and this its length
-abbrev pub isKind : ℕ → ℕ → Bool
-isKind kind long = known (row_of kind long kinds)
+abbrev pub is_kind : ℕ → ℕ → Bool
+is_kind kind long = known (row_of kind long kinds)
 
 -- what a body says by its kind; of an unknown one, as if it were a run
-abbrev pub saidByKind : ℕ → List ℕ → Said
-saidByKind kind body =
+abbrev pub said_by_kind : ℕ → List ℕ → Said
+said_by_kind kind body =
     cond
-    (eqb kind setUpKind.kind)
-    (saidBy setUpKind body)
+    (eqb kind set_up_kind.kind)
+    (said_by set_up_kind body)
     (cond
-    (eqb kind stationKind.kind)
-    (saidBy stationKind body)
-    (cond (eqb kind arrivalKind.kind) (saidBy arrivalKind body) (saidBy runKind body)))
+    (eqb kind station_kind.kind)
+    (said_by station_kind body)
+    (cond (eqb kind arrival_kind.kind) (said_by arrival_kind body) (said_by run_kind body)))
 
 -- an ending but for its arrivals, as the code has it
-abbrev pub endingForm : EndingRead → Ending
-endingForm x = record { refusal = x.refusal; offset = x.offset; steps = x.steps }
+abbrev pub ending_form : EndingRead → Ending
+ending_form x = record { refusal = x.refusal; offset = x.offset; steps = x.steps }
 
 -- the run record at an offset of the input, and what comes after it
 abbrev pub run_at : List ℕ → ℕ → EndingRead
-run_at input at = run_from (readRecord (drop at input)) at (length (drop run-bytes (drop at input)))
+run_at input at = run_from (read_record (drop at input)) at (length (drop run_bytes (drop at input)))
 
 -- any arrivals and one run, from an offset of the input on
-abbrev pub endingAt : List ℕ → ℕ → EndingRead
-endingAt input at = arrivalsFrom (suc (length input)) 0 at (drop at input)
+abbrev pub ending_at : List ℕ → ℕ → EndingRead
+ending_at input at = arrivals_from (suc (length input)) 0 at (drop at input)
 
 -- the ending once arrivals have been passed: what was refused, or the run that comes next
-abbrev pub afterPassed : List ℕ → Passed → Ending
-afterPassed input p =
-    cond (eqb p.refusal 0) (endingForm (run_at input p.at)) (record { refusal = p.refusal; offset = p.at; steps = 0 })
+abbrev pub after_passed : List ℕ → Passed → Ending
+after_passed input p =
+    cond (eqb p.refusal 0) (ending_form (run_at input p.at)) (record { refusal = p.refusal; offset = p.at; steps = 0 })
 
 -- ---- for callers that take the arrivals one by one
 
@@ -51,5 +51,5 @@ afterPassed input p =
 pub record ArrivalsAt (input : List ℕ) (at : ℕ) (arrivals : List Arrival) : Type 0 where
   pub turns : ℕ
   pub previous : ℕ
-  pub fine : (arrivalsFrom turns previous at (drop at input)).refusal ≡ 0
-  pub collected : (arrivalsFrom turns previous at (drop at input)).arrivals ≡ arrivals
+  pub fine : (arrivals_from turns previous at (drop at input)).refusal ≡ 0
+  pub collected : (arrivals_from turns previous at (drop at input)).arrivals ≡ arrivals

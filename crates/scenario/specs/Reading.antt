@@ -3,44 +3,44 @@
 -- once the last station is read.' Assumes nothing.
 use Rattle.std.specs.Prelude.{ℕ, zero, suc, ◌+◌, ◌*◌, cond, List, [], ◌∷◌, ltb, eqb, length, get_or, drop}
 use Rattle.rules.specs.Bus.{nothing}
-use Rattle.rules.specs.SetUp.{Asked, Request, setUpVerdict}
+use Rattle.rules.specs.SetUp.{Asked, Request, set_up_verdict}
 use Rattle.state.specs.declared.Arrival.{Arrival}
 use Rattle.state.specs.declared.Settings.{Settings}
 use Rattle.state.specs.State.{form}
-use Rattle.state.specs.SetUp.{requestWith, settingsRefusal, codedSetUp}
+use Rattle.state.specs.SetUp.{request_with, settings_refusal, coded_set_up}
 pub use Rattle.scenario.specs.declared.Scenario.{Scenario}
-use Rattle.scenario.specs.Format.{setUpKind, stationKind, arrivalKind, runKind, Said, readRecord, outOfPlace}
+use Rattle.scenario.specs.Format.{set_up_kind, station_kind, arrival_kind, run_kind, Said, read_record, out_of_place}
 
 -- '22: scenario above 65,536 bytes'
 abbrev pub most_bytes : ℕ
 most_bytes = 65_536
 
 -- the bytes that a record takes: the two of its length, and what follows them
-abbrev pub set-up-bytes : ℕ
-set-up-bytes = 2 + setUpKind.length
+abbrev pub set_up_bytes : ℕ
+set_up_bytes = 2 + set_up_kind.length
 
-abbrev pub station-bytes : ℕ
-station-bytes = 2 + stationKind.length
+abbrev pub station_bytes : ℕ
+station_bytes = 2 + station_kind.length
 
-abbrev pub arrival-bytes : ℕ
-arrival-bytes = 2 + arrivalKind.length
+abbrev pub arrival_bytes : ℕ
+arrival_bytes = 2 + arrival_kind.length
 
-abbrev pub run-bytes : ℕ
-run-bytes = 2 + runKind.length
+abbrev pub run_bytes : ℕ
+run_bytes = 2 + run_kind.length
 
 -- ---- what the values of a record are
 
-abbrev pub settingsFrom : List ℕ → Settings
-settingsFrom vs = record { discipline = get_or vs 0 0; d = get_or vs 1 0; a = get_or vs 2 0; q = get_or vs 3 0; n = get_or vs 4 0 }
+abbrev pub settings_from : List ℕ → Settings
+settings_from vs = record { discipline = get_or vs 0 0; d = get_or vs 1 0; a = get_or vs 2 0; q = get_or vs 3 0; n = get_or vs 4 0 }
 
-abbrev pub askedFrom : List ℕ → Asked
-askedFrom vs = record { address = get_or vs 0 0; capability = get_or vs 1 0 }
+abbrev pub asked_from : List ℕ → Asked
+asked_from vs = record { address = get_or vs 0 0; capability = get_or vs 1 0 }
 
-abbrev pub arrivalFrom : List ℕ → Arrival
-arrivalFrom vs = record { time = record { 0 = get_or vs 0 0 }; address = record { 0 = get_or vs 1 0 }; value = get_or vs 2 0; length = get_or vs 3 0 }
+abbrev pub arrival_from : List ℕ → Arrival
+arrival_from vs = record { time = record { 0 = get_or vs 0 0 }; address = record { 0 = get_or vs 1 0 }; value = get_or vs 2 0; length = get_or vs 3 0 }
 
-abbrev pub stepsFrom : List ℕ → ℕ
-stepsFrom vs = get_or vs 0 0
+abbrev pub steps_from : List ℕ → ℕ
+steps_from vs = get_or vs 0 0
 
 -- ---- the stations
 
@@ -50,17 +50,17 @@ pub record StationsRead : Type 0 where
   pub offset : ℕ
   pub asked : List Asked
 
-abbrev pub withStation : Asked → StationsRead → StationsRead
-withStation s x = record { refusal = x.refusal; offset = x.offset; asked = s ∷ x.asked }
+abbrev pub with_station : Asked → StationsRead → StationsRead
+with_station s x = record { refusal = x.refusal; offset = x.offset; asked = s ∷ x.asked }
 
 -- n stations, from an offset on
-abbrev pub stationsFrom : ℕ → ℕ → List ℕ → StationsRead
-stationsFrom zero offset rest = record { refusal = 0; offset = 0; asked = [] }
-stationsFrom (suc n) offset rest =
+abbrev pub stations_from : ℕ → ℕ → List ℕ → StationsRead
+stations_from zero offset rest = record { refusal = 0; offset = 0; asked = [] }
+stations_from (suc n) offset rest =
     cond
-    (eqb (readRecord rest).kind stationKind.kind)
-    (withStation (askedFrom (readRecord rest).values) (stationsFrom n (offset + station-bytes) (drop station-bytes rest)))
-    (record { refusal = outOfPlace (readRecord rest); offset = offset; asked = [] })
+    (eqb (read_record rest).kind station_kind.kind)
+    (with_station (asked_from (read_record rest).values) (stations_from n (offset + station_bytes) (drop station_bytes rest)))
+    (record { refusal = out_of_place (read_record rest); offset = offset; asked = [] })
 
 -- ---- the arrivals and the run
 
@@ -71,37 +71,37 @@ pub record EndingRead : Type 0 where
   pub arrivals : List Arrival
   pub steps : ℕ
 
-abbrev pub refusedEnding : ℕ → ℕ → EndingRead
-refusedEnding number offset = record { refusal = number; offset = offset; arrivals = []; steps = 0 }
+abbrev pub refused_ending : ℕ → ℕ → EndingRead
+refused_ending number offset = record { refusal = number; offset = offset; arrivals = []; steps = 0 }
 
-abbrev pub withArrival : Arrival → EndingRead → EndingRead
-withArrival a x = record { refusal = x.refusal; offset = x.offset; arrivals = a ∷ x.arrivals; steps = x.steps }
+abbrev pub with_arrival : Arrival → EndingRead → EndingRead
+with_arrival a x = record { refusal = x.refusal; offset = x.offset; arrivals = a ∷ x.arrivals; steps = x.steps }
 
 -- 'one run'; `after` is how many bytes come after it: '20 if the run record has gone by'
 abbrev pub run_from : Said → ℕ → ℕ → EndingRead
 run_from x offset after =
     cond
-    (eqb x.kind runKind.kind)
+    (eqb x.kind run_kind.kind)
     (cond
     (eqb after 0)
-    (record { refusal = 0; offset = 0; arrivals = []; steps = stepsFrom x.values })
-    (refusedEnding 20 (offset + run-bytes)))
-    (refusedEnding (outOfPlace x) offset)
+    (record { refusal = 0; offset = 0; arrivals = []; steps = steps_from x.values })
+    (refused_ending 20 (offset + run_bytes)))
+    (refused_ending (out_of_place x) offset)
 
 -- 'any arrivals, one run', from an offset on; '21: arrival time below the previous arrival's'. Each arrival takes bytes, so that as many
 -- turns as there are bytes are enough.
-abbrev pub arrivalsFrom : ℕ → ℕ → ℕ → List ℕ → EndingRead
-arrivalsFrom zero previous offset rest = refusedEnding 18 offset
-arrivalsFrom (suc turns) previous offset rest =
+abbrev pub arrivals_from : ℕ → ℕ → ℕ → List ℕ → EndingRead
+arrivals_from zero previous offset rest = refused_ending 18 offset
+arrivals_from (suc turns) previous offset rest =
     cond
-    (eqb (readRecord rest).kind arrivalKind.kind)
+    (eqb (read_record rest).kind arrival_kind.kind)
     (cond
-    (ltb (arrivalFrom (readRecord rest).values).time.0 previous)
-    (refusedEnding 21 offset)
-    (withArrival
-    (arrivalFrom (readRecord rest).values)
-    (arrivalsFrom turns (arrivalFrom (readRecord rest).values).time.0 (offset + arrival-bytes) (drop arrival-bytes rest))))
-    (run_from (readRecord rest) offset (length (drop run-bytes rest)))
+    (ltb (arrival_from (read_record rest).values).time.0 previous)
+    (refused_ending 21 offset)
+    (with_arrival
+    (arrival_from (read_record rest).values)
+    (arrivals_from turns (arrival_from (read_record rest).values).time.0 (offset + arrival_bytes) (drop arrival_bytes rest))))
+    (run_from (read_record rest) offset (length (drop run_bytes rest)))
 
 -- ---- the whole
 
@@ -111,42 +111,42 @@ pub data Reading : Type 0 where
   accepted : Request → List Arrival → ℕ → Reading
 
 -- the offset of the record of the station at a place of the row
-abbrev pub stationOffset : ℕ → ℕ
-stationOffset place = set-up-bytes + station-bytes * place
+abbrev pub station_offset : ℕ → ℕ
+station_offset place = set_up_bytes + station_bytes * place
 
-abbrev pub readEnding : Request → EndingRead → Reading
-readEnding r x = cond (eqb x.refusal 0) (accepted r x.arrivals x.steps) (refused x.refusal x.offset)
+abbrev pub read_ending : Request → EndingRead → Reading
+read_ending r x = cond (eqb x.refusal 0) (accepted r x.arrivals x.steps) (refused x.refusal x.offset)
 
 -- '7 to 10 once the last station is read', at the faulty station's record
-abbrev pub readArrivals : Request → List ℕ → Reading
-readArrivals r input =
+abbrev pub read_arrivals : Request → List ℕ → Reading
+read_arrivals r input =
     cond
-    (eqb (setUpVerdict r).refusal 0)
-    (readEnding r (arrivalsFrom (suc (length input)) 0 (stationOffset r.N) (drop (stationOffset r.N) input)))
-    (refused (setUpVerdict r).refusal (stationOffset (setUpVerdict r).station))
+    (eqb (set_up_verdict r).refusal 0)
+    (read_ending r (arrivals_from (suc (length input)) 0 (station_offset r.N) (drop (station_offset r.N) input)))
+    (refused (set_up_verdict r).refusal (station_offset (set_up_verdict r).station))
 
-abbrev pub readStations : Settings → StationsRead → List ℕ → Reading
-readStations g x input = cond (eqb x.refusal 0) (readArrivals (requestWith g x.asked) input) (refused x.refusal x.offset)
+abbrev pub read_stations : Settings → StationsRead → List ℕ → Reading
+read_stations g x input = cond (eqb x.refusal 0) (read_arrivals (request_with g x.asked) input) (refused x.refusal x.offset)
 
 -- '2 to 6 as the set-up is read'
-abbrev pub readSettings : Settings → List ℕ → Reading
-readSettings g input =
+abbrev pub read_settings : Settings → List ℕ → Reading
+read_settings g input =
     cond
-    (eqb (settingsRefusal g) 0)
-    (readStations g (stationsFrom g.n set-up-bytes (drop set-up-bytes input)) input)
-    (refused (settingsRefusal g) 0)
+    (eqb (settings_refusal g) 0)
+    (read_stations g (stations_from g.n set_up_bytes (drop set_up_bytes input)) input)
+    (refused (settings_refusal g) 0)
 
 -- 'one set-up' first
-abbrev pub readSetUp : Said → List ℕ → Reading
-readSetUp x input = cond (eqb x.kind setUpKind.kind) (readSettings (settingsFrom x.values) input) (refused (outOfPlace x) 0)
+abbrev pub read_set_up : Said → List ℕ → Reading
+read_set_up x input = cond (eqb x.kind set_up_kind.kind) (read_settings (settings_from x.values) input) (refused (out_of_place x) 0)
 
 -- '22 first'
 abbrev pub reading : List ℕ → Reading
-reading input = cond (ltb most_bytes (length input)) (refused 22 0) (readSetUp (readRecord input) input)
+reading input = cond (ltb most_bytes (length input)) (refused 22 0) (read_set_up (read_record input) input)
 
 -- What the code's answer says. 'A refused scenario' leaves nothing behind but its number and offset. An accepted one is set up; its arrivals
 -- stand in the input from an offset on.
-abbrev pub scenarioForm : Reading → Scenario
-scenarioForm (refused n offset) = record { refusal = n; offset = offset; state = form nothing; at = 0; steps = 0 }
-scenarioForm (accepted r arrivals steps) =
-    record { refusal = 0; offset = 0; state = (codedSetUp r).1; at = stationOffset r.N; steps = steps }
+abbrev pub scenario_form : Reading → Scenario
+scenario_form (refused n offset) = record { refusal = n; offset = offset; state = form nothing; at = 0; steps = 0 }
+scenario_form (accepted r arrivals steps) =
+    record { refusal = 0; offset = 0; state = (coded_set_up r).1; at = station_offset r.N; steps = steps }

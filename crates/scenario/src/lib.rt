@@ -2,11 +2,11 @@
 // Every call takes any bytes.
 ghost use Rattle.std.specs.Prelude.{◌≤◌, ◌≡◌, drop};
 ghost use Rattle.state.specs.declared.Settings.{Settings};
-ghost use Rattle.state.specs.SetUp.{requestOf, requestWith, settingsRefusal};
-ghost use Rattle.scenario.specs.Format.{readRecord, said, outOfPlace};
-ghost use Rattle.scenario.specs.Reading.{reading, scenarioForm, readStations, set-up-bytes, stationOffset, stationsFrom};
+ghost use Rattle.state.specs.SetUp.{request_of, request_with, settings_refusal};
+ghost use Rattle.scenario.specs.Format.{read_record, said, out_of_place};
+ghost use Rattle.scenario.specs.Reading.{reading, scenario_form, read_stations, set_up_bytes, station_offset, stations_from};
 ghost use Rattle.scenario.specs.Reading.{refused as refusedReading};
-ghost use Rattle.scenario.specs.Parts.{endingForm, run_at, endingAt, afterPassed};
+ghost use Rattle.scenario.specs.Parts.{ending_form, run_at, ending_at, after_passed};
 
 use rules::Slot;
 use state::{Arrival, Listed, Row, Settings, State, zeros};
@@ -72,7 +72,7 @@ struct Ending {
 
 // The record at an offset of the input.
 pub fn record_at(input: &[u8], at: usize) -> Record
-    ensures { said result ≡ readRecord (drop at input.now) }
+    ensures { said result ≡ read_record (drop at input.now) }
 {
     if at <= input.len() {
         records::read_record(&input[at..])
@@ -83,7 +83,7 @@ pub fn record_at(input: &[u8], at: usize) -> Record
 
 // What refuses a record that is not of the kind that has its place here: its own refusal, or '20: record out of place'.
 fn out_of_place(found: Record) -> u32
-    ensures { result ≡ outOfPlace (said found) }
+    ensures { result ≡ out_of_place (said found) }
 {
     match found {
         Record::Refused(number) => number,
@@ -97,7 +97,7 @@ fn out_of_place(found: Record) -> u32
 // The offset of the record of the station at a place of the row.
 fn station_offset(place: usize) -> usize
     requires { place ≤ 64 }
-    ensures { result ≡ stationOffset place }
+    ensures { result ≡ station_offset place }
 {
     SET_UP_BYTES + STATION_BYTES * place
 }
@@ -105,9 +105,9 @@ fn station_offset(place: usize) -> usize
 // 'N stations', n of them.
 fn read_stations(input: &[u8], n: usize) -> Stations
     requires { n ≤ 64 }
-    ensures refusal_value { result.refusal ≡ (stationsFrom n set-up-bytes (drop set-up-bytes input.now)).refusal }
-    ensures offset_value { result.offset ≡ (stationsFrom n set-up-bytes (drop set-up-bytes input.now)).offset }
-    ensures row_value { result.refusal ≡ 0 → (settings : Settings) → requestOf settings result.row ≡ requestWith settings (stationsFrom n set-up-bytes (drop set-up-bytes input.now)).asked }
+    ensures refusal_value { result.refusal ≡ (stations_from n set_up_bytes (drop set_up_bytes input.now)).refusal }
+    ensures offset_value { result.offset ≡ (stations_from n set_up_bytes (drop set_up_bytes input.now)).offset }
+    ensures row_value { result.refusal ≡ 0 → (settings : Settings) → request_of settings result.row ≡ request_with settings (stations_from n set_up_bytes (drop set_up_bytes input.now)).asked }
 {
     let mut stations = [zeros::NOBODY; 64];
     let mut i = 0;
@@ -142,7 +142,7 @@ fn read_stations(input: &[u8], n: usize) -> Stations
 
 // 'any arrivals', from an offset on; '21: arrival time below the previous arrival's'.
 fn pass_arrivals(input: &[u8], from: usize) -> Passed
-    ensures { endingForm (endingAt input.now from) ≡ afterPassed input.now result }
+    ensures { ending_form (ending_at input.now from) ≡ after_passed input.now result }
 {
     let mut at = from;
     let mut previous = Slot(0);
@@ -162,7 +162,7 @@ fn pass_arrivals(input: &[u8], from: usize) -> Passed
 
 // 'one run', and no 'bytes after the run record'.
 fn read_run(input: &[u8], at: usize) -> Ending
-    ensures { result ≡ endingForm (run_at input.now at) }
+    ensures { result ≡ ending_form (run_at input.now at) }
 {
     let found = record_at(input, at);
     let Record::Run(steps) = found else {
@@ -190,7 +190,7 @@ fn read_run(input: &[u8], at: usize) -> Ending
 
 // 'any arrivals, one run', from an offset on.
 fn read_ending(input: &[u8], from: usize) -> Ending
-    ensures { result ≡ endingForm (endingAt input.now from) }
+    ensures { result ≡ ending_form (ending_at input.now from) }
 {
     let passed = pass_arrivals(input, from);
     let refusal = passed.refusal;
@@ -207,7 +207,7 @@ fn read_ending(input: &[u8], from: usize) -> Ending
 
 // A refused scenario: nothing but its number and the offset of what is refused.
 fn refused(refusal: u32, offset: usize) -> Scenario
-    ensures { result ≡ scenarioForm (refusedReading refusal offset) }
+    ensures { result ≡ scenario_form (refusedReading refusal offset) }
 {
     let state = state::all_zero();
     Scenario {
@@ -221,8 +221,8 @@ fn refused(refusal: u32, offset: usize) -> Scenario
 
 // The rest of a scenario with these settings.
 fn read_listed(input: &[u8], settings: Settings) -> Scenario
-    requires { settingsRefusal settings ≡ 0 }
-    ensures { result ≡ scenarioForm (readStations settings (stationsFrom settings.n set-up-bytes (drop set-up-bytes input.now)) input.now) }
+    requires { settings_refusal settings ≡ 0 }
+    ensures { result ≡ scenario_form (read_stations settings (stations_from settings.n set_up_bytes (drop set_up_bytes input.now)) input.now) }
 {
     let n = settings.n;
     let stations = read_stations(input, n);
@@ -253,7 +253,7 @@ fn read_listed(input: &[u8], settings: Settings) -> Scenario
 
 // The scenario in the input: 'one set-up, N stations, any arrivals, one run'.
 pub fn read(input: &[u8]) -> Scenario
-    ensures { result ≡ scenarioForm (reading input.now) }
+    ensures { result ≡ scenario_form (reading input.now) }
 {
     if MOST_BYTES < input.len() {
         return refused(22, 0);

@@ -1,7 +1,7 @@
 // A record, taken from the rest of the lent input: 'a two-byte length (of what follows it), a two-byte kind, a body'.
 ghost use Rattle.std.specs.Prelude.{◌≡◌};
-ghost use Rattle.scenario.specs.Format.{readRecord, said, saidBy, setUpKind, stationKind, arrivalKind, runKind};
-ghost use Rattle.scenario.specs.Parts.{isKind, saidByKind};
+ghost use Rattle.scenario.specs.Format.{read_record, said, said_by, set_up_kind, station_kind, arrival_kind, run_kind};
+ghost use Rattle.scenario.specs.Parts.{is_kind, said_by_kind};
 
 use crate::{Record, fields};
 use rules::Slot;
@@ -22,7 +22,7 @@ const RUN: u32 = 4;
 
 // Whether this is a known kind, and this its length.
 fn is_kind(kind: u32, length: u32) -> bool
-    ensures { result ≡ isKind kind length }
+    ensures { result ≡ is_kind kind length }
 {
     match kind {
         SET_UP => length == 14,
@@ -35,7 +35,7 @@ fn is_kind(kind: u32, length: u32) -> bool
 
 // 'discipline 1, D 4, A 4, q 2, N 1'
 fn set_up_in(body: &[u8]) -> Record
-    ensures { said result ≡ saidBy setUpKind body.now }
+    ensures { said result ≡ said_by set_up_kind body.now }
 {
     Record::SetUp(Settings {
         discipline: fields::one(body, 0),
@@ -48,7 +48,7 @@ fn set_up_in(body: &[u8]) -> Record
 
 // 'address 2, capability 2'
 fn station_in(body: &[u8]) -> Record
-    ensures { said result ≡ saidBy stationKind body.now }
+    ensures { said result ≡ said_by station_kind body.now }
 {
     Record::Station(Listed {
         address: Address(fields::two(body, 0)),
@@ -58,7 +58,7 @@ fn station_in(body: &[u8]) -> Record
 
 // 'time 4, address 2, value 4, packet length 2'
 fn arrival_in(body: &[u8]) -> Record
-    ensures { said result ≡ saidBy arrivalKind body.now }
+    ensures { said result ≡ said_by arrival_kind body.now }
 {
     Record::Arrival(Arrival {
         time: Slot(fields::four(body, 0)),
@@ -70,14 +70,14 @@ fn arrival_in(body: &[u8]) -> Record
 
 // 'steps 2'
 fn run_in(body: &[u8]) -> Record
-    ensures { said result ≡ saidBy runKind body.now }
+    ensures { said result ≡ said_by run_kind body.now }
 {
     Record::Run(fields::two(body, 0))
 }
 
 // The body of a record by its kind, which is a known one.
 fn body_in(kind: u32, body: &[u8]) -> Record
-    ensures { said result ≡ saidByKind kind body.now }
+    ensures { said result ≡ said_by_kind kind body.now }
 {
     match kind {
         SET_UP => set_up_in(body),
@@ -89,7 +89,7 @@ fn body_in(kind: u32, body: &[u8]) -> Record
 
 // The record at the beginning of the rest of the input: '18 if under four bytes remain, 19, 18 for a short body'.
 pub fn read_record(rest: &[u8]) -> Record
-    ensures { said result ≡ readRecord rest.now }
+    ensures { said result ≡ read_record rest.now }
 {
     if rest.len() < HEADER {
         return Record::Refused(18);

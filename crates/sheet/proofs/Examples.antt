@@ -4,5 +4,5 @@ use mathlib.Core.List.{map}
 use Rattle.sheet.specs.Sheet.{drawn}
 use Rattle.sheet.specs.Examples.{Example, said, table}
 
-pub examples-hold : map (λ (e : Example). said (drawn e.runs e.count)) table ≡ map (λ (e : Example). e.says) table
-examples-hold = refl
+pub examples_hold : map (λ (e : Example). said (drawn e.runs e.count)) table ≡ map (λ (e : Example). e.says) table
+examples_hold = refl

@@ -4,11 +4,11 @@ use mathlib.Core.Path.{◌≡◌, refl, sym, ap, ap₂, ◌∙◌}
 use native.Mathlib.Nat.{add_assoc, add_comm, add_left_comm, mul_assoc, mul_comm, mul_left_comm, mul-add, add-mul, mod-lt, div-add-mod'}
 use native.Mathlib.Omega.{arith}
 use lib.Arith.{digits_lt, digits_div, digits_mod}
-use Rattle.sheet.specs.Words.{words, number, first, middle, next, inHalves}
+use Rattle.sheet.specs.Words.{words, number, first, middle, next, in_halves}
 
 -- a number's two words are it
-pub words-number : (size n : ℕ) → number size (words size n) ≡ n
-words-number size n = div-add-mod' n size
+pub words_number : (size n : ℕ) → number size (words size n) ≡ n
+words_number size n = div-add-mod' n size
 
 -- and two words are those of the number that they are, where the low one stays below `size`
 words_of : (size high low : ℕ) → low < size → words size (high * size + low) ≡ record { high = high; low = low }
@@ -34,15 +34,15 @@ columns base a b a' b' q r q₁ r₁ q₂ r₂ e f g =
     omega (arith, add-mul (a * b + q₁) q₂ (base * base), add-mul (a * b) q₁ (base * base))
 
 -- The law, over the width: for halves of any base, the two words that multiplication in halves makes are those of the product.
-pub in_halves : (base a b : ℕ) → 0 < base → inHalves base a b ≡ words (base * base) (a * b)
-in_halves base a b h =
-    sym (words_of (base * base) (inHalves base a b).high (inHalves base a b).low (digits_lt (mod-lt (next base a b) h) (mod-lt (first base a b) h)))
+pub in_halves_exact : (base a b : ℕ) → 0 < base → in_halves base a b ≡ words (base * base) (a * b)
+in_halves_exact base a b h =
+    sym (words_of (base * base) (in_halves base a b).high (in_halves base a b).low (digits_lt (mod-lt (next base a b) h) (mod-lt (first base a b) h)))
     ∙ ap (words (base * base)) (sym made ∙ ap₂ ◌*◌ (div-add-mod' a base) (div-add-mod' b base))
   where
     digits : (n : ℕ) → n ≡ n / base * base + n % base
     digits n = sym (div-add-mod' n base)
 
-    made : (a / base * base + a % base) * (b / base * base + b % base) ≡ (inHalves base a b).high * (base * base) + (inHalves base a b).low
+    made : (a / base * base + a % base) * (b / base * base + b % base) ≡ (in_halves base a b).high * (base * base) + (in_halves base a b).low
     made =
         columns base (a / base) (b / base) (a % base) (b % base)
         (first base a b / base) (first base a b % base)

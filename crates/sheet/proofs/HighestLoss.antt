@@ -11,13 +11,13 @@ use lib.Dec.{ltb}
 use lib.ListN.{length, get_or, length-append, get_or-append}
 use lib.Seq.{append_snoc, get_or-append_seam}
 use Rattle.sheet.specs.Losses.{Loss, Figure, AtMost, Below, above}
-use Rattle.sheet.specs.Sheet.{Run, Highest, Placed, no_run, lossOf, hasFigure, placed, lossAt, further, highestFrom, highestOf, IsHighest, Says}
+use Rattle.sheet.specs.Sheet.{Run, Highest, Placed, no_run, loss_of, has_figure, placed, loss_at, further, highest_from, highest_of, IsHighest, Says}
 use Rattle.sheet.specs.declared.Highest.TheVariants as Is
-use Rattle.sheet.proofs.Order.{at-most-itself, above-is, above-not, at-most-below, below-at-most-itself, not-both}
+use Rattle.sheet.proofs.Order.{at_most_itself, above_is, above_not, at_most_below, below_at_most_itself, not_both}
 
 -- the loss of the run at a place
-abbrev lossIn : List Run → ℕ → Loss
-lossIn runs i = lossOf (get_or runs i no_run)
+abbrev loss_in : List Run → ℕ → Loss
+loss_in runs i = loss_of (get_or runs i no_run)
 
 -- ---- one run more
 
@@ -50,7 +50,7 @@ module _ (done : List Run) (r : Run) where
 
   -- the new run comes highest: it has a figure, and every loss before it is below its own
   new-highest :
-      Figure (lossOf r) → ((i : ℕ) → i < length done → Figure (lossIn done i) → Below (lossIn done i) (lossOf r))
+      Figure (loss_of r) → ((i : ℕ) → i < length done → Figure (loss_in done i) → Below (loss_in done i) (loss_of r))
       → IsHighest more (placed (length done) r)
   new-highest figure below =
       record {
@@ -58,85 +58,85 @@ module _ (done : List Run) (r : Run) where
         its = ap (placed (length done)) (sym last-is);
         figure = figure;
         most =
-            each (λ x. Figure (lossOf x) → AtMost (lossOf x) (lossOf r))
-            (λ i h f. below-at-most-itself (lossIn done i) (lossOf r) (below i h f))
-            (λ f. at-most-itself (lossOf r));
+            each (λ x. Figure (loss_of x) → AtMost (loss_of x) (loss_of r))
+            (λ i h f. below_at_most_itself (loss_in done i) (loss_of r) (below i h f))
+            (λ f. at_most_itself (loss_of r));
         first =
             λ i h.
-            subst (λ (x : Run). Figure (lossOf x) → Below (lossOf x) (lossOf r)) (sym (was i h)) (below i h);
+            subst (λ (x : Run). Figure (loss_of x) → Below (loss_of x) (loss_of r)) (sym (was i h)) (below i h);
       }
 
   -- the highest stays: the new run's loss is not above it
-  old-highest : (p : Placed) → IsHighest done p → AtMost (lossOf r) (lossAt p) → IsHighest more p
-  old-highest p h under =
+  old_highest : (p : Placed) → IsHighest done p → AtMost (loss_of r) (loss_at p) → IsHighest more p
+  old_highest p h under =
       record {
         there = omega (arith, one_more, h.there);
         its = h.its ∙ ap (placed p.place) (sym (was p.place h.there));
         figure = h.figure;
-        most = each (λ x. Figure (lossOf x) → AtMost (lossOf x) (lossAt p)) h.most (λ f. under);
+        most = each (λ x. Figure (loss_of x) → AtMost (loss_of x) (loss_at p)) h.most (λ f. under);
         first =
             λ i l.
             let there = h.there in
-            subst (λ (x : Run). Figure (lossOf x) → Below (lossOf x) (lossAt p)) (sym (was i (omega arith))) (h.first i l);
+            subst (λ (x : Run). Figure (loss_of x) → Below (loss_of x) (loss_at p)) (sym (was i (omega arith))) (h.first i l);
       }
 
   -- what the highest so far says, it says with one run more
-  says-more : (h : Highest) → Says done h → Says more (further h (length done) r)
-  says-more Is.NoFigure none = go (hasFigure r) refl
+  says_more : (h : Highest) → Says done h → Says more (further h (length done) r)
+  says_more Is.NoFigure none = go (has_figure r) refl
     where
-      go : (t : Bool) → hasFigure r ≡ t → Says more (cond t (Is.Run (placed (length done) r)) Is.NoFigure)
-      go true e = new-highest (ltb-true 0 (lossOf r).ended e) (λ i l f. absurd (none i l f))
+      go : (t : Bool) → has_figure r ≡ t → Says more (cond t (Is.Run (placed (length done) r)) Is.NoFigure)
+      go true e = new-highest (ltb-true 0 (loss_of r).ended e) (λ i l f. absurd (none i l f))
       go false e =
-          each (λ x. ¬ Figure (lossOf x)) none (λ f. let l = ltb-false 0 (lossOf r).ended e in omega arith)
-  says-more (Is.Run p) h = go (above (lossOf r) (lossAt p)) refl
+          each (λ x. ¬ Figure (loss_of x)) none (λ f. let l = ltb-false 0 (loss_of r).ended e in omega arith)
+  says_more (Is.Run p) h = go (above (loss_of r) (loss_at p)) refl
     where
-      figure : Below (lossAt p) (lossOf r) → Figure (lossOf r)
-      figure below = some (lossOf r).lost refl
+      figure : Below (loss_at p) (loss_of r) → Figure (loss_of r)
+      figure below = some (loss_of r).lost refl
         where
-          some : (n : ℕ) → (lossOf r).lost ≡ n → Figure (lossOf r)
+          some : (n : ℕ) → (loss_of r).lost ≡ n → Figure (loss_of r)
           some zero e =
-              let none : (lossOf r).lost * p.ended ≡ 0 * p.ended = ap (λ (k : ℕ). k * p.ended) e in
+              let none : (loss_of r).lost * p.ended ≡ 0 * p.ended = ap (λ (k : ℕ). k * p.ended) e in
               absurd (omega (arith, below, zero-mul p.ended))
           some (suc n) e = omega arith
 
-      go : (t : Bool) → above (lossOf r) (lossAt p) ≡ t → Says more (cond t (Is.Run (placed (length done) r)) (Is.Run p))
+      go : (t : Bool) → above (loss_of r) (loss_at p) ≡ t → Says more (cond t (Is.Run (placed (length done) r)) (Is.Run p))
       go true e =
-          let below = above-is (lossOf r) (lossAt p) e in
-          new-highest (figure below) (λ i l f. at-most-below (lossIn done i) (lossAt p) (lossOf r) f (h.most i l f) below)
-      go false e = old-highest p h (above-not (lossOf r) (lossAt p) e)
+          let below = above_is (loss_of r) (loss_at p) e in
+          new-highest (figure below) (λ i l f. at_most_below (loss_in done i) (loss_at p) (loss_of r) f (h.most i l f) below)
+      go false e = old_highest p h (above_not (loss_of r) (loss_at p) e)
 
 -- ---- all runs
 
-says_all : (runs done : List Run) (h : Highest) → Says done h → Says (done ++ runs) (highestFrom h (length done) runs)
+says_all : (runs done : List Run) (h : Highest) → Says done h → Says (done ++ runs) (highest_from h (length done) runs)
 says_all [] done h says = subst (λ (l : List Run). Says l h) (sym (append-nil done)) says
 says_all (r ∷ runs) done h says =
-    subst (λ (l : List Run). Says l (highestFrom (further h (length done) r) (suc (length done)) runs)) (append_snoc done r runs)
-    (subst (λ (n : ℕ). Says ((done ++ (r ∷ [])) ++ runs) (highestFrom (further h (length done) r) n runs)) (one_more done r)
-    (says_all runs (done ++ (r ∷ [])) (further h (length done) r) (says-more done r h says)))
+    subst (λ (l : List Run). Says l (highest_from (further h (length done) r) (suc (length done)) runs)) (append_snoc done r runs)
+    (subst (λ (n : ℕ). Says ((done ++ (r ∷ [])) ++ runs) (highest_from (further h (length done) r) n runs)) (one_more done r)
+    (says_all runs (done ++ (r ∷ [])) (further h (length done) r) (says_more done r h says)))
 
 -- The highest of a batch is what its case says.
-pub highest-says : (runs : List Run) → Says runs (highestOf runs)
-highest-says runs = says_all runs [] Is.NoFigure (λ i h f. absurd (omega arith))
+pub highest_says : (runs : List Run) → Says runs (highest_of runs)
+highest_says runs = says_all runs [] Is.NoFigure (λ i h f. absurd (omega arith))
 
 -- ---- no other case says the same
 
 -- the run that a case names has the loss that it names
-its-loss : (runs : List Run) (p : Placed) → IsHighest runs p → lossAt p ≡ lossIn runs p.place
-its-loss runs p h = ap lossAt h.its
+its_loss : (runs : List Run) (p : Placed) → IsHighest runs p → loss_at p ≡ loss_in runs p.place
+its_loss runs p h = ap loss_at h.its
 
 -- the place of one is not before that of the other
 not-before : (runs : List Run) (p q : Placed) → IsHighest runs p → IsHighest runs q → ¬ (p.place < q.place)
 not-before runs p q h k l =
-    let same = its-loss runs p h in
-    let below = subst (λ (a : Loss). Figure a → Below a (lossAt q)) (sym same) (k.first p.place l) h.figure in
+    let same = its_loss runs p h in
+    let below = subst (λ (a : Loss). Figure a → Below a (loss_at q)) (sym same) (k.first p.place l) h.figure in
     let under =
-    subst (λ (a : Loss). Figure a → AtMost a (lossAt p)) (sym (its-loss runs q k)) (h.most q.place k.there) k.figure in
-    not-both (lossAt p) (lossAt q) below under
+    subst (λ (a : Loss). Figure a → AtMost a (loss_at p)) (sym (its_loss runs q k)) (h.most q.place k.there) k.figure in
+    not_both (loss_at p) (loss_at q) below under
 
-pub says-only : (runs : List Run) (x y : Highest) → Says runs x → Says runs y → x ≡ y
-says-only runs Is.NoFigure Is.NoFigure h k = refl
-says-only runs Is.NoFigure (Is.Run q) h k = absurd (h q.place k.there (subst Figure (its-loss runs q k) k.figure))
-says-only runs (Is.Run p) Is.NoFigure h k = absurd (k p.place h.there (subst Figure (its-loss runs p h) h.figure))
-says-only runs (Is.Run p) (Is.Run q) h k =
+pub says_only : (runs : List Run) (x y : Highest) → Says runs x → Says runs y → x ≡ y
+says_only runs Is.NoFigure Is.NoFigure h k = refl
+says_only runs Is.NoFigure (Is.Run q) h k = absurd (h q.place k.there (subst Figure (its_loss runs q k) k.figure))
+says_only runs (Is.Run p) Is.NoFigure h k = absurd (k p.place h.there (subst Figure (its_loss runs p h) h.figure))
+says_only runs (Is.Run p) (Is.Run q) h k =
     let same : p.place ≡ q.place = omega (arith, not-before runs p q h k, not-before runs q p k h) in
     ap Is.Run (h.its ∙ ap (λ n. placed n (get_or runs n no_run)) same ∙ sym k.its)

@@ -10,8 +10,8 @@ use lib.Dec.{ltb}
 use Rattle.sheet.specs.Losses.{Loss, Figure, AtMost, Below, above}
 
 -- a loss is not above itself
-pub at-most-itself : (a : Loss) → AtMost a a
-at-most-itself a = omega arith
+pub at_most_itself : (a : Loss) → AtMost a a
+at_most_itself a = omega arith
 
 -- of two losses one is below the other, or it is not above it
 pub either : (a b : Loss) → AtMost a b ⊎ Below b a
@@ -22,11 +22,11 @@ either a b = go (ltb (b.lost * a.ended) (a.lost * b.ended)) refl
     go false e = inl (ltb-false (b.lost * a.ended) (a.lost * b.ended) e)
 
 -- what the test says
-pub above-is : (a b : Loss) → above a b ≡ true → Below b a
-above-is a b e = ltb-true (b.lost * a.ended) (a.lost * b.ended) e
+pub above_is : (a b : Loss) → above a b ≡ true → Below b a
+above_is a b e = ltb-true (b.lost * a.ended) (a.lost * b.ended) e
 
-pub above-not : (a b : Loss) → above a b ≡ false → AtMost a b
-above-not a b e = ltb-false (b.lost * a.ended) (a.lost * b.ended) e
+pub above_not : (a b : Loss) → above a b ≡ false → AtMost a b
+above_not a b e = ltb-false (b.lost * a.ended) (a.lost * b.ended) e
 
 module _ (a b c : Loss) where
   -- the three products, with the third loss's number in each
@@ -40,29 +40,29 @@ module _ (a b c : Loss) where
   right = mul_right_comm c.lost b.ended a.ended
 
   -- transitive where the middle one has a figure
-  pub at-most-then : Figure b → AtMost a b → AtMost b c → AtMost a c
-  at-most-then figure h k =
+  pub at_most_then : Figure b → AtMost a b → AtMost b c → AtMost a c
+  at_most_then figure h k =
       let first = mul-le-mul_right c.ended h in
       let second = mul-le-mul_right a.ended k in
       le_of_mul-le-mul_right (omega (arith, left, middle, right)) figure
 
   -- what is not above a loss that is below another is below that
-  pub at-most-below : Figure a → AtMost a b → Below b c → Below a c
-  at-most-below figure h k =
+  pub at_most_below : Figure a → AtMost a b → Below b c → Below a c
+  at_most_below figure h k =
       let first = mul-le-mul_right c.ended h in
       let second = mul-lt-mul_of_pos_right k figure in
       lt_of_mul-lt-mul_right b.ended (omega (arith, left, middle, right))
 
   -- and what is below a loss that is not above another
-  pub below-at-most : Figure c → Below a b → AtMost b c → Below a c
-  below-at-most figure h k =
+  pub below_at_most : Figure c → Below a b → AtMost b c → Below a c
+  below_at_most figure h k =
       let first = mul-lt-mul_of_pos_right h figure in
       let second = mul-le-mul_right a.ended k in
       lt_of_mul-lt-mul_right b.ended (omega (arith, left, middle, right))
 
 -- a loss below another is not above it, and not the other way round
-pub below-at-most-itself : (a b : Loss) → Below a b → AtMost a b
-below-at-most-itself a b h = omega arith
+pub below_at_most_itself : (a b : Loss) → Below a b → AtMost a b
+below_at_most_itself a b h = omega arith
 
-pub not-both : (a b : Loss) → Below a b → AtMost b a → ⊥
-not-both a b h k = omega arith
+pub not_both : (a b : Loss) → Below a b → AtMost b a → ⊥
+not_both a b h k = omega arith

@@ -6,8 +6,8 @@ use mathlib.Core.Logic.{◌⊎◌}
 use mathlib.Core.List.{List, map}
 use lib.ListN.{take}
 use Rattle.sheet.specs.Losses.{Loss, Figure, AtMost, Below}
-use Rattle.sheet.specs.Words.{words, number, inHalves}
-use Rattle.sheet.specs.Sheet.{Run, Highest, most-runs, AllBalanced, FirstUnbalanced, highestOf, Says, refusedBatch, sheetDrawn, drawn}
+use Rattle.sheet.specs.Words.{words, number, in_halves}
+use Rattle.sheet.specs.Sheet.{Run, Highest, most_runs, AllBalanced, FirstUnbalanced, highest_of, Says, refused_batch, sheet_drawn, drawn}
 use Rattle.sheet.specs.Examples.{Example, said, table}
 use Rattle.sheet.proofs.Order as Order
 use Rattle.sheet.proofs.Halves as Halves
@@ -19,63 +19,63 @@ use Rattle.sheet.proofs.Examples as Examples
 
 -- cross products order losses that have figures, whatever the size of the numbers: each is at most itself, two can be compared, and what is at
 -- most, or below, what is at most, or below, another is so itself
-pub at-most-itself : (a : Loss) → AtMost a a
-at-most-itself = Order.at-most-itself
+pub at_most_itself : (a : Loss) → AtMost a a
+at_most_itself = Order.at_most_itself
 
 pub either : (a b : Loss) → AtMost a b ⊎ Below b a
 either = Order.either
 
-pub not-both : (a b : Loss) → Below a b → AtMost b a → ⊥
-not-both = Order.not-both
+pub not_both : (a b : Loss) → Below a b → AtMost b a → ⊥
+not_both = Order.not_both
 
-pub at-most-then : (a b c : Loss) → Figure b → AtMost a b → AtMost b c → AtMost a c
-at-most-then = Order.at-most-then
+pub at_most_then : (a b c : Loss) → Figure b → AtMost a b → AtMost b c → AtMost a c
+at_most_then = Order.at_most_then
 
-pub at-most-below : (a b c : Loss) → Figure a → AtMost a b → Below b c → Below a c
-at-most-below = Order.at-most-below
+pub at_most_below : (a b c : Loss) → Figure a → AtMost a b → Below b c → Below a c
+at_most_below = Order.at_most_below
 
-pub below-at-most : (a b c : Loss) → Figure c → Below a b → AtMost b c → Below a c
-below-at-most = Order.below-at-most
+pub below_at_most : (a b c : Loss) → Figure c → Below a b → AtMost b c → Below a c
+below_at_most = Order.below_at_most
 
 -- ---- products past 64 bits
 
 -- multiplication in halves is multiplication, whatever the base of the halves: the two words that it makes are those of the product
-pub in_halves : (base a b : ℕ) → 0 < base → inHalves base a b ≡ words (base * base) (a * b)
-in_halves = Halves.in_halves
+pub in_halves_exact : (base a b : ℕ) → 0 < base → in_halves base a b ≡ words (base * base) (a * b)
+in_halves_exact = Halves.in_halves_exact
 
 -- and they are the product
-pub words-number : (size n : ℕ) → number size (words size n) ≡ n
-words-number = Halves.words-number
+pub words_number : (size n : ℕ) → number size (words size n) ≡ n
+words_number = Halves.words_number
 
 -- ---- the highest loss
 
 -- the highest of a batch is a run with a figure, no run's loss is above it, and no earlier run's equals it; or no run has a figure
-pub highest-says : (runs : List Run) → Says runs (highestOf runs)
-highest-says = HighestLoss.highest-says
+pub highest_says : (runs : List Run) → Says runs (highest_of runs)
+highest_says = HighestLoss.highest_says
 
 -- and no other answer is
-pub says-only : (runs : List Run) (x y : Highest) → Says runs x → Says runs y → x ≡ y
-says-only = HighestLoss.says-only
+pub says_only : (runs : List Run) (x y : Highest) → Says runs x → Says runs y → x ≡ y
+says_only = HighestLoss.says_only
 
 -- ---- what refuses a batch
 
-pub drawn-many : (row : List Run) (count : ℕ) → most-runs < count → drawn row count ≡ refusedBatch 23 0
-drawn-many = Refusals.drawn-many
+pub drawn_many : (row : List Run) (count : ℕ) → most_runs < count → drawn row count ≡ refused_batch 23 0
+drawn_many = Refusals.drawn_many
 
-pub drawn-uneven :
-    (row : List Run) (count : ℕ) → count ≤ most-runs → (place : ℕ) → FirstUnbalanced (take count row) place
-    → drawn row count ≡ refusedBatch 24 place
-drawn-uneven = Refusals.drawn-uneven
+pub drawn_uneven :
+    (row : List Run) (count : ℕ) → count ≤ most_runs → (place : ℕ) → FirstUnbalanced (take count row) place
+    → drawn row count ≡ refused_batch 24 place
+drawn_uneven = Refusals.drawn_uneven
 
-pub drawn-whole : (row : List Run) (count : ℕ) → count ≤ most-runs → AllBalanced (take count row) → drawn row count ≡ sheetDrawn (take count row)
-drawn-whole = Refusals.drawn-whole
+pub drawn_whole : (row : List Run) (count : ℕ) → count ≤ most_runs → AllBalanced (take count row) → drawn row count ≡ sheet_drawn (take count row)
+drawn_whole = Refusals.drawn_whole
 
 -- of any batch one of the last two holds
-pub first-or-all : (runs : List Run) → ((place : ℕ) × FirstUnbalanced runs place) ⊎ AllBalanced runs
-first-or-all = Refusals.first-or-all
+pub first_or_all : (runs : List Run) → ((place : ℕ) × FirstUnbalanced runs place) ⊎ AllBalanced runs
+first_or_all = Refusals.first_or_all
 
 -- ---- examples
 
 -- the table of batches
-pub examples-hold : map (λ (e : Example). said (drawn e.runs e.count)) table ≡ map (λ (e : Example). e.says) table
-examples-hold = Examples.examples-hold
+pub examples_hold : map (λ (e : Example). said (drawn e.runs e.count)) table ≡ map (λ (e : Example). e.says) table
+examples_hold = Examples.examples_hold

@@ -10,8 +10,8 @@ use native.Mathlib.Omega.{arith}
 use borrow.Author.Tests.{eqb-true, eqb-false, eq-eqb, ne_eqb, lt-ltb, le-ltb}
 use lib.Dec.{ltb}
 use lib.ListN.{length, get_or, take}
-use Rattle.sheet.specs.Sheet.{Run, most-runs, no_run, balances, Balanced, AllBalanced, FirstUnbalanced, unbalanced}
-use Rattle.sheet.specs.Sheet.{refusedBatch, sheetDrawn, drawnOf, drawn}
+use Rattle.sheet.specs.Sheet.{Run, most_runs, no_run, balances, Balanced, AllBalanced, FirstUnbalanced, unbalanced}
+use Rattle.sheet.specs.Sheet.{refused_batch, sheet_drawn, drawn_of, drawn}
 
 -- ---- the first run that does not balance
 
@@ -44,9 +44,9 @@ none_found (r ∷ runs) from h =
     ∙ omega arith
 
 -- one of the two holds
-pub first-or-all : (runs : List Run) → ((place : ℕ) × FirstUnbalanced runs place) ⊎ AllBalanced runs
-first-or-all [] = inr (λ i l. absurd (omega arith))
-first-or-all (r ∷ runs) = go (balances r) refl (first-or-all runs)
+pub first_or_all : (runs : List Run) → ((place : ℕ) × FirstUnbalanced runs place) ⊎ AllBalanced runs
+first_or_all [] = inr (λ i l. absurd (omega arith))
+first_or_all (r ∷ runs) = go (balances r) refl (first_or_all runs)
   where
     go :
         (t : Bool) → balances r ≡ t → ((place : ℕ) × FirstUnbalanced runs place) ⊎ AllBalanced runs
@@ -75,27 +75,27 @@ first-or-all (r ∷ runs) = go (balances r) refl (first-or-all runs)
 
 module _ (row : List Run) (count : ℕ) where
   -- '23, over 256 runs'
-  pub drawn-many : most-runs < count → drawn row count ≡ refusedBatch 23 0
-  drawn-many h = ap (λ t. cond t (refusedBatch 23 0) (drawnOf (take count row))) (lt-ltb most-runs count h)
+  pub drawn_many : most_runs < count → drawn row count ≡ refused_batch 23 0
+  drawn_many h = ap (λ t. cond t (refused_batch 23 0) (drawn_of (take count row))) (lt-ltb most_runs count h)
 
-  module _ (few : count ≤ most-runs) where
+  module _ (few : count ≤ most_runs) where
     abbrev runs : List Run
     runs = take count row
 
     -- by the place of the first run that does not balance
     pub drawn-by :
         (place : ℕ) (t : Bool) → place ≡ unbalanced 0 runs → ltb place (length runs) ≡ t
-        → drawn row count ≡ cond t (refusedBatch 24 place) (sheetDrawn runs)
+        → drawn row count ≡ cond t (refused_batch 24 place) (sheet_drawn runs)
     drawn-by place t e l =
-        ap (λ b. cond b (refusedBatch 23 0) (drawnOf runs)) (le-ltb most-runs count few)
-        ∙ ap (λ n. cond (ltb n (length runs)) (refusedBatch 24 n) (sheetDrawn runs)) (sym e)
-        ∙ ap (λ b. cond b (refusedBatch 24 place) (sheetDrawn runs)) l
+        ap (λ b. cond b (refused_batch 23 0) (drawn_of runs)) (le-ltb most_runs count few)
+        ∙ ap (λ n. cond (ltb n (length runs)) (refused_batch 24 n) (sheet_drawn runs)) (sym e)
+        ∙ ap (λ b. cond b (refused_batch 24 place) (sheet_drawn runs)) l
 
     -- '24, a run whose admitted count is not sent + lost + waiting'; the first of them
-    pub drawn-uneven : (place : ℕ) → FirstUnbalanced runs place → drawn row count ≡ refusedBatch 24 place
-    drawn-uneven place h = drawn-by place true (sym (first_found runs 0 place h ∙ zero-add place)) (lt-ltb place (length runs) h.there)
+    pub drawn_uneven : (place : ℕ) → FirstUnbalanced runs place → drawn row count ≡ refused_batch 24 place
+    drawn_uneven place h = drawn-by place true (sym (first_found runs 0 place h ∙ zero-add place)) (lt-ltb place (length runs) h.there)
 
     -- nothing else refuses a batch
-    pub drawn-whole : AllBalanced runs → drawn row count ≡ sheetDrawn runs
-    drawn-whole h =
+    pub drawn_whole : AllBalanced runs → drawn row count ≡ sheet_drawn runs
+    drawn_whole h =
         drawn-by (length runs) false (sym (none_found runs 0 h ∙ zero-add (length runs))) (le-ltb (length runs) (length runs) (omega arith))

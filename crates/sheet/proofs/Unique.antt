@@ -3,5 +3,5 @@ use Rattle.window.specs.Determined.{Determines}
 use Rattle.window.proofs.Unique.{unique}
 use Rattle.sheet.proofs.draw.Reads as draw
 
-pub draw-determined : Determines draw.Learnt
-draw-determined κs args r r' end end' = unique
+pub draw_determined : Determines draw.Learnt
+draw_determined κs args r r' end end' = unique

@@ -25,13 +25,13 @@ turns turned = run 4_294_967_295 1 4_294_967_294 0 turned 1
 
 -- ---- what is said, as numbers
 
-abbrev pub sumsSaid : Sums → List ℕ
-sumsSaid s = s.admitted ∷ s.sent ∷ s.lost ∷ s.waiting ∷ s.turned ∷ []
+abbrev pub sums_said : Sums → List ℕ
+sums_said s = s.admitted ∷ s.sent ∷ s.lost ∷ s.waiting ∷ s.turned ∷ []
 
 -- the place of the highest, counted from 1, and its loss; or 0
-abbrev pub highestSaid : Highest → List ℕ
-highestSaid Is.NoFigure = 0 ∷ []
-highestSaid (Is.Run p) = suc p.place ∷ p.lost ∷ p.ended ∷ []
+abbrev pub highest_said : Highest → List ℕ
+highest_said Is.NoFigure = 0 ∷ []
+highest_said (Is.Run p) = suc p.place ∷ p.lost ∷ p.ended ∷ []
 
 -- the refusal number and the place; the rows; the sums; the highest
 pub record Said : Type 0 where
@@ -45,8 +45,8 @@ said d =
     record {
       refusal = d.refusal ∷ d.place ∷ [];
       rows = take d.sheet.count d.sheet.rows;
-      sums = sumsSaid d.sheet.sums;
-      highest = highestSaid d.sheet.highest;
+      sums = sums_said d.sheet.sums;
+      highest = highest_said d.sheet.highest;
     }
 
 -- a refused batch says its number and the place, and has no row

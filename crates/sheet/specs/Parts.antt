@@ -38,9 +38,9 @@ abbrev pub loss : ℕ → ℕ → Loss
 loss lost ended = record { lost = lost; ended = ended }
 
 -- whether a loss takes the place of the highest so far, if one was found
-abbrev pub takesPlace : Bool → Loss → Loss → Bool
-takesPlace found most x = cond found (above x most) (ltb 0 x.ended)
+abbrev pub takes_place : Bool → Loss → Loss → Bool
+takes_place found most x = cond found (above x most) (ltb 0 x.ended)
 
 -- the highest so far
-abbrev pub highestSo : Bool → ℕ → ℕ → ℕ → Highest
-highestSo found place lost ended = cond found (Is.Run (record { place = place; lost = lost; ended = ended })) Is.NoFigure
+abbrev pub highest_so : Bool → ℕ → ℕ → ℕ → Highest
+highest_so found place lost ended = cond found (Is.Run (record { place = place; lost = lost; ended = ended })) Is.NoFigure

@@ -12,8 +12,8 @@ use Rattle.sheet.specs.declared.Highest.TheVariants as Is
 use Rattle.sheet.specs.Losses.{Loss, Figure, AtMost, Below, above}
 
 -- 'up to 256 finished runs'
-abbrev pub most-runs : ℕ
-most-runs = 256
+abbrev pub most_runs : ℕ
+most_runs = 256
 
 -- what has no meaning is zero
 abbrev pub no_run : Run
@@ -61,8 +61,8 @@ abbrev pub sum_of : (Run → ℕ) → List Run → ℕ
 sum_of count [] = 0
 sum_of count (r ∷ runs) = count r + sum_of count runs
 
-abbrev pub sumsOf : List Run → Sums
-sumsOf runs =
+abbrev pub sums_of : List Run → Sums
+sums_of runs =
     record {
       admitted = sum_of (λ r. r.admitted) runs;
       sent = sum_of (λ r. r.sent) runs;
@@ -74,72 +74,72 @@ sumsOf runs =
 -- ---- the highest loss
 
 -- 'let P2's loss be lost + turned away over lost + turned away + sent'
-abbrev pub lossOf : Run → Loss
-lossOf r = record { lost = r.lost + r.turned; ended = r.lost + r.turned + r.sent }
+abbrev pub loss_of : Run → Loss
+loss_of r = record { lost = r.lost + r.turned; ended = r.lost + r.turned + r.sent }
 
 -- 'with no figure only where that sum is 0': a run with nothing lost, turned away or sent has none
-abbrev pub hasFigure : Run → Bool
-hasFigure r = ltb 0 (lossOf r).ended
+abbrev pub has_figure : Run → Bool
+has_figure r = ltb 0 (loss_of r).ended
 
 -- a run at its place
 abbrev pub placed : ℕ → Run → Placed
-placed place r = record { place = place; lost = (lossOf r).lost; ended = (lossOf r).ended }
+placed place r = record { place = place; lost = (loss_of r).lost; ended = (loss_of r).ended }
 
 -- the loss of a run at its place
-abbrev pub lossAt : Placed → Loss
-lossAt p = record { lost = p.lost; ended = p.ended }
+abbrev pub loss_at : Placed → Loss
+loss_at p = record { lost = p.lost; ended = p.ended }
 
 -- The highest so far, and one run more: it takes its place where it has a figure and none had one, or where its loss is above. 'Equal ones go
 -- to the earlier run.'
 abbrev pub further : Highest → ℕ → Run → Highest
-further Is.NoFigure place r = cond (hasFigure r) (Is.Run (placed place r)) Is.NoFigure
-further (Is.Run p) place r = cond (above (lossOf r) (lossAt p)) (Is.Run (placed place r)) (Is.Run p)
+further Is.NoFigure place r = cond (has_figure r) (Is.Run (placed place r)) Is.NoFigure
+further (Is.Run p) place r = cond (above (loss_of r) (loss_at p)) (Is.Run (placed place r)) (Is.Run p)
 
 -- the runs from a place on
-abbrev pub highestFrom : Highest → ℕ → List Run → Highest
-highestFrom h place [] = h
-highestFrom h place (r ∷ runs) = highestFrom (further h place r) (suc place) runs
+abbrev pub highest_from : Highest → ℕ → List Run → Highest
+highest_from h place [] = h
+highest_from h place (r ∷ runs) = highest_from (further h place r) (suc place) runs
 
-abbrev pub highestOf : List Run → Highest
-highestOf runs = highestFrom Is.NoFigure 0 runs
+abbrev pub highest_of : List Run → Highest
+highest_of runs = highest_from Is.NoFigure 0 runs
 
 -- What each case of the highest says of a batch: that no run has a figure; or that this run has one, no run's loss is above it, and no earlier
 -- run's equals it.
 pub record IsHighest (runs : List Run) (p : Placed) : Type 0 where
   pub there : p.place < length runs
   pub its : p ≡ placed p.place (get_or runs p.place no_run)
-  pub figure : Figure (lossAt p)
-  pub most : (i : ℕ) → i < length runs → Figure (lossOf (get_or runs i no_run)) → AtMost (lossOf (get_or runs i no_run)) (lossAt p)
-  pub first : (i : ℕ) → i < p.place → Figure (lossOf (get_or runs i no_run)) → Below (lossOf (get_or runs i no_run)) (lossAt p)
+  pub figure : Figure (loss_at p)
+  pub most : (i : ℕ) → i < length runs → Figure (loss_of (get_or runs i no_run)) → AtMost (loss_of (get_or runs i no_run)) (loss_at p)
+  pub first : (i : ℕ) → i < p.place → Figure (loss_of (get_or runs i no_run)) → Below (loss_of (get_or runs i no_run)) (loss_at p)
 
 abbrev pub Says : List Run → Highest → Type 0
-Says runs Is.NoFigure = (i : ℕ) → i < length runs → ¬ Figure (lossOf (get_or runs i no_run))
+Says runs Is.NoFigure = (i : ℕ) → i < length runs → ¬ Figure (loss_of (get_or runs i no_run))
 Says runs (Is.Run p) = IsHighest runs p
 
 -- ---- the sheet
 
 -- the rows in their places, and zeros past them
-abbrev pub sheetOf : List Run → Sheet
-sheetOf runs =
+abbrev pub sheet_of : List Run → Sheet
+sheet_of runs =
     record {
-      rows = map row_of runs ++ replicate (most-runs - length runs) no_run;
+      rows = map row_of runs ++ replicate (most_runs - length runs) no_run;
       count = length runs;
-      sums = sumsOf runs;
-      highest = highestOf runs;
+      sums = sums_of runs;
+      highest = highest_of runs;
     }
 
 -- a refused batch: its number, the place of the run, and the sheet of no run
-abbrev pub refusedBatch : ℕ → ℕ → Drawn
-refusedBatch number place = record { refusal = number; place = place; sheet = sheetOf [] }
+abbrev pub refused_batch : ℕ → ℕ → Drawn
+refused_batch number place = record { refusal = number; place = place; sheet = sheet_of [] }
 
 -- a batch that is not refused
-abbrev pub sheetDrawn : List Run → Drawn
-sheetDrawn runs = record { refusal = 0; place = 0; sheet = sheetOf runs }
+abbrev pub sheet_drawn : List Run → Drawn
+sheet_drawn runs = record { refusal = 0; place = 0; sheet = sheet_of runs }
 
 -- '24', of so many runs
-abbrev pub drawnOf : List Run → Drawn
-drawnOf runs = cond (ltb (unbalanced 0 runs) (length runs)) (refusedBatch 24 (unbalanced 0 runs)) (sheetDrawn runs)
+abbrev pub drawn_of : List Run → Drawn
+drawn_of runs = cond (ltb (unbalanced 0 runs) (length runs)) (refused_batch 24 (unbalanced 0 runs)) (sheet_drawn runs)
 
 -- 'Refusals: 23, over 256 runs; 24, ..; 23 first': the first so many places of a row
 abbrev pub drawn : List Run → ℕ → Drawn
-drawn row count = cond (ltb most-runs count) (refusedBatch 23 0) (drawnOf (take count row))
+drawn row count = cond (ltb most_runs count) (refused_batch 23 0) (drawn_of (take count row))

@@ -29,8 +29,8 @@ abbrev pub next : ℕ → ℕ → ℕ → ℕ
 next base a b = middle base a b % base + a % base * (b / base)
 
 -- the two words that they make
-abbrev pub inHalves : ℕ → ℕ → ℕ → Words
-inHalves base a b =
+abbrev pub in_halves : ℕ → ℕ → ℕ → Words
+in_halves base a b =
     record {
       high = a / base * (b / base) + middle base a b / base + next base a b / base;
       low = next base a b % base * base + first base a b % base;

@@ -1,6 +1,6 @@
 // The sheet of a batch of finished runs: a row for each run, the counts' sums and the run with the highest loss. Every call takes any input.
 ghost use Rattle.std.specs.Prelude.{◌≡◌};
-ghost use Rattle.sheet.specs.Sheet.{refusedBatch, drawn};
+ghost use Rattle.sheet.specs.Sheet.{refused_batch, drawn};
 
 mod losses;
 mod products;
@@ -75,7 +75,7 @@ pub const NO_RUN: Run = Run {
 
 // 'Refusals: .., nothing written': the number, the place of the run, and the sheet of no run.
 fn refused(refusal: u32, place: usize) -> Drawn
-    ensures { result ≡ refusedBatch refusal place }
+    ensures { result ≡ refused_batch refusal place }
 {
     let sums = Sums {
         admitted: 0,

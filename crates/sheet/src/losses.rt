@@ -1,14 +1,14 @@
 // The highest loss of a batch: 'Losses are compared exactly by cross products; equal ones go to the earlier run.'
 ghost use Rattle.std.specs.Prelude.{◌≤◌, ◌≡◌, take};
-ghost use Rattle.sheet.specs.Sheet.{highestOf, most-runs};
-ghost use Rattle.sheet.specs.Parts.{loss, takesPlace};
+ghost use Rattle.sheet.specs.Sheet.{highest_of, most_runs};
+ghost use Rattle.sheet.specs.Parts.{loss, takes_place};
 
 use crate::{Highest, Placed, Run, products};
 
 // Whether a run takes the place of the highest so far, whose loss is `most` over `over`: it has a figure and none had one, or its loss is
 // above.
 fn takes_place(found: bool, most: u64, over: u64, lost: u64, ended: u64) -> bool
-    ensures { result ≡ takesPlace found (loss most over) (loss lost ended) }
+    ensures { result ≡ takes_place found (loss most over) (loss lost ended) }
 {
     if !found {
         return 0 < ended;
@@ -20,8 +20,8 @@ fn takes_place(found: bool, most: u64, over: u64, lost: u64, ended: u64) -> bool
 
 // 'the run with the highest loss', 'lost + turned away over lost + turned away + sent'
 pub fn highest(runs: [Run; 256], count: usize) -> Highest
-    requires { count ≤ most-runs }
-    ensures { result ≡ highestOf (take count runs) }
+    requires { count ≤ most_runs }
+    ensures { result ≡ highest_of (take count runs) }
 {
     let mut found = false;
     let mut place = 0;

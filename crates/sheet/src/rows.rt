@@ -1,6 +1,6 @@
 // The runs of a batch, one after the other: whether each balances, its row, and the sums.
 ghost use Rattle.std.specs.Prelude.{◌-◌, ◌≤◌, ◌≡◌, ◌++◌, map, take, replicate};
-ghost use Rattle.sheet.specs.Sheet.{balances as balancesIn, unbalanced as unbalancedFrom, row_of, sumsOf, no_run, most-runs};
+ghost use Rattle.sheet.specs.Sheet.{balances as balancesIn, unbalanced as unbalancedFrom, row_of, sums_of, no_run, most_runs};
 
 use crate::{Run, Sums};
 
@@ -14,7 +14,7 @@ fn balances(run: Run) -> bool
 
 // The place of the first run that does not balance, or the count where each does.
 pub fn unbalanced(runs: [Run; 256], count: usize) -> usize
-    requires { count ≤ most-runs }
+    requires { count ≤ most_runs }
     ensures { result ≡ unbalancedFrom 0 (take count runs) }
 {
     for i in 0..count {
@@ -42,8 +42,8 @@ fn row(run: Run) -> Run
 
 // The rows of the runs, and zeros past them.
 pub fn all(runs: [Run; 256], count: usize) -> [Run; 256]
-    requires { count ≤ most-runs }
-    ensures { result ≡ map row_of (take count runs) ++ replicate (most-runs - count) no_run }
+    requires { count ≤ most_runs }
+    ensures { result ≡ map row_of (take count runs) ++ replicate (most_runs - count) no_run }
 {
     let mut rows = [crate::NO_RUN; 256];
     for i in 0..count {
@@ -54,8 +54,8 @@ pub fn all(runs: [Run; 256], count: usize) -> [Run; 256]
 
 // 'the .. counts' sums', with that of the packets turned away; 256 numbers of 32 bits do not pass 64.
 pub fn sums(runs: [Run; 256], count: usize) -> Sums
-    requires { count ≤ most-runs }
-    ensures { result ≡ sumsOf (take count runs) }
+    requires { count ≤ most_runs }
+    ensures { result ≡ sums_of (take count runs) }
 {
     let mut admitted = 0u64;
     let mut sent = 0u64;

@@ -2,22 +2,22 @@
 use mathlib.Core.Path.{◌≡◌, refl}
 use Rattle.scenario.specs.Writing.{written}
 use Rattle.text.specs.Text.{decimal}
-use Rattle.shown.specs.Shown.{layout_of, shownFrom}
-use Rattle.shown.specs.Examples.{linesText, pri-request, pri-arrivals, pri-lines, rtdg-request, rtdg-arrivals, rtdg-lines}
-use Rattle.shown.specs.Examples.{rtvc-request, rtvc-arrivals, rtvc-lines}
+use Rattle.shown.specs.Shown.{layout_of, shown_from}
+use Rattle.shown.specs.Examples.{lines_text, pri_request, pri_arrivals, pri_lines, rtdg_request, rtdg_arrivals, rtdg_lines}
+use Rattle.shown.specs.Examples.{rtvc_request, rtvc_arrivals, rtvc_lines}
 
-pub pri-holds : layout_of pri-request pri-arrivals 40 ≡ linesText pri-lines
+pub pri_holds : layout_of pri_request pri_arrivals 40 ≡ lines_text pri_lines
 unfolding decimal
-pri-holds = refl
+pri_holds = refl
 
-pub rtdg-holds : layout_of rtdg-request rtdg-arrivals 1_000 ≡ linesText rtdg-lines
+pub rtdg_holds : layout_of rtdg_request rtdg_arrivals 1_000 ≡ lines_text rtdg_lines
 unfolding decimal
-rtdg-holds = refl
+rtdg_holds = refl
 
-pub rtvc-holds : layout_of rtvc-request rtvc-arrivals 0 ≡ linesText rtvc-lines
+pub rtvc_holds : layout_of rtvc_request rtvc_arrivals 0 ≡ lines_text rtvc_lines
 unfolding decimal
-rtvc-holds = refl
+rtvc_holds = refl
 
-pub rtvc-turns : shownFrom 8 (written rtvc-request rtvc-arrivals 0) 0 ≡ linesText rtvc-lines
+pub rtvc_turns : shown_from 8 (written rtvc_request rtvc_arrivals 0) 0 ≡ lines_text rtvc_lines
 unfolding decimal
-rtvc-turns = refl
+rtvc_turns = refl

@@ -7,65 +7,65 @@ use native.Mathlib.Omega.{arith}
 use lib.ListN.{length, take, length-append}
 use lib.Seq.{take_all}
 use Rattle.rules.specs.Lists.{Given}
-use Rattle.rules.specs.Bus.{most-stations}
+use Rattle.rules.specs.Bus.{most_stations}
 use Rattle.rules.specs.declared.Verdict.{Verdict}
-use Rattle.rules.specs.SetUp.{Asked, Request, fine, setUpVerdict}
-use Rattle.rules.specs.Conditions.{Outside, rowConditions, setUpConditions}
+use Rattle.rules.specs.SetUp.{Asked, Request, fine, set_up_verdict}
+use Rattle.rules.specs.Conditions.{Outside, row_conditions, set_up_conditions}
 use Rattle.rules.proofs.Tests.{NoneHolds, inside, given}
-use Rattle.rules.proofs.Standing.{set-up-tried, set-up-accepted}
+use Rattle.rules.proofs.Standing.{set_up_tried, set_up_accepted}
 use Rattle.state.specs.declared.Settings.{Settings}
-use Rattle.state.specs.SetUp.{requestWith}
+use Rattle.state.specs.SetUp.{request_with}
 use Rattle.layout.specs.Layout.{counted}
 
 -- where no condition holds, the verdict is that of acceptance
-none-given : {Out : Type 0} (accepted v : Out) (cs : List (Out × Type 0)) → NoneHolds cs → Given accepted cs v → v ≡ accepted
-none-given accepted v [] none e = e
-none-given accepted v (c ∷ cs) none (inl held) = absurd (none.0 held.0)
-none-given accepted v (c ∷ cs) none (inr later) = none-given accepted v cs none.1 later.1
+none_given : {Out : Type 0} (accepted v : Out) (cs : List (Out × Type 0)) → NoneHolds cs → Given accepted cs v → v ≡ accepted
+none_given accepted v [] none e = e
+none_given accepted v (c ∷ cs) none (inl held) = absurd (none.0 held.0)
+none_given accepted v (c ∷ cs) none (inr later) = none_given accepted v cs none.1 later.1
 
 -- the first of stations in turn, whatever N and the row that is asked for
 first-held :
     (g : Settings) (m n : ℕ) (row row' : List Asked) (i : ℕ) (earlier xs ys : List Asked)
-    → NoneHolds (rowConditions (requestWith (counted m g) row) i earlier (xs ++ ys))
-    → NoneHolds (rowConditions (requestWith (counted n g) row') i earlier xs)
+    → NoneHolds (row_conditions (request_with (counted m g) row) i earlier (xs ++ ys))
+    → NoneHolds (row_conditions (request_with (counted n g) row') i earlier xs)
 first-held g m n row row' i earlier [] ys h = tt
 first-held g m n row row' i earlier (x ∷ xs) ys h =
     (h.0, (h.1.0, (h.1.1.0, (h.1.1.1.0, first-held g m n row row' (suc i) (earlier ++ (x ∷ [])) xs ys h.1.1.1.1))))
 
 -- a set-up of as many stations as its row has
-abbrev pub requestFor : Settings → List Asked → Request
-requestFor g row = requestWith (counted (length row) g) row
+abbrev pub request_for : Settings → List Asked → Request
+request_for g row = request_with (counted (length row) g) row
 
 pub prefix-accepted :
-    (g : Settings) (xs ys : List Asked) → 1 ≤ length xs → (setUpVerdict (requestFor g (xs ++ ys))).refusal ≡ 0
-    → (setUpVerdict (requestFor g xs)).refusal ≡ 0
+    (g : Settings) (xs ys : List Asked) → 1 ≤ length xs → (set_up_verdict (request_for g (xs ++ ys))).refusal ≡ 0
+    → (set_up_verdict (request_for g xs)).refusal ≡ 0
 prefix-accepted g xs ys some! e =
-    ap (λ (v : Verdict). v.refusal) (none-given fine (setUpVerdict r) (setUpConditions r) none (given fine (set-up-tried r)))
+    ap (λ (v : Verdict). v.refusal) (none_given fine (set_up_verdict r) (set_up_conditions r) none (given fine (set_up_tried r)))
   where
     r : Request
-    r = requestFor g xs
+    r = request_for g xs
 
-    all : NoneHolds (setUpConditions (requestFor g (xs ++ ys)))
-    all = set-up-accepted (requestFor g (xs ++ ys)) e
+    all : NoneHolds (set_up_conditions (request_for g (xs ++ ys)))
+    all = set_up_accepted (request_for g (xs ++ ys)) e
 
-    few : length xs ≤ most-stations
+    few : length xs ≤ most_stations
     few = omega (arith, length-append xs ys, (inside (λ o. all.1.1.1.1.0 (inl o))).1)
 
-    count : ¬ (Outside 1 most-stations (length xs) ⊎ (length xs < length xs))
+    count : ¬ (Outside 1 most_stations (length xs) ⊎ (length xs < length xs))
     count (inl (inl h)) = omega arith
     count (inl (inr h)) = omega (arith, few)
     count (inr h) = omega arith
 
-    none : NoneHolds (setUpConditions r)
+    none : NoneHolds (set_up_conditions r)
     none = (all.0, (all.1.0, (all.1.1.0, (all.1.1.1.0, (count, stations)))))
       where
-        stations : NoneHolds (rowConditions r 0 [] (take (length xs) xs))
+        stations : NoneHolds (row_conditions r 0 [] (take (length xs) xs))
         stations =
             subst
-            (λ (l : List Asked). NoneHolds (rowConditions r 0 [] l))
+            (λ (l : List Asked). NoneHolds (row_conditions r 0 [] l))
             (sym (take_all (length xs) xs (omega arith)))
             (first-held g _ _ _ _ 0 [] xs ys
             (subst
-            (λ (l : List Asked). NoneHolds (rowConditions (requestFor g (xs ++ ys)) 0 [] l))
+            (λ (l : List Asked). NoneHolds (row_conditions (request_for g (xs ++ ys)) 0 [] l))
             (take_all (length (xs ++ ys)) (xs ++ ys) (omega arith))
             all.1.1.1.1.1))

@@ -6,9 +6,9 @@ use Rattle.state.specs.declared.Arrival.{Arrival}
 use Rattle.text.specs.Text.{bytes, newline}
 
 -- quoted lines, each with its newline
-abbrev pub linesText : List String → List ℕ
-linesText [] = []
-linesText (line ∷ later) = bytes line ++ (newline ∷ linesText later)
+abbrev pub lines_text : List String → List ℕ
+lines_text [] = []
+lines_text (line ∷ later) = bytes line ++ (newline ∷ lines_text later)
 
 abbrev asked : ℕ → ℕ → Asked
 asked address capability = record { address = address; capability = capability }
@@ -17,14 +17,14 @@ abbrev arrival : ℕ → ℕ → ℕ → ℕ → Arrival
 arrival time address value long = record { time = record { 0 = time }; address = record { 0 = address }; value = value; length = long }
 
 -- by priority; the third arrival has a priority that is not below D, and the fourth no length
-abbrev pub pri-request : Request
-pri-request = record { discipline = 0; D = 4; A = 512; q = 1; N = 3; row = asked 7 0 ∷ asked 263 0 ∷ asked 6 0 ∷ [] }
+abbrev pub pri_request : Request
+pri_request = record { discipline = 0; D = 4; A = 512; q = 1; N = 3; row = asked 7 0 ∷ asked 263 0 ∷ asked 6 0 ∷ [] }
 
-abbrev pub pri-arrivals : List Arrival
-pri-arrivals = arrival 0 7 2 3 ∷ arrival 0 263 2 1 ∷ arrival 10 6 4 1 ∷ arrival 10 6 3 0 ∷ []
+abbrev pub pri_arrivals : List Arrival
+pri_arrivals = arrival 0 7 2 3 ∷ arrival 0 263 2 1 ∷ arrival 10 6 4 1 ∷ arrival 10 6 3 0 ∷ []
 
-abbrev pub pri-lines : List String
-pri-lines =
+abbrev pub pri_lines : List String
+pri_lines =
     "bus PRI D 4 A 512 q 1"
     ∷ "station address 0x0007"
     ∷ "station address 0x0107"
@@ -37,14 +37,14 @@ pri-lines =
     ∷ []
 
 -- by laxity; the second arrival is too long, and no station has its address
-abbrev pub rtdg-request : Request
-rtdg-request = record { discipline = 1; D = 16; A = 4_096; q = 10; N = 1; row = asked 2_748 0 ∷ [] }
+abbrev pub rtdg_request : Request
+rtdg_request = record { discipline = 1; D = 16; A = 4_096; q = 10; N = 1; row = asked 2_748 0 ∷ [] }
 
-abbrev pub rtdg-arrivals : List Arrival
-rtdg-arrivals = arrival 5 2_748 120 4_096 ∷ arrival 300 65_535 450 4_097 ∷ []
+abbrev pub rtdg_arrivals : List Arrival
+rtdg_arrivals = arrival 5 2_748 120 4_096 ∷ arrival 300 65_535 450 4_097 ∷ []
 
-abbrev pub rtdg-lines : List String
-rtdg-lines =
+abbrev pub rtdg_lines : List String
+rtdg_lines =
     "bus RTDG D 16 A 4096 q 10"
     ∷ "station address 0x0ABC"
     ∷ "arrival time 5 address 0x0ABC value 120 length 4096"
@@ -53,14 +53,14 @@ rtdg-lines =
     ∷ []
 
 -- by virtual circuit, where a value is 0
-abbrev pub rtvc-request : Request
-rtvc-request = record { discipline = 2; D = 8; A = 16; q = 1; N = 2; row = asked 9 3 ∷ asked 12 0 ∷ [] }
+abbrev pub rtvc_request : Request
+rtvc_request = record { discipline = 2; D = 8; A = 16; q = 1; N = 2; row = asked 9 3 ∷ asked 12 0 ∷ [] }
 
-abbrev pub rtvc-arrivals : List Arrival
-rtvc-arrivals = arrival 2 9 1 4 ∷ arrival 2 12 0 8 ∷ []
+abbrev pub rtvc_arrivals : List Arrival
+rtvc_arrivals = arrival 2 9 1 4 ∷ arrival 2 12 0 8 ∷ []
 
-abbrev pub rtvc-lines : List String
-rtvc-lines =
+abbrev pub rtvc_lines : List String
+rtvc_lines =
     "bus RTVC D 8 A 16 q 1"
     ∷ "station address 0x0009 capability 3"
     ∷ "station address 0x000C capability 0"

@@ -1,9 +1,9 @@
 // A scenario as lines of a layout, in room that the caller lends: the record at an offset of the input, shown as a line, and where the next
 // one is (docs/LAYOUT.md, 'A scenario shown'). Every call takes any input.
 ghost use Rattle.std.specs.Prelude.{◌≤◌, ◌≡◌, drop};
-ghost use Rattle.text.specs.Room.{room-bytes, roomWith};
-ghost use Rattle.scenario.specs.Format.{readRecord};
-ghost use Rattle.shown.specs.Shown.{line_of, shownAt, shownForm};
+ghost use Rattle.text.specs.Room.{room_bytes, room_with};
+ghost use Rattle.scenario.specs.Format.{read_record};
+ghost use Rattle.shown.specs.Shown.{line_of, shown_at, shown_form};
 ghost use Rattle.shown.specs.Parts.{LineTold};
 
 use scenario::{ARRIVAL_BYTES, Record};
@@ -25,7 +25,7 @@ pub struct Shown {
 
 // The record at an offset of an input whose set-up has these numbers. Of the run the next offset is 0.
 fn line(input: &[u8], at: usize, settings: Settings, room: &mut [u8; 65536]) -> Shown
-    ensures { LineTold room.old room.new result (line_of settings at (readRecord (drop at input.now))) }
+    ensures { LineTold room.old room.new result (line_of settings at (read_record (drop at input.now))) }
 {
     let found = scenario::record_at(input, at);
     match found {
@@ -52,9 +52,9 @@ fn line(input: &[u8], at: usize, settings: Settings, room: &mut [u8; 65536]) -> 
 // The record at an offset of the input, by the set-up that is its first record: nothing where one of the two is refused or the first is
 // another record.
 pub fn show(input: &[u8], at: usize, room: &mut [u8; 65536]) -> Shown
-    ensures value { result ≡ shownForm (shownAt input.now at) }
-    ensures room_after { room.new ≡ roomWith (shownAt input.now at).text room.old }
-    ensures length_le_room_bytes { result.length ≤ room-bytes }
+    ensures value { result ≡ shown_form (shown_at input.now at) }
+    ensures room_after { room.new ≡ room_with (shown_at input.now at).text room.old }
+    ensures length_le_room_bytes { result.length ≤ room_bytes }
 {
     let first = scenario::record_at(input, 0);
     let Record::SetUp(settings) = first else {

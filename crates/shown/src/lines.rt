@@ -3,12 +3,12 @@
 ghost use Rattle.std.specs.Prelude.{◌≤◌, ◌<◌, ◌≡◌, [], ◌∷◌, ◌++◌, length};
 ghost use Rattle.text.specs.Text.{decimal};
 ghost use Rattle.text.specs.Parts.{Told, roomy};
-ghost use Rattle.rules.specs.SetUp.{disciplineOf};
+ghost use Rattle.rules.specs.SetUp.{discipline_of};
 ghost use Rattle.state.specs.SetUp.{asked_of};
-ghost use Rattle.layout.specs.Layout.{address-label};
-ghost use Rattle.words.specs.Words.{hexDigit};
-ghost use Rattle.shown.specs.Shown.{disciplineName, fieldsText, fitsRanges, arrivalWord, busText, stationText, arrivalText, runText};
-ghost use Rattle.shown.specs.Parts.{most-line};
+ghost use Rattle.layout.specs.Layout.{address_label};
+ghost use Rattle.words.specs.Words.{hex_digit};
+ghost use Rattle.shown.specs.Shown.{discipline_name, fields_text, fits_ranges, arrival_word, bus_text, station_text, arrival_text, run_text};
+ghost use Rattle.shown.specs.Parts.{most_line};
 
 use sorts::disciplines;
 use state::{Arrival, Listed, Settings};
@@ -27,7 +27,7 @@ fn field(room: &mut [u8; 65536], at: usize, words: &[u8], n: u32) -> usize
 fn digit(room: &mut [u8; 65536], at: usize, d: u32) -> usize
     requires d_bound { d < 16 }
     requires roomy { roomy at 1 }
-    ensures { Told room.old room.new at result (hexDigit d ∷ []) 1 }
+    ensures { Told room.old room.new at result (hex_digit d ∷ []) 1 }
 {
     if d < 10 {
         return text::put(room, at, 48 + d as u8);
@@ -38,7 +38,7 @@ fn digit(room: &mut [u8; 65536], at: usize, d: u32) -> usize
 // The word before an address, and the address as a label.
 fn address(room: &mut [u8; 65536], at: usize, n: u32) -> usize
     requires { roomy at 15 }
-    ensures { Told room.old room.new at result (fieldsText (address-label ∷ []) (n ∷ [])) 15 }
+    ensures { Told room.old room.new at result (fields_text (address_label ∷ []) (n ∷ [])) 15 }
 {
     let word = text::letters(room, at, b" address 0x");
     let first = digit(room, word, n / 4_096 % 16);
@@ -50,7 +50,7 @@ fn address(room: &mut [u8; 65536], at: usize, n: u32) -> usize
 // The name of a discipline.
 fn discipline(room: &mut [u8; 65536], at: usize, discipline: u32) -> usize
     requires { roomy at 4 }
-    ensures { Told room.old room.new at result (disciplineName (disciplineOf discipline)) 4 }
+    ensures { Told room.old room.new at result (discipline_name (discipline_of discipline)) 4 }
 {
     if discipline == disciplines::PRI {
         return text::letters(room, at, b"PRI");
@@ -63,7 +63,7 @@ fn discipline(room: &mut [u8; 65536], at: usize, discipline: u32) -> usize
 
 // The line of a set-up.
 pub fn bus(room: &mut [u8; 65536], settings: Settings) -> usize
-    ensures { Told room.old room.new 0 result (busText settings) most-line }
+    ensures { Told room.old room.new 0 result (bus_text settings) most_line }
 {
     let word = text::letters(room, 0, b"bus ");
     let named = discipline(room, word, settings.discipline);
@@ -75,7 +75,7 @@ pub fn bus(room: &mut [u8; 65536], settings: Settings) -> usize
 
 // The line of a station.
 pub fn station(room: &mut [u8; 65536], settings: Settings, station: Listed) -> usize
-    ensures { Told room.old room.new 0 result (stationText settings (asked_of station)) most-line }
+    ensures { Told room.old room.new 0 result (station_text settings (asked_of station)) most_line }
 {
     let word = text::letters(room, 0, b"station");
     let placed = address(room, word, station.address.0);
@@ -88,7 +88,7 @@ pub fn station(room: &mut [u8; 65536], settings: Settings, station: Listed) -> u
 
 // Whether an arrival's value and length are in their ranges.
 fn fits(settings: Settings, arrival: Arrival) -> bool
-    ensures { result ≡ fitsRanges settings arrival }
+    ensures { result ≡ fits_ranges settings arrival }
 {
     if !disciplines::value_fits(settings.discipline, settings.d, arrival.value) {
         return false;
@@ -98,7 +98,7 @@ fn fits(settings: Settings, arrival: Arrival) -> bool
 
 // The word that the line of an arrival begins with.
 fn arrival_word(room: &mut [u8; 65536], fits: bool) -> usize
-    ensures { Told room.old room.new 0 result (arrivalWord fits) 7 }
+    ensures { Told room.old room.new 0 result (arrival_word fits) 7 }
 {
     if fits {
         return text::letters(room, 0, b"arrival");
@@ -108,7 +108,7 @@ fn arrival_word(room: &mut [u8; 65536], fits: bool) -> usize
 
 // The line of an arrival.
 pub fn arrival(room: &mut [u8; 65536], settings: Settings, arrival: Arrival) -> usize
-    ensures { Told room.old room.new 0 result (arrivalText settings arrival) most-line }
+    ensures { Told room.old room.new 0 result (arrival_text settings arrival) most_line }
 {
     let word = arrival_word(room, fits(settings, arrival));
     let timed = field(room, word, b" time ", arrival.time.0);
@@ -120,7 +120,7 @@ pub fn arrival(room: &mut [u8; 65536], settings: Settings, arrival: Arrival) -> 
 
 // The line of the run.
 pub fn run(room: &mut [u8; 65536], steps: u32) -> usize
-    ensures { Told room.old room.new 0 result (runText steps) most-line }
+    ensures { Told room.old room.new 0 result (run_text steps) most_line }
 {
     let counted = field(room, 0, b"run steps ", steps);
     text::put(room, counted, b'\n')

@@ -14,55 +14,55 @@ use Rattle.sorts.proofs.capability_past.Reads as capability-past
 use Rattle.sorts.proofs.capability_number.Reads as capability-number
 use Rattle.sorts.proofs.wide.Reads as wide
 use Rattle.sorts.proofs.disciplines.late.Reads as late
-use Rattle.sorts.proofs.disciplines.value_fits.Reads as value-fits
-use Rattle.sorts.proofs.disciplines.length_fits.Reads as length-fits
+use Rattle.sorts.proofs.disciplines.value_fits.Reads as value_is_fit
+use Rattle.sorts.proofs.disciplines.length_fits.Reads as length_fits
 use Rattle.sorts.proofs.counts.one_more.Reads as one_more
 use Rattle.sorts.proofs.counts.turned_after.Reads as turned-after
 
-pub before-determined : Determines before.Learnt
-before-determined κs args r r' end end' = unique
+pub before_determined : Determines before.Learnt
+before_determined κs args r r' end end' = unique
 
-pub same-slot-determined : Determines same-slot.Learnt
-same-slot-determined κs args r r' end end' = unique
+pub same_slot_determined : Determines same-slot.Learnt
+same_slot_determined κs args r r' end end' = unique
 
-pub slots-until-determined : Determines slots-until.Learnt
-slots-until-determined κs args r r' end end' = unique
+pub slots_until_determined : Determines slots-until.Learnt
+slots_until_determined κs args r r' end end' = unique
 
-pub same-address-determined : Determines same_address.Learnt
-same-address-determined κs args r r' end end' = unique
+pub same_address_determined : Determines same_address.Learnt
+same_address_determined κs args r r' end end' = unique
 
-pub address-past-determined : Determines address-past.Learnt
-address-past-determined κs args r r' end end' = unique
+pub address_past_determined : Determines address-past.Learnt
+address_past_determined κs args r r' end end' = unique
 
-pub address-number-determined : Determines address-number.Learnt
-address-number-determined κs args r r' end end' = unique
+pub address_number_determined : Determines address-number.Learnt
+address_number_determined κs args r r' end end' = unique
 
-pub same-capability-determined : Determines same-capability.Learnt
-same-capability-determined κs args r r' end end' = unique
+pub same_capability_determined : Determines same-capability.Learnt
+same_capability_determined κs args r r' end end' = unique
 
-pub not-above-determined : Determines not-above.Learnt
-not-above-determined κs args r r' end end' = unique
+pub not_above_determined : Determines not-above.Learnt
+not_above_determined κs args r r' end end' = unique
 
-pub capability-past-determined : Determines capability-past.Learnt
-capability-past-determined κs args r r' end end' = unique
+pub capability_past_determined : Determines capability-past.Learnt
+capability_past_determined κs args r r' end end' = unique
 
-pub capability-number-determined : Determines capability-number.Learnt
-capability-number-determined κs args r r' end end' = unique
+pub capability_number_determined : Determines capability-number.Learnt
+capability_number_determined κs args r r' end end' = unique
 
-pub wide-determined : Determines wide.Learnt
-wide-determined κs args r r' end end' = unique
+pub wide_determined : Determines wide.Learnt
+wide_determined κs args r r' end end' = unique
 
-pub late-determined : Determines late.Learnt
-late-determined κs args r r' end end' = unique
+pub late_determined : Determines late.Learnt
+late_determined κs args r r' end end' = unique
 
-pub value-fits-determined : Determines value-fits.Learnt
-value-fits-determined κs args r r' end end' = unique
+pub value_fits_determined : Determines value_is_fit.Learnt
+value_fits_determined κs args r r' end end' = unique
 
-pub length-fits-determined : Determines length-fits.Learnt
-length-fits-determined κs args r r' end end' = unique
+pub length_fits_determined : Determines length_fits.Learnt
+length_fits_determined κs args r r' end end' = unique
 
-pub one-more-determined : Determines one_more.Learnt
-one-more-determined κs args r r' end end' = unique
+pub one_more_determined : Determines one_more.Learnt
+one_more_determined κs args r r' end end' = unique
 
-pub turned-after-determined : Determines turned-after.Learnt
-turned-after-determined κs args r r' end end' = unique
+pub turned_after_determined : Determines turned-after.Learnt
+turned_after_determined κs args r r' end end' = unique

@@ -1,6 +1,6 @@
 // The count of packets turned away (P4).
 ghost use Rattle.std.specs.Prelude.{◌≡◌};
-ghost use Rattle.rules.specs.Admission.{oneMore, turnedAfter};
+ghost use Rattle.rules.specs.Admission.{one_higher, turned_after};
 
 // 'The count stops at 4,294,967,295.'
 pub const MOST_TURNED: u64 = 4_294_967_295;
@@ -12,7 +12,7 @@ const FILLED: u32 = 15;
 
 // The count with one packet more, up to its stop.
 pub fn one_more(count: u64) -> u64
-    ensures { result ≡ oneMore count }
+    ensures { result ≡ one_higher count }
 {
     if count < MOST_TURNED {
         return count + 1;
@@ -22,7 +22,7 @@ pub fn one_more(count: u64) -> u64
 
 // The count after an admission: 'raised by exactly the admissions refused with 14 or 15'.
 pub fn turned_after(refusal: u32, count: u64) -> u64
-    ensures { result ≡ turnedAfter refusal count }
+    ensures { result ≡ turned_after refusal count }
 {
     if refusal == LATE {
         return one_more(count);

@@ -1,8 +1,8 @@
 // What the three disciplines hold a packet to: its value, its latest start and its length.
 ghost use Rattle.std.specs.Prelude.{◌≡◌};
 ghost use Rattle.rules.specs.Bus.{late};
-ghost use Rattle.rules.specs.SetUp.{disciplineOf};
-ghost use Rattle.rules.specs.Standing.{value-fits, length-fits};
+ghost use Rattle.rules.specs.SetUp.{discipline_of};
+ghost use Rattle.rules.specs.Standing.{value_is_fit, length_fits};
 
 use rules::Slot;
 
@@ -20,7 +20,7 @@ const LONGEST_PACKET: u32 = 4_096;
 
 // Whether a value is a latest start below a slot.
 pub fn late(discipline: u32, slot: Slot, value: u32) -> bool
-    ensures { result ≡ late (disciplineOf discipline) slot.0 value }
+    ensures { result ≡ late (discipline_of discipline) slot.0 value }
 {
     if discipline == RTDG {
         return crate::before(Slot(value), slot);
@@ -30,7 +30,7 @@ pub fn late(discipline: u32, slot: Slot, value: u32) -> bool
 
 // 'for PRI, a priority 0 to D - 1; for RTDG, the latest slot in which the packet may start; for RTVC, 0'
 pub fn value_fits(discipline: u32, d: u32, value: u32) -> bool
-    ensures { result ≡ value-fits (disciplineOf discipline) d value }
+    ensures { result ≡ value_is_fit (discipline_of discipline) d value }
 {
     if discipline == PRI {
         return value < d;
@@ -43,7 +43,7 @@ pub fn value_fits(discipline: u32, d: u32, value: u32) -> bool
 
 // Whether a packet's length is in its range.
 pub fn length_fits(length: u32) -> bool
-    ensures { result ≡ length-fits length }
+    ensures { result ≡ length_fits length }
 {
     if length < 1 {
         return false;

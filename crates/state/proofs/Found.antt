@@ -12,23 +12,23 @@ use lib.ListN.{length, get_or, take, drop, set, replicate, length-set}
 use lib.Seq.{length-take-le, take-suc, split_at, take-take, get_or-take, get_or-set_same, get_or-set_other}
 use borrow.Author.Tests.{eqb-true, eqb-false}
 use Rattle.rules.specs.Lists.{distinct, Distinct, Among, at_head, in_tail}
-use Rattle.rules.proofs.Laws.{among_none, among-left, among-right, among-append}
-use Rattle.rules.proofs.Tests.{told, negated, none-twice}
+use Rattle.rules.proofs.Laws.{among_none, among_left, among_right, among_append}
+use Rattle.rules.proofs.Tests.{told, negated, none_twice}
 
 -- ---- distinct numbers
 
 distinct_more : {x : ℕ} (xs : List ℕ) → Distinct xs → ¬ Among x xs → Distinct (xs ++ (x ∷ []))
 distinct_more [] d new = (among_none, tt)
-distinct_more {x} (y ∷ xs) d new = (λ i. go (among-append xs i), distinct_more xs d.1 (λ i. new (in_tail i)))
+distinct_more {x} (y ∷ xs) d new = (λ i. go (among_append xs i), distinct_more xs d.1 (λ i. new (in_tail i)))
   where
     go : Among y xs ⊎ Among y (x ∷ []) → ⊥
     go (inl i) = d.0 i
     go (inr (at_head e)) = new (at_head (sym e))
     go (inr (in_tail i)) = among_none i
 
-distinct-not : {x : ℕ} (xs ys : List ℕ) → Among x xs → ¬ Distinct (xs ++ (x ∷ ys))
-distinct-not (y ∷ xs) ys (at_head e) d = d.0 (among-right xs (at_head (sym e)))
-distinct-not (y ∷ xs) ys (in_tail i) d = distinct-not xs ys i d.1
+distinct_not : {x : ℕ} (xs ys : List ℕ) → Among x xs → ¬ Distinct (xs ++ (x ∷ ys))
+distinct_not (y ∷ xs) ys (at_head e) d = d.0 (among_right xs (at_head (sym e)))
+distinct_not (y ∷ xs) ys (in_tail i) d = distinct_not xs ys i d.1
 
 -- ---- along the links
 
@@ -78,8 +78,8 @@ known_start numbers =
     }
 
 -- all n are known
-pub known-end : {numbers links : List ℕ} {n k : ℕ} → Known numbers links k → k ≡ n → true ≡ distinct (take n numbers)
-known-end {numbers} {n = n} g e = sym (told (none-twice (take n numbers)) (subst (λ k. Distinct (take k numbers)) e g.differ))
+pub known_end : {numbers links : List ℕ} {n k : ℕ} → Known numbers links k → k ≡ n → true ≡ distinct (take n numbers)
+known_end {numbers} {n = n} g e = sym (told (none_twice (take n numbers)) (subst (λ k. Distinct (take k numbers)) e g.differ))
 
 -- The way of number k has come to a link: the number is found from there on if it is known, and from its first link on once it is found
 -- from there: what the loop along the links keeps.
@@ -114,8 +114,8 @@ module _ {numbers links : List ℕ} {k at rest : ℕ} (w : Way numbers links k a
       let split =
       split_at (take n numbers) k 0 (omega (arith, length-take-le n numbers m))
       ∙ ap₂ (λ ns y. ns ++ y ∷ drop (suc k) (take n numbers)) (take-take k n numbers (omega arith)) (get_or-take n numbers k 0 l) in
-      let twice = subst (λ ns. ¬ Distinct ns) (sym split) (distinct-not (take k numbers) _ (rw e at ((w.known.sound at).1 h).1)) in
-      sym (ap not (told (negated (none-twice (take n numbers))) twice)) ∙ not-not (distinct (take n numbers))
+      let twice = subst (λ ns. ¬ Distinct ns) (sym split) (distinct_not (take k numbers) _ (rw e at ((w.known.sound at).1 h).1)) in
+      sym (ap not (told (negated (none_twice (take n numbers))) twice)) ∙ not-not (distinct (take n numbers))
 
   -- another number
   pub way_on :
@@ -142,7 +142,7 @@ module _ {numbers links : List ℕ} {k at rest : ℕ} (w : Way numbers links k a
   known_more h inside free =
       record {
         differ = rw more (distinct_more (take k numbers) w.known.differ (λ i. unfound (w.onward i)));
-        hung = λ y i. found y (among-append (take k numbers) (rw more at i));
+        hung = λ y i. found y (among_append (take k numbers) (rw more at i));
         long = length-set links at (k + 1) ∙ w.known.long;
         sound = λ a. sound a (eqb a at) refl;
       }
@@ -174,9 +174,9 @@ module _ {numbers links : List ℕ} {k at rest : ℕ} (w : Way numbers links k a
 
       sound : (a : ℕ) (t : Bool) → eqb a at ≡ t → Sound numbers (k + 1) a (get_or links' a 0)
       sound a true e =
-          rw (eqb-true a at e, stored, itself, more) (omega arith, λ h. (omega (arith, w.low), among-right (take k numbers) (at_head refl)))
+          rw (eqb-true a at e, stored, itself, more) (omega arith, λ h. (omega (arith, w.low), among_right (take k numbers) (at_head refl)))
       sound a false e =
           let s = w.known.sound a in
           rw
           (get_or-set_other links at a (k + 1) 0 (eqb-false a at e), more)
-          (omega arith, λ h. ((s.1 h).0, among-left (x ∷ []) (s.1 h).1))
+          (omega arith, λ h. ((s.1 h).0, among_left (x ∷ []) (s.1 h).1))

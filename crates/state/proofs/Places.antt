@@ -9,8 +9,8 @@ use denote.Laws.{Is}
 use lib.ListN.{length, get_or, take, drop, set, replicate, length-map, length-take, length-drop, get_or-map}
 use lib.Seq.{length-take-le, take_all, take-take, take-append-add, get_or-take, get_or-drop}
 use lib.Seq.{paste, paste-suc, length-paste, take-paste}
-use Rattle.rules.specs.Bus.{numbersIn}
-use Rattle.state.specs.State.{Queues, Packet, noPacket, places_at}
+use Rattle.rules.specs.Bus.{numbers_in}
+use Rattle.state.specs.State.{Queues, Packet, no_packet, places_at}
 use Rattle.state.specs.Parts.{Queue}
 use Rattle.state.specs.contracts.Queues as queues
 use Rattle.state.specs.contracts.Queue as queue
@@ -18,29 +18,29 @@ use Rattle.state.proofs.Rows.{take-map}
 
 -- ---- the arrays of what a function is handed have their lengths
 
-pub queues-arrays : (qs : Queues) (vs : List Val) → Is queues.the_row qs vs → (length qs.lengths ≡ 64) × (length qs.packets ≡ 1024)
-queues-arrays qs vs owned =
+pub queues_arrays : (qs : Queues) (vs : List Val) → Is queues.the_row qs vs → (length qs.lengths ≡ 64) × (length qs.packets ≡ 1024)
+queues_arrays qs vs owned =
     (sym (length-map qs.lengths _) ∙ owned.1.1.0.1.0.1, sym (length-map qs.packets _) ∙ owned.1.1.1.0.1.0.1)
 
-pub queue-array : (q : Queue) (vs : List Val) → Is queue.the_row q vs → length q.packets ≡ 16
-queue-array q vs owned = sym (length-map q.packets _) ∙ owned.1.1.0.1.0.1
+pub queue_array : (q : Queue) (vs : List Val) → Is queue.the_row q vs → length q.packets ≡ 16
+queue_array q vs owned = sym (length-map q.packets _) ∙ owned.1.1.0.1.0.1
 
 -- ---- station i's places in the row
 
 pub places_count : (qs : Queues) (i : ℕ) → i < 64 → length qs.packets ≡ 1024 → length (places_at qs i) ≡ 16
 places_count qs i h e = simp (length-take, length-drop) (omega arith)
 
-pub place_at : (qs : Queues) (i j : ℕ) → j < 16 → get_or (places_at qs i) j noPacket ≡ get_or qs.packets (16 * i + j) noPacket
-place_at qs i j h = get_or-take 16 (drop (16 * i) qs.packets) j noPacket h ∙ get_or-drop (16 * i) qs.packets j noPacket
+pub place_at : (qs : Queues) (i j : ℕ) → j < 16 → get_or (places_at qs i) j no_packet ≡ get_or qs.packets (16 * i + j) no_packet
+place_at qs i j h = get_or-take 16 (drop (16 * i) qs.packets) j no_packet h ∙ get_or-drop (16 * i) qs.packets j no_packet
 
 -- ---- loops that copy places
 
 -- one place more
 pub copied-one :
     (d : List Packet) (at : ℕ) (s : List Packet) (j : ℕ) {xs : List Packet} {p : Packet} {k : ℕ} → xs ≡ paste d at s j
-    → p ≡ get_or s j noPacket → k ≡ at + j → at + j < length d → j < length s → set xs k p ≡ paste d at s (j + 1)
+    → p ≡ get_or s j no_packet → k ≡ at + j → at + j < length d → j < length s → set xs k p ≡ paste d at s (j + 1)
 copied-one d at s j {xs} {p} e same place h k =
-    ap (λ n. set xs n p) place ∙ ap₂ (λ ys q. set ys (at + j) q) e same ∙ paste-suc d at s j noPacket h k
+    ap (λ n. set xs n p) place ∙ ap₂ (λ ys q. set ys (at + j) q) e same ∙ paste-suc d at s j no_packet h k
     ∙ ap (λ n. paste d at s n) (sym (add-one j))
 
 -- all places
@@ -53,18 +53,18 @@ copied_all d at s j n e done h =
 -- station i's places taken out of the row: one place more
 pub taken-one :
     (qs : Queues) (i j : ℕ) {places : List Packet} → i < 64 → length qs.packets ≡ 1024 → j < 16
-    → places ≡ paste (replicate 16 noPacket) 0 (places_at qs i) j
-    → set places j (get_or qs.packets (16 * i + j) noPacket) ≡ paste (replicate 16 noPacket) 0 (places_at qs i) (j + 1)
+    → places ≡ paste (replicate 16 no_packet) 0 (places_at qs i) j
+    → set places j (get_or qs.packets (16 * i + j) no_packet) ≡ paste (replicate 16 no_packet) 0 (places_at qs i) (j + 1)
 taken-one qs i j here row h e =
     let n = places_count qs i here row in
-    copied-one (replicate 16 noPacket) 0 (places_at qs i) j e (sym (place_at qs i j h)) (omega arith) (omega arith) (omega arith)
+    copied-one (replicate 16 no_packet) 0 (places_at qs i) j e (sym (place_at qs i j h)) (omega arith) (omega arith) (omega arith)
 
 -- all of them
 pub taken-all :
     (qs : Queues) (i j : ℕ) {places : List Packet} → i < 64 → length qs.packets ≡ 1024 → j ≡ 16
-    → places ≡ paste (replicate 16 noPacket) 0 (places_at qs i) j → places ≡ places_at qs i
+    → places ≡ paste (replicate 16 no_packet) 0 (places_at qs i) j → places ≡ places_at qs i
 taken-all qs i j here row done e =
-    copied_all (replicate 16 noPacket) 0 (places_at qs i) j 16 e done (places_count qs i here row) ∙ append-nil (places_at qs i)
+    copied_all (replicate 16 no_packet) 0 (places_at qs i) j 16 e done (places_count qs i here row) ∙ append-nil (places_at qs i)
 
 -- a packet's number
 abbrev number_of : Packet → ℕ
@@ -72,24 +72,24 @@ number_of p = p.number
 
 -- the numbers of station i's packets written behind others
 module _ (qs : Queues) (i at : ℕ) (before : List ℕ) (here : i < 64) (row : length qs.packets ≡ 1024) (room : at + 16 ≤ length before) where
-  count : length (numbersIn (places_at qs i)) ≡ 16
+  count : length (numbers_in (places_at qs i)) ≡ 16
   count = length-map (places_at qs i) number_of ∙ places_count qs i here row
 
   -- one number more
   pub written_one :
-      (j : ℕ) {ns : List ℕ} → j < 16 → ns ≡ paste before at (numbersIn (places_at qs i)) j
-      → set ns (at + j) (get_or qs.packets (16 * i + j) noPacket).number ≡ paste before at (numbersIn (places_at qs i)) (j + 1)
+      (j : ℕ) {ns : List ℕ} → j < 16 → ns ≡ paste before at (numbers_in (places_at qs i)) j
+      → set ns (at + j) (get_or qs.packets (16 * i + j) no_packet).number ≡ paste before at (numbers_in (places_at qs i)) (j + 1)
   written_one j h e =
-      let s = numbersIn (places_at qs i) in
-      let number = get_or-map number_of (places_at qs i) j noPacket ∙ ap number_of (place_at qs i j h) in
+      let s = numbers_in (places_at qs i) in
+      let number = get_or-map number_of (places_at qs i) j no_packet ∙ ap number_of (place_at qs i j h) in
       rw (e, ← number, add-one j) (paste-suc before at s j 0 (omega arith) (omega (arith, count)))
 
   -- all of them: the first k behind the others
   pub written_all :
-      (j k : ℕ) {ns : List ℕ} → j ≡ 16 → k ≤ 16 → ns ≡ paste before at (numbersIn (places_at qs i)) j
-      → (length ns ≡ length before) × (take (at + k) ns ≡ take at before ++ numbersIn (take k (places_at qs i)))
+      (j k : ℕ) {ns : List ℕ} → j ≡ 16 → k ≤ 16 → ns ≡ paste before at (numbers_in (places_at qs i)) j
+      → (length ns ≡ length before) × (take (at + k) ns ≡ take at before ++ numbers_in (take k (places_at qs i)))
   written_all j k {ns} done few e =
-      let s = numbersIn (places_at qs i) in
+      let s = numbers_in (places_at qs i) in
       let all : ns ≡ paste before at s 16 = e ∙ ap (paste before at s) done in
       let front : take (at + 16) ns ≡ take at before ++ take 16 s =
       ap (take (at + 16)) all ∙ take-paste before at s 16 (omega arith) (omega (arith, count)) in (

@@ -17,77 +17,77 @@ use borrow.Author.Tests.{eqb-true, leb-true, leb-false, ltb-true, ltb-false, le-
 use Rattle.window.specs.Splitting.{placed}
 use Rattle.rules.specs.Lists.{each_of, some_of, total, distinct}
 use Rattle.rules.specs.Bus as Machine
-use Rattle.rules.specs.Bus.{places, most-stations, clock-end, most-admitted, most-turned, Discipline, PRI, RTDG, RTVC, waiting, numbers, numbersIn}
-use Rattle.rules.specs.SetUp.{Request, disciplineOf, setUpVerdict}
-use Rattle.rules.specs.Standing.{packet-fits, rising, same-packet, parameter-fits, offer-stands, station-stands, last-stands, contention-stands, stands, askedFor, Standing}
+use Rattle.rules.specs.Bus.{places, most_stations, clock_end, most_admitted, most_turned, Discipline, PRI, RTDG, RTVC, waiting, numbers, numbers_in}
+use Rattle.rules.specs.SetUp.{Request, discipline_of, set_up_verdict}
+use Rattle.rules.specs.Standing.{packet_fits, rising, same_packet, offer_fits, offer_stands, station_stands, last_stands, contention_stands, stands, asked_for, Standing}
 use Rattle.rules.proofs.Laws.{clash, and-true, true-and}
 use Rattle.rules.proofs.Tests.{Whether, holds, fails}
-use Rattle.rules.proofs.Standing.{stands-exactly}
-use Rattle.state.specs.State.{Contender, Contention, Segment, Queues, State, Held, recordedAt, nobody, places_at, queueAt, stationAt, stationsOf, valuesFrom, tie_of, meaning, no-packet, queue-padded, contender-padded, station-padded, no-station, each-place, round-padded, contention-padded, padded, standing, waitingIn}
-use Rattle.state.specs.SetUp.{asked_of, requestWith}
-use Rattle.state.specs.Parts.{parameterFits, contenderSound, stationSound, nobodyAt, placeSound, numbersFrom, numbersSound, queuesSound, roundSound, contentionSound}
+use Rattle.rules.proofs.Standing.{stands_exactly}
+use Rattle.state.specs.State.{Contender, Contention, Segment, Queues, State, Held, recorded_at, nobody, places_at, queue_at, station_at, stations_of, values_from, tie_of, meaning, has_no_packet, queue_padded, contender_padded, station_padded, has_no_station, each_place, round_padded, contention_padded, padded, standing, waiting_in}
+use Rattle.state.specs.SetUp.{asked_of, request_with}
+use Rattle.state.specs.Parts.{parameter_fits, contender_sound, station_sound, nobody_at, place_sound, numbers_from, numbers_sound, queues_sound, round_sound, contention_sound}
 use Rattle.state.specs.contracts.State as state
-use Rattle.state.proofs.Rows.{rest-suc, rest-none, each-place-turn, each-place-end, values-take}
-use Rattle.state.proofs.Form.{padded-parts, places-length}
-use Rattle.state.proofs.Places.{queues-arrays}
-use Rattle.state.proofs.SettingUp.{set-up-pass, passes-as-asked}
+use Rattle.state.proofs.Rows.{rest_suc, rest_none, each_place_turn, each_place_end, values_take}
+use Rattle.state.proofs.Form.{padded_parts, places_length}
+use Rattle.state.proofs.Places.{queues_arrays}
+use Rattle.state.proofs.SettingUp.{set_up_pass, passes-as-asked}
 
 -- ---- tests
 
 -- two conjunctions, their inner parts exchanged
-and-four : (a b c d : Bool) → (a && b && (c && d)) ≡ (a && c && (b && d))
-and-four false b c d = refl
-and-four true false false d = refl
-and-four true false true d = refl
-and-four true true false d = refl
-and-four true true true d = refl
+and_four : (a b c d : Bool) → (a && b && (c && d)) ≡ (a && c && (b && d))
+and_four false b c d = refl
+and_four true false false d = refl
+and_four true false true d = refl
+and_four true true false d = refl
+and_four true true true d = refl
 
 -- ---- each place
 
 -- the places from i on, in two parts
-each-split : (test : ℕ → Bool) (i k l : ℕ) → each-place test i (k + l) ≡ (each-place test i k && each-place test (i + k) l)
-unfolding each-place
-each-split test i zero l = ap₂ (each-place test) (sym (add-zero i)) (zero-add l)
-each-split test i (suc k) l =
-    ap (each-place test i) (suc-add k l)
-    ∙ ap (λ t. test i && t) (each-split test (suc i) k l)
-    ∙ sym (and_assoc (test i) (each-place test (suc i) k) (each-place test (suc i + k) l))
-    ∙ ap (λ j. test i && each-place test (suc i) k && each-place test j l) (suc-add i k ∙ sym (add-suc i k))
+each_split : (test : ℕ → Bool) (i k l : ℕ) → each_place test i (k + l) ≡ (each_place test i k && each_place test (i + k) l)
+unfolding each_place
+each_split test i zero l = ap₂ (each_place test) (sym (add-zero i)) (zero-add l)
+each_split test i (suc k) l =
+    ap (each_place test i) (suc-add k l)
+    ∙ ap (λ t. test i && t) (each_split test (suc i) k l)
+    ∙ sym (and_assoc (test i) (each_place test (suc i) k) (each_place test (suc i + k) l))
+    ∙ ap (λ j. test i && each_place test (suc i) k && each_place test j l) (suc-add i k ∙ sym (add-suc i k))
 
 -- a test in two parts
-each_both : (one two : ℕ → Bool) (i k : ℕ) → each-place (λ j. one j && two j) i k ≡ (each-place one i k && each-place two i k)
-unfolding each-place
+each_both : (one two : ℕ → Bool) (i k : ℕ) → each_place (λ j. one j && two j) i k ≡ (each_place one i k && each_place two i k)
+unfolding each_place
 each_both one two i zero = refl
 each_both one two i (suc k) =
     ap (λ t. one i && two i && t) (each_both one two (suc i) k)
-    ∙ and-four (one i) (two i) (each-place one (suc i) k) (each-place two (suc i) k)
+    ∙ and_four (one i) (two i) (each_place one (suc i) k) (each_place two (suc i) k)
 
 -- tests that agree at each of these places
 each_same :
-    (one two : ℕ → Bool) (i k : ℕ) → ((j : ℕ) → i ≤ j → j < i + k → one j ≡ two j) → each-place one i k ≡ each-place two i k
-unfolding each-place
+    (one two : ℕ → Bool) (i k : ℕ) → ((j : ℕ) → i ≤ j → j < i + k → one j ≡ two j) → each_place one i k ≡ each_place two i k
+unfolding each_place
 each_same one two i zero h = refl
 each_same one two i (suc k) h =
     ap₂ ◌&&◌ (h i (omega arith) (omega arith)) (each_same one two (suc i) k (λ j l m. h j (omega arith) (omega arith)))
 
 -- a test of values, by their places
-each-values : {X : Type 0} (test : X → Bool) (f : ℕ → X) (i k : ℕ) → each_of test (valuesFrom f i k) ≡ each-place (λ j. test (f j)) i k
-unfolding each-place
-each-values test f i zero = refl
-each-values test f i (suc k) = ap (λ t. test (f i) && t) (each-values test f (suc i) k)
+each_values : {X : Type 0} (test : X → Bool) (f : ℕ → X) (i k : ℕ) → each_of test (values_from f i k) ≡ each_place (λ j. test (f j)) i k
+unfolding each_place
+each_values test f i zero = refl
+each_values test f i (suc k) = ap (λ t. test (f i) && t) (each_values test f (suc i) k)
 
 -- ---- a station
 
--- `parameterFits` is `parameter-fits` of the station's offer
+-- `parameter_fits` is `offer_fits` of the station's offer
 fits-same :
     (d : Discipline) (s : State) (i : ℕ)
-    → parameterFits d (get_or s.segment.listed i nobody).capability (recordedAt s.segment i)
-    ≡ parameter-fits
+    → parameter_fits d (get_or s.segment.listed i nobody).capability (recorded_at s.segment i)
+    ≡ offer_fits
     d
-    (stationAt s i)
+    (station_at s i)
     (record {
-      parameter = (recordedAt s.segment i).parameter;
-      packet = (recordedAt s.segment i).packet;
+      parameter = (recorded_at s.segment i).parameter;
+      packet = (recorded_at s.segment i).packet;
     })
 fits-same PRI s i = refl
 fits-same RTDG s i = refl
@@ -96,82 +96,82 @@ fits-same RTVC s i = refl
 -- a station's place among the contenders
 contender-same :
     (s : State) (i : ℕ)
-    → contenderSound
+    → contender_sound
     s.segment.settings
     s.segment.contention.begun
     (get_or s.segment.listed i nobody)
-    (recordedAt s.segment i)
-    (queueAt s.queues i)
-    ≡ (contender-padded (recordedAt s.segment i)
-    && offer-stands (meaning s) (stationAt s i) (meaning s).contention (stationAt s i).offer)
-contender-same s i = ap (λ t. contender-padded c && t) (go c.contends s.segment.contention.begun)
+    (recorded_at s.segment i)
+    (queue_at s.queues i)
+    ≡ (contender_padded (recorded_at s.segment i)
+    && offer_stands (meaning s) (station_at s i) (meaning s).contention (station_at s i).offer)
+contender-same s i = ap (λ t. contender_padded c && t) (go c.contends s.segment.contention.begun)
   where
     c : Contender
-    c = recordedAt s.segment i
+    c = recorded_at s.segment i
 
     go :
         (contends begun : Bool)
         → (not contends
         || (begun
-        && some_of (same-packet c.packet) (queueAt s.queues i)
+        && some_of (same_packet c.packet) (queue_at s.queues i)
         && ltb c.parameter s.segment.settings.d
-        && parameterFits (disciplineOf s.segment.settings.discipline) (get_or s.segment.listed i nobody).capability c))
-        ≡ offer-stands
+        && parameter_fits (discipline_of s.segment.settings.discipline) (get_or s.segment.listed i nobody).capability c))
+        ≡ offer_stands
         (meaning s)
-        (stationAt s i)
+        (station_at s i)
         (cond begun (some (record { window = s.segment.contention.window; tie = tie_of s.segment.contention })) none)
         (cond contends (some (record { parameter = c.parameter; packet = c.packet })) none)
     go false begun = refl
     go true false = refl
     go true true =
         ap
-        (λ t. some_of (same-packet c.packet) (queueAt s.queues i) && ltb c.parameter s.segment.settings.d && t)
-        (fits-same (disciplineOf s.segment.settings.discipline) s i)
+        (λ t. some_of (same_packet c.packet) (queue_at s.queues i) && ltb c.parameter s.segment.settings.d && t)
+        (fits-same (discipline_of s.segment.settings.discipline) s i)
 
--- the parts of a station, in the order of the code and in the order of `station-padded` and `station-stands`
-station-order : (p r e c o : Bool) → (p && r && e && (c && o)) ≡ (p && c && (r && e && o))
-station-order false r e c o = refl
-station-order true r e true o = refl
-station-order true false e false o = refl
-station-order true true false false o = refl
-station-order true true true false o = refl
+-- the parts of a station, in the order of the code and in the order of `station_padded` and `station_stands`
+station_order : (p r e c o : Bool) → (p && r && e && (c && o)) ≡ (p && c && (r && e && o))
+station_order false r e c o = refl
+station_order true r e true o = refl
+station_order true false e false o = refl
+station_order true true false false o = refl
+station_order true true true false o = refl
 
 -- a queue has sixteen places
-queue-in-places : (qs : Queues) (i : ℕ) → leb (length (queueAt qs i)) places ≡ true
-queue-in-places qs i =
+queue_in_places : (qs : Queues) (i : ℕ) → leb (length (queue_at qs i)) places ≡ true
+queue_in_places qs i =
     let some-of-them = length-take (get_or qs.lengths i 0) (places_at qs i) in
     let all-of-them = length-take places (drop (places * i) qs.packets) in
-    le-leb (length (queueAt qs i)) places (omega arith)
+    le-leb (length (queue_at qs i)) places (omega arith)
 
-station-same :
-    (s : State) (i : ℕ) → stationSound s.segment s.queues i ≡ (station-padded s i && station-stands (meaning s) (stationAt s i))
-station-same s i =
-    ap (λ t. queue-padded (get_or s.queues.lengths i 0) (places_at s.queues i) && rises && fits && t) (contender-same s i)
-    ∙ station-order
-    (queue-padded (get_or s.queues.lengths i 0) (places_at s.queues i))
+station_same :
+    (s : State) (i : ℕ) → station_sound s.segment s.queues i ≡ (station_padded s i && station_stands (meaning s) (station_at s i))
+station_same s i =
+    ap (λ t. queue_padded (get_or s.queues.lengths i 0) (places_at s.queues i) && rises && fits && t) (contender-same s i)
+    ∙ station_order
+    (queue_padded (get_or s.queues.lengths i 0) (places_at s.queues i))
     rises
     fits
-    (contender-padded (recordedAt s.segment i))
+    (contender_padded (recorded_at s.segment i))
     offered
     ∙ ap
-    (λ t. station-padded s i && (t && rises && fits && offered))
-    (sym (queue-in-places s.queues i))
+    (λ t. station_padded s i && (t && rises && fits && offered))
+    (sym (queue_in_places s.queues i))
   where
     rises : Bool
-    rises = rising 0 s.segment.admitted (queueAt s.queues i)
+    rises = rising 0 s.segment.admitted (queue_at s.queues i)
 
     fits : Bool
     fits =
         each_of
-        (packet-fits (disciplineOf s.segment.settings.discipline) s.segment.settings.d s.segment.clock.0)
-        (queueAt s.queues i)
+        (packet_fits (discipline_of s.segment.settings.discipline) s.segment.settings.d s.segment.clock.0)
+        (queue_at s.queues i)
 
     offered : Bool
-    offered = offer-stands (meaning s) (stationAt s i) (meaning s).contention (stationAt s i).offer
+    offered = offer_stands (meaning s) (station_at s i) (meaning s).contention (station_at s i).offer
 
 -- ---- a place past N
 
--- the parts of a place past N, in the order of the code and in the order of `station-padded` and `no-station`: a length of 0 is in range
+-- the parts of a place past N, in the order of the code and in the order of `station_padded` and `has_no_station`: a length of 0 is in range
 nobody-order :
     (address capability empty contends parameter packet zeros room : Bool) → (empty ≡ true → room ≡ true)
     → (address && capability && empty && (not contends && parameter && packet) && zeros)
@@ -188,16 +188,16 @@ nobody-order true true true false parameter packet zeros room h =
     ∙ sym (and-last-true (zeros && (parameter && packet)))
     ∙ ap (λ t. t && zeros && (parameter && packet) && true) (sym (h refl))
 
-nobody-same : (s : State) (i : ℕ) → nobodyAt s.segment s.queues i ≡ (station-padded s i && no-station s i)
-nobody-same s i =
+nobody_same : (s : State) (i : ℕ) → nobody_at s.segment s.queues i ≡ (station_padded s i && has_no_station s i)
+nobody_same s i =
     nobody-order
     (eqb (get_or s.segment.listed i nobody).address.0 0)
     (eqb (get_or s.segment.listed i nobody).capability.0 0)
     (eqb n 0)
     c.contends
     (eqb c.parameter 0)
-    (no-packet c.packet)
-    (each_of no-packet (drop n (places_at s.queues i)))
+    (has_no_packet c.packet)
+    (each_of has_no_packet (drop n (places_at s.queues i)))
     (leb n places)
     (λ e. let none = eqb-true n 0 e in le-leb n places (omega arith))
   where
@@ -205,91 +205,91 @@ nobody-same s i =
     n = get_or s.queues.lengths i 0
 
     c : Contender
-    c = recordedAt s.segment i
+    c = recorded_at s.segment i
 
 -- ---- all places
 
 -- a place's padding, and the station or nobody
 place_same :
     (s : State) (i : ℕ)
-    → placeSound s.segment s.queues i
-    ≡ (station-padded s i && cond (ltb i s.segment.settings.n) (station-stands (meaning s) (stationAt s i)) (no-station s i))
+    → place_sound s.segment s.queues i
+    ≡ (station_padded s i && cond (ltb i s.segment.settings.n) (station_stands (meaning s) (station_at s i)) (has_no_station s i))
 place_same s i = go (ltb i s.segment.settings.n)
   where
     go :
         (t : Bool)
-        → cond t (stationSound s.segment s.queues i) (nobodyAt s.segment s.queues i)
-        ≡ (station-padded s i && cond t (station-stands (meaning s) (stationAt s i)) (no-station s i))
-    go true = station-same s i
-    go false = nobody-same s i
+        → cond t (station_sound s.segment s.queues i) (nobody_at s.segment s.queues i)
+        ≡ (station_padded s i && cond t (station_stands (meaning s) (station_at s i)) (has_no_station s i))
+    go true = station_same s i
+    go false = nobody_same s i
 
 -- the padding of all places, those past N, the stations
 places_same :
-    (s : State) → s.segment.settings.n ≤ most-stations
-    → each-place (placeSound s.segment s.queues) 0 most-stations
-    ≡ (each-place (station-padded s) 0 most-stations
-    && each-place (no-station s) s.segment.settings.n (most-stations - s.segment.settings.n)
-    && each_of (station-stands (meaning s)) (stationsOf s))
+    (s : State) → s.segment.settings.n ≤ most_stations
+    → each_place (place_sound s.segment s.queues) 0 most_stations
+    ≡ (each_place (station_padded s) 0 most_stations
+    && each_place (has_no_station s) s.segment.settings.n (most_stations - s.segment.settings.n)
+    && each_of (station_stands (meaning s)) (stations_of s))
 places_same s h =
-    let all : n + m ≡ most-stations = omega arith in
-    each_same (placeSound s.segment s.queues) (λ i. station-padded s i && there i) 0 most-stations (λ i l k. place_same s i)
-    ∙ each_both (station-padded s) there 0 most-stations
+    let all : n + m ≡ most_stations = omega arith in
+    each_same (place_sound s.segment s.queues) (λ i. station_padded s i && there i) 0 most_stations (λ i l k. place_same s i)
+    ∙ each_both (station_padded s) there 0 most_stations
     ∙ ap
-    (λ t. each-place (station-padded s) 0 most-stations && t)
-    (ap (each-place there 0) (sym all)
-    ∙ each-split there 0 n m
+    (λ t. each_place (station_padded s) 0 most_stations && t)
+    (ap (each_place there 0) (sym all)
+    ∙ each_split there 0 n m
     ∙ ap₂
     ◌&&◌
-    (each_same there stand 0 n (λ i l k. ap (λ t. cond t (stand i) (no-station s i)) (lt-ltb i n (omega arith)))
-    ∙ sym (each-values (station-stands (meaning s)) (stationAt s) 0 n))
-    (ap (λ i. each-place there i m) (zero-add n)
-    ∙ each_same there (no-station s) n m (λ i l k. ap (λ t. cond t (stand i) (no-station s i)) (le-ltb i n l)))
-    ∙ and_comm (each_of (station-stands (meaning s)) (stationsOf s)) (each-place (no-station s) n m))
+    (each_same there stand 0 n (λ i l k. ap (λ t. cond t (stand i) (has_no_station s i)) (lt-ltb i n (omega arith)))
+    ∙ sym (each_values (station_stands (meaning s)) (station_at s) 0 n))
+    (ap (λ i. each_place there i m) (zero-add n)
+    ∙ each_same there (has_no_station s) n m (λ i l k. ap (λ t. cond t (stand i) (has_no_station s i)) (le-ltb i n l)))
+    ∙ and_comm (each_of (station_stands (meaning s)) (stations_of s)) (each_place (has_no_station s) n m))
     ∙ sym
     (and_assoc
-    (each-place (station-padded s) 0 most-stations)
-    (each-place (no-station s) n m)
-    (each_of (station-stands (meaning s)) (stationsOf s)))
+    (each_place (station_padded s) 0 most_stations)
+    (each_place (has_no_station s) n m)
+    (each_of (station_stands (meaning s)) (stations_of s)))
   where
     n : ℕ
     n = s.segment.settings.n
 
     m : ℕ
-    m = most-stations - n
+    m = most_stations - n
 
     stand : ℕ → Bool
-    stand i = station-stands (meaning s) (stationAt s i)
+    stand i = station_stands (meaning s) (station_at s i)
 
     there : ℕ → Bool
-    there i = cond (ltb i n) (stand i) (no-station s i)
+    there i = cond (ltb i n) (stand i) (has_no_station s i)
 
 -- ---- the numbers and lengths of the queues
 
-numbers-same : (s : State) (i k : ℕ) → numbers (valuesFrom (stationAt s) i k) ≡ numbersFrom s.queues i k
-numbers-same s i zero = refl
-numbers-same s i (suc k) = ap (λ ns. numbersIn (queueAt s.queues i) ++ ns) (numbers-same s (suc i) k)
+numbers_same : (s : State) (i k : ℕ) → numbers (values_from (station_at s) i k) ≡ numbers_from s.queues i k
+numbers_same s i zero = refl
+numbers_same s i (suc k) = ap (λ ns. numbers_in (queue_at s.queues i) ++ ns) (numbers_same s (suc i) k)
 
 -- as many packets wait as there are numbers
-numbers-count : (stations : List Machine.Station) → length (numbers stations) ≡ waiting stations
-numbers-count [] = refl
-numbers-count (s ∷ stations) =
-    length-append (numbersIn s.queue) (numbers stations) ∙ ap₂ ◌+◌ (length-map s.queue (λ p. p.number)) (numbers-count stations)
+numbers_count : (stations : List Machine.Station) → length (numbers stations) ≡ waiting stations
+numbers_count [] = refl
+numbers_count (s ∷ stations) =
+    length-append (numbers_in s.queue) (numbers stations) ∙ ap₂ ◌+◌ (length-map s.queue (λ p. p.number)) (numbers_count stations)
 
 -- the packets waiting at the k stations from i on, by the lengths of their queues
 waiting-from :
-    (s : State) → Held s → (i k : ℕ) → i + k ≤ most-stations
-    → waiting (valuesFrom (stationAt s) i k) ≡ total (λ n. min n places) (valuesFrom (λ j. get_or s.queues.lengths j 0) i k)
+    (s : State) → Held s → (i k : ℕ) → i + k ≤ most_stations
+    → waiting (values_from (station_at s) i k) ≡ total (λ n. min n places) (values_from (λ j. get_or s.queues.lengths j 0) i k)
 waiting-from s h i zero l = refl
 waiting-from s h i (suc k) l =
     let n = get_or s.queues.lengths i 0 in
     ap₂
     ◌+◌
-    (length-take n (places_at s.queues i) ∙ ap (min n) (places-length s h i (omega arith)))
+    (length-take n (places_at s.queues i) ∙ ap (min n) (places_length s h i (omega arith)))
     (waiting-from s h (suc i) k (omega arith))
 
 -- the first n of a list are its first n up to its length
-pub first-few : {X : Type 0} (xs : List X) (n k : ℕ) → length xs ≡ k → take (min n k) xs ≡ take n xs
-first-few xs n k full = go (leb n k) refl
+pub first_few : {X : Type 0} (xs : List X) (n k : ℕ) → length xs ≡ k → take (min n k) xs ≡ take n xs
+first_few xs n k full = go (leb n k) refl
   where
     go : (t : Bool) → leb n k ≡ t → take (min n k) xs ≡ take n xs
     go true e = ap (λ j. take j xs) (min-eq_left (leb-true n k e))
@@ -298,7 +298,7 @@ first-few xs n k full = go (leb n k) refl
         ap (λ j. take j xs) (min-eq_right past) ∙ take_all k xs (omega arith) ∙ sym (take_all n xs (omega arith))
 
 -- queues of at most 16 packets hold as many as their lengths say
-pub held_whole : (lengths : List ℕ) (n : ℕ) → ((i : ℕ) → i < n → get_or lengths i 0 ≤ places) → waitingIn lengths n ≡ total (λ k. k) (take n lengths)
+pub held_whole : (lengths : List ℕ) (n : ℕ) → ((i : ℕ) → i < n → get_or lengths i 0 ≤ places) → waiting_in lengths n ≡ total (λ k. k) (take n lengths)
 held_whole [] zero room = refl
 held_whole [] (suc n) room = refl
 held_whole (k ∷ lengths) zero room = refl
@@ -307,11 +307,11 @@ held_whole (k ∷ lengths) (suc n) room =
 
 -- what waits is what the lengths count
 pub waiting-same :
-    (s : State) → Held s → s.segment.settings.n ≤ most-stations
-    → waitingIn s.queues.lengths s.segment.settings.n ≡ waiting (stationsOf s)
+    (s : State) → Held s → s.segment.settings.n ≤ most_stations
+    → waiting_in s.queues.lengths s.segment.settings.n ≡ waiting (stations_of s)
 waiting-same s h l =
     let n = s.segment.settings.n in
-    ap (total (λ k. min k places)) (values-take s.queues.lengths 0 n (omega (arith, h.lengths)))
+    ap (total (λ k. min k places)) (values_take s.queues.lengths 0 n (omega (arith, h.lengths)))
     ∙ sym (waiting-from s h 0 n (omega arith))
 
 -- ---- the round
@@ -319,14 +319,14 @@ waiting-same s h l =
 -- two tests of values that agree at each place
 some-values :
     {X Y : Type 0} (one : X → Bool) (two : Y → Bool) (f : ℕ → X) (g : ℕ → Y) → ((j : ℕ) → one (f j) ≡ two (g j)) → (i k : ℕ)
-    → some_of one (valuesFrom f i k) ≡ some_of two (valuesFrom g i k)
+    → some_of one (values_from f i k) ≡ some_of two (values_from g i k)
 some-values one two f g h i zero = refl
 some-values one two f g h i (suc k) = ap₂ ◌||◌ (h i) (some-values one two f g h (suc i) k)
 
 -- `held` is whether a station has the last winner's capability
 last-same :
     (discipline last : ℕ) (won held : Bool) (stations : List Machine.Station) → held ≡ some_of (λ s. eqb last s.capability) stations
-    → (not won || (leb 2 discipline && held)) ≡ last-stands (disciplineOf discipline) stations (cond won (some last) none)
+    → (not won || (leb 2 discipline && held)) ≡ last_stands (discipline_of discipline) stations (cond won (some last) none)
 last-same zero last false held stations e = refl
 last-same (suc zero) last false held stations e = refl
 last-same (suc (suc d)) last false held stations e = refl
@@ -335,37 +335,37 @@ last-same (suc zero) last true held stations e = refl
 last-same (suc (suc d)) last true held stations e = ap (λ t. t && held) (le-leb 2 (suc (suc d)) (omega arith)) ∙ e
 
 round_same :
-    (s : State) → Held s → s.segment.settings.n ≤ most-stations
-    → roundSound s.segment
-    ≡ (round-padded s.segment.round && last-stands (meaning s).discipline (meaning s).stations (meaning s).last)
+    (s : State) → Held s → s.segment.settings.n ≤ most_stations
+    → round_sound s.segment
+    ≡ (round_padded s.segment.round && last_stands (meaning s).discipline (meaning s).stations (meaning s).last)
 round_same s h l =
     let n = s.segment.settings.n in
     let last = s.segment.round.last.0 in
     ap
-    (λ t. round-padded s.segment.round && t)
+    (λ t. round_padded s.segment.round && t)
     (last-same
     s.segment.settings.discipline
     last
     s.segment.round.won
     (some_of (λ l. eqb last l.capability.0) (take n s.segment.listed))
-    (stationsOf s)
-    (ap (some_of (λ l. eqb last l.capability.0)) (values-take s.segment.listed nobody n (omega (arith, h.listed)))
+    (stations_of s)
+    (ap (some_of (λ l. eqb last l.capability.0)) (values_take s.segment.listed nobody n (omega (arith, h.listed)))
     ∙ some-values
     (λ l. eqb last l.capability.0)
     (λ x. eqb last x.capability)
     (λ i. get_or s.segment.listed i nobody)
-    (stationAt s)
+    (station_at s)
     (λ j. refl)
     0
     n))
 
 -- ---- the contention
 
-contention-same :
+contention_same :
     (s : State)
-    → contentionSound s.segment.settings s.segment.contention
-    ≡ (contention-padded s.segment.contention && contention-stands (meaning s) (meaning s).contention)
-contention-same s = ap (λ t. contention-padded c && t) (go c.begun c.tied)
+    → contention_sound s.segment.settings s.segment.contention
+    ≡ (contention_padded s.segment.contention && contention_stands (meaning s) (meaning s).contention)
+contention_same s = ap (λ t. contention_padded c && t) (go c.begun c.tied)
   where
     c : Contention
     c = s.segment.contention
@@ -377,7 +377,7 @@ contention-same s = ap (λ t. contention-padded c && t) (go c.begun c.tied)
         tied
         (ltb c.tie s.segment.settings.d && placed s.segment.settings.a c.window)
         (placed s.segment.settings.d c.window))
-        ≡ contention-stands (meaning s) (cond begun (some (record { window = c.window; tie = cond tied (some c.tie) none })) none)
+        ≡ contention_stands (meaning s) (cond begun (some (record { window = c.window; tie = cond tied (some c.tie) none })) none)
     go false tied = refl
     go true false = refl
     go true true = refl
@@ -386,35 +386,35 @@ contention-same s = ap (λ t. contention-padded c && t) (go c.begun c.tied)
 
 -- the set-up that the code tries again: the settings, and all 64 places as the row
 abbrev pub tried : State → Request
-tried s = requestWith s.segment.settings (map asked_of (take 64 s.segment.listed))
+tried s = request_with s.segment.settings (map asked_of (take 64 s.segment.listed))
 
-pub few-tried : (s : State) → (setUpVerdict (tried s)).refusal ≡ 0 → s.segment.settings.n ≤ most-stations
-few-tried s e = (set-up-pass s.segment.settings (tried s).row e).few
+pub few_tried : (s : State) → (set_up_verdict (tried s)).refusal ≡ 0 → s.segment.settings.n ≤ most_stations
+few_tried s e = (set_up_pass s.segment.settings (tried s).row e).few
 
 -- the code's test is that the discipline is one of the three and the meaning passes
 set-up-same :
     (s : State) → Held s
-    → (leb s.segment.settings.discipline 2 && eqb (setUpVerdict (askedFor (meaning s))).refusal 0)
-    ≡ eqb (setUpVerdict (tried s)).refusal 0
-set-up-same s h = go (leb d 2) refl (eqb (setUpVerdict (tried s)).refusal 0) refl
+    → (leb s.segment.settings.discipline 2 && eqb (set_up_verdict (asked_for (meaning s))).refusal 0)
+    ≡ eqb (set_up_verdict (tried s)).refusal 0
+set-up-same s h = go (leb d 2) refl (eqb (set_up_verdict (tried s)).refusal 0) refl
   where
     d : ℕ
     d = s.segment.settings.discipline
 
     go :
-        (t : Bool) → leb d 2 ≡ t → (v : Bool) → eqb (setUpVerdict (tried s)).refusal 0 ≡ v
-        → (t && eqb (setUpVerdict (askedFor (meaning s))).refusal 0) ≡ v
+        (t : Bool) → leb d 2 ≡ t → (v : Bool) → eqb (set_up_verdict (tried s)).refusal 0 ≡ v
+        → (t && eqb (set_up_verdict (asked_for (meaning s))).refusal 0) ≡ v
     go true e v k = sym (passes-as-asked s h.listed (leb-true d 2 e)) ∙ k
     go false e false k = refl
     go false e true k =
-        clash (le-leb d 2 (set-up-pass s.segment.settings (tried s).row (eqb-true (setUpVerdict (tried s)).refusal 0 k)).discipline) e
+        clash (le-leb d 2 (set_up_pass s.segment.settings (tried s).row (eqb-true (set_up_verdict (tried s)).refusal 0 k)).discipline) e
 
 -- ---- the rows of a state that a function is handed are as long as its arrays
 
-pub state-held : (s : State) (vs : List Val) → Is state.the_row s vs → Held s
-state-held s vs owned =
+pub state_held : (s : State) (vs : List Val) → Is state.the_row s vs → Held s
+state_held s vs owned =
     let segment = owned.1.1.0.1.1 in
-    let queues = queues-arrays s.queues _ owned.1.1.1.0 in
+    let queues = queues_arrays s.queues _ owned.1.1.1.0 in
     record {
       listed = sym (length-map s.segment.listed _) ∙ segment.1.0.1.0.1;
       contenders =
@@ -439,28 +439,28 @@ parts-order :
     → (zeros && past && round && contention && (clock && admitted && turned && counts && stand && apart && last && window))
     ≡ (clock && (admitted && (turned && ((round && last) && ((contention && window) && (sound && (counts && apart)))))))
 parts-order zeros past round contention clock admitted turned counts stand apart last window sound same =
-    and-four (zeros && past && round) contention (clock && admitted && turned && counts && stand && apart && last) window
-    ∙ ap (λ t. t && (contention && window)) (and-four (zeros && past) round (clock && admitted && turned && counts && stand && apart) last)
+    and_four (zeros && past && round) contention (clock && admitted && turned && counts && stand && apart && last) window
+    ∙ ap (λ t. t && (contention && window)) (and_four (zeros && past) round (clock && admitted && turned && counts && stand && apart) last)
     ∙ ap (λ t. t && (round && last) && (contention && window)) (gather (zeros && past) (clock && admitted && turned))
     ∙ ap (λ t. clock && admitted && turned && (t && (counts && apart)) && (round && last) && (contention && window)) (sym same)
-    ∙ queues-last clock admitted turned (round && last) (contention && window) (sound && (counts && apart))
+    ∙ queues_last clock admitted turned (round && last) (contention && window) (sound && (counts && apart))
   where
     gather : (a b : Bool) → (a && (b && counts && stand && apart)) ≡ (b && (a && stand && (counts && apart)))
     gather a false = and-false a
     gather false true = refl
     gather true true = ap (λ t. t && apart) (and_comm counts stand) ∙ and_assoc stand counts apart
 
-    queues-last : (a b t c d e : Bool) → (a && b && t && e && c && d) ≡ (a && (b && (t && (c && (d && e)))))
-    queues-last false b t c d e = refl
-    queues-last true false t c d e = refl
-    queues-last true true false c d e = refl
-    queues-last true true true c d e = and_assoc e c d ∙ and_comm e (c && d) ∙ and_assoc c d e
+    queues_last : (a b t c d e : Bool) → (a && b && t && e && c && d) ≡ (a && (b && (t && (c && (d && e)))))
+    queues_last false b t c d e = refl
+    queues_last true false t c d e = refl
+    queues_last true true false c d e = refl
+    queues_last true true true c d e = and_assoc e c d ∙ and_comm e (c && d) ∙ and_assoc c d e
 
 -- a state that a set-up would refuse does not stand
-pub not-set-up : (s : State) → Held s → ¬ ((setUpVerdict (tried s)).refusal ≡ 0) → standing s ≡ false
-not-set-up s h n = go (standing s) refl
+pub not_set_up : (s : State) → Held s → ¬ ((set_up_verdict (tried s)).refusal ≡ 0) → standing s ≡ false
+not_set_up s h n = go (standing s) refl
   where
-    passes : {t : Bool} → Whether (Standing (meaning s)) t → t ≡ true → (setUpVerdict (askedFor (meaning s))).refusal ≡ 0
+    passes : {t : Bool} → Whether (Standing (meaning s)) t → t ≡ true → (set_up_verdict (asked_for (meaning s))).refusal ≡ 0
     passes (holds b) k = b.passes
     passes (fails m) k = clash k refl
 
@@ -470,35 +470,35 @@ not-set-up s h n = go (standing s) refl
         let both = and-true (padded s) (stands (meaning s)) k in
         clash
         (true-and
-        (le-leb s.segment.settings.discipline 2 (padded-parts s both.0).discipline)
-        (eq-eqb (setUpVerdict (askedFor (meaning s))).refusal 0 (passes (stands-exactly (meaning s)) both.1)))
-        (set-up-same s h ∙ ne_eqb (setUpVerdict (tried s)).refusal 0 n)
+        (le-leb s.segment.settings.discipline 2 (padded_parts s both.0).discipline)
+        (eq-eqb (set_up_verdict (asked_for (meaning s))).refusal 0 (passes (stands_exactly (meaning s)) both.1)))
+        (set-up-same s h ∙ ne_eqb (set_up_verdict (tried s)).refusal 0 n)
 
 -- ---- the queues, place by place
 
 module _ (g : Segment) (qs : Queues) where
   -- the numbers from place i on
   abbrev later : ℕ → List ℕ
-  later i = numbersFrom qs i (g.settings.n - i)
+  later i = numbers_from qs i (g.settings.n - i)
 
   -- of a place that is sound: its queue has room, and its numbers come next, none past N
   abbrev Next : ℕ → Type 0
-  Next i = (get_or qs.lengths i 0 ≤ places) × (later i ≡ numbersIn (queueAt qs i) ++ later (suc i))
+  Next i = (get_or qs.lengths i 0 ≤ places) × (later i ≡ numbers_in (queue_at qs i) ++ later (suc i))
 
-  pub next : (i : ℕ) → placeSound g qs i ≡ true → Next i
+  pub next : (i : ℕ) → place_sound g qs i ≡ true → Next i
   next i = go (ltb i g.settings.n) refl
     where
       k : ℕ
       k = get_or qs.lengths i 0
 
-      go : (t : Bool) → ltb i g.settings.n ≡ t → cond t (stationSound g qs i) (nobodyAt g qs i) ≡ true → Next i
+      go : (t : Bool) → ltb i g.settings.n ≡ t → cond t (station_sound g qs i) (nobody_at g qs i) ≡ true → Next i
       go true e h =
-          let padded = queue-padded k (places_at qs i) in
+          let padded = queue_padded k (places_at qs i) in
           let three = and-true (padded && _ && _) _ h in
           let two = and-true (padded && _) _ three.0 in
           let both = and-true padded _ two.0 in (
             leb-true k places (and-true (leb k places) _ both.0).0,
-            ap (numbersFrom qs i) (rest-suc i _ (ltb-true i _ e)),
+            ap (numbers_from qs i) (rest_suc i _ (ltb-true i _ e)),
           )
       go false e h =
           let l = get_or g.listed i nobody in
@@ -507,71 +507,71 @@ module _ (g : Segment) (qs : Queues) where
           let both = and-true (unnamed && eqb k 0) _ two.0 in
           let none = eqb-true k 0 (and-true unnamed (eqb k 0) both.0).1 in
           let past = ltb-false i g.settings.n e in
-          (omega arith, rw (rest-none i _ past, rest-none (suc i) g.settings.n (omega arith), none))
+          (omega arith, rw (rest_none i _ past, rest_none (suc i) g.settings.n (omega arith), none))
 
   -- the test from place i on, where `seen` are the numbers before it
   abbrev pub from_place : List ℕ → ℕ → Bool
-  from_place seen i = each-place (placeSound g qs) i (most-stations - i) && numbersSound g (seen ++ later i)
+  from_place seen i = each_place (place_sound g qs) i (most_stations - i) && numbers_sound g (seen ++ later i)
 
-  pub place-first : queuesSound g qs ≡ from_place [] 0
-  place-first = rw (sub-zero g.settings.n)
+  pub place_first : queues_sound g qs ≡ from_place [] 0
+  place_first = rw (sub-zero g.settings.n)
 
   module _ (seen : List ℕ) (i : ℕ) where
-    pub place-fails : i < most-stations → placeSound g qs i ≡ false → from_place seen i ≡ false
-    place-fails h e = simp (each-place-turn (placeSound g qs) i most-stations h, e)
+    pub place_fails : i < most_stations → place_sound g qs i ≡ false → from_place seen i ≡ false
+    place_fails h e = simp (each_place_turn (place_sound g qs) i most_stations h, e)
 
     pub place-passes :
-        {more : List ℕ} → i < most-stations → placeSound g qs i ≡ true → more ≡ seen ++ numbersIn (queueAt qs i)
+        {more : List ℕ} → i < most_stations → place_sound g qs i ≡ true → more ≡ seen ++ numbers_in (queue_at qs i)
         → from_place seen i ≡ from_place more (i + 1)
     place-passes h e same =
-        let order = append_assoc seen (numbersIn (queueAt qs i)) (later (suc i)) in
-        rw (same, add-one i, order, each-place-turn (placeSound g qs) i most-stations h, e, (next i e).1)
+        let order = append_assoc seen (numbers_in (queue_at qs i)) (later (suc i)) in
+        rw (same, add-one i, order, each_place_turn (place_sound g qs) i most_stations h, e, (next i e).1)
 
     pub places-end :
-        {k : ℕ} → g.settings.n ≤ most-stations → most-stations ≤ i → length seen ≡ k
+        {k : ℕ} → g.settings.n ≤ most_stations → most_stations ≤ i → length seen ≡ k
         → from_place seen i ≡ (eqb g.admitted (g.sent + g.lost + k) && distinct seen)
     places-end few h same =
-        rw (each-place-end (placeSound g qs) i most-stations h, rest-none i g.settings.n (omega arith), append-nil seen, same)
+        rw (each_place_end (place_sound g qs) i most_stations h, rest_none i g.settings.n (omega arith), append-nil seen, same)
 
 -- the tests of the code after the set-up: from the admitted count on, from that of packets turned away on, from the round on, from the contention on
-abbrev pub from-contention : State → Bool
-from-contention s = contentionSound s.segment.settings s.segment.contention && queuesSound s.segment s.queues
+abbrev pub from_contention : State → Bool
+from_contention s = contention_sound s.segment.settings s.segment.contention && queues_sound s.segment s.queues
 
-abbrev pub from-round : State → Bool
-from-round s = roundSound s.segment && from-contention s
+abbrev pub from_round : State → Bool
+from_round s = round_sound s.segment && from_contention s
 
-abbrev pub from-turned : State → Bool
-from-turned s = leb s.segment.turned most-turned && from-round s
+abbrev pub from_turned : State → Bool
+from_turned s = leb s.segment.turned most_turned && from_round s
 
-abbrev pub from-admitted : State → Bool
-from-admitted s = leb s.segment.admitted most-admitted && from-turned s
+abbrev pub from_admitted : State → Bool
+from_admitted s = leb s.segment.admitted most_admitted && from_turned s
 
 -- a state that a set-up would not refuse stands as the code's other tests tell
 pub standing-parts :
-    (s : State) → Held s → (setUpVerdict (tried s)).refusal ≡ 0 → standing s ≡ (leb s.segment.clock.0 clock-end && from-admitted s)
+    (s : State) → Held s → (set_up_verdict (tried s)).refusal ≡ 0 → standing s ≡ (leb s.segment.clock.0 clock_end && from_admitted s)
 standing-parts s h e =
-    let passes = set-up-same s h ∙ eq-eqb (setUpVerdict (tried s)).refusal 0 e in
-    let both = and-true (leb s.segment.settings.discipline 2) (eqb (setUpVerdict (askedFor (meaning s))).refusal 0) passes in
-    let few = few-tried s e in
+    let passes = set-up-same s h ∙ eq-eqb (set_up_verdict (tried s)).refusal 0 e in
+    let both = and-true (leb s.segment.settings.discipline 2) (eqb (set_up_verdict (asked_for (meaning s))).refusal 0) passes in
+    let few = few_tried s e in
     let n = s.segment.settings.n in
-    let clock = leb s.segment.clock.0 clock-end in
-    let admitted = leb s.segment.admitted most-admitted in
-    let turned = leb s.segment.turned most-turned in
-    let zeros = each-place (station-padded s) 0 most-stations in
-    let past = each-place (no-station s) n (most-stations - n) in
-    let stand = each_of (station-stands (meaning s)) (stationsOf s) in
-    let sound = each-place (placeSound s.segment s.queues) 0 most-stations in
+    let clock = leb s.segment.clock.0 clock_end in
+    let admitted = leb s.segment.admitted most_admitted in
+    let turned = leb s.segment.turned most_turned in
+    let zeros = each_place (station_padded s) 0 most_stations in
+    let past = each_place (has_no_station s) n (most_stations - n) in
+    let stand = each_of (station_stands (meaning s)) (stations_of s) in
+    let sound = each_place (place_sound s.segment s.queues) 0 most_stations in
     let counted : ℕ → Bool = λ waiting. eqb s.segment.admitted (s.segment.sent + s.segment.lost + waiting) in
-    let counts = counted (waiting (stationsOf s)) in
-    let apart = distinct (numbers (stationsOf s)) in
-    let round = round-padded s.segment.round in
-    let last = last-stands (meaning s).discipline (stationsOf s) (meaning s).last in
-    let contention = contention-padded s.segment.contention in
-    let window = contention-stands (meaning s) (meaning s).contention in
-    let begun = contentionSound s.segment.settings s.segment.contention in
+    let counts = counted (waiting (stations_of s)) in
+    let apart = distinct (numbers (stations_of s)) in
+    let round = round_padded s.segment.round in
+    let last = last_stands (meaning s).discipline (stations_of s) (meaning s).last in
+    let contention = contention_padded s.segment.contention in
+    let window = contention_stands (meaning s) (meaning s).contention in
+    let begun = contention_sound s.segment.settings s.segment.contention in
     let same =
-    ap (λ k. counted k && apart) (sym (numbers-count (stationsOf s))) ∙ ap (numbersSound s.segment) (numbers-same s 0 n) in
+    ap (λ k. counted k && apart) (sym (numbers_count (stations_of s))) ∙ ap (numbers_sound s.segment) (numbers_same s 0 n) in
     ap₂ (λ d v. d && zeros && past && round && contention && (v && clock && admitted && turned && counts && stand && apart && last && window)) both.0 both.1
     ∙ parts-order zeros past round contention clock admitted turned counts stand apart last window sound (places_same s few)
-    ∙ ap₂ (λ r c. clock && (admitted && (turned && (r && (c && (sound && (counts && apart))))))) (sym (round_same s h few)) (sym (contention-same s))
-    ∙ ap (λ t. clock && (admitted && (turned && (roundSound s.segment && (begun && (sound && t)))))) same
+    ∙ ap₂ (λ r c. clock && (admitted && (turned && (r && (c && (sound && (counts && apart))))))) (sym (round_same s h few)) (sym (contention_same s))
+    ∙ ap (λ t. clock && (admitted && (turned && (round_sound s.segment && (begun && (sound && t)))))) same

@@ -15,7 +15,7 @@ use lib.Seq.{slice, slice-cons}
 use Rattle.rules.specs.Lists.{each_of, some_of}
 use Rattle.state.specs.Parts.{Queue}
 use Rattle.state.specs.contracts.Queue as queue
-use Rattle.state.proofs.Places.{queue-array}
+use Rattle.state.proofs.Places.{queue_array}
 
 -- ---- what a callee answered, negated in the code
 
@@ -45,12 +45,12 @@ failed rest e h = e ∙ ap (λ t. t && rest) h
 -- ---- loops
 
 -- the packets of a queue that a function is handed stand in its places
-pub queue-room : (q : Queue) (vs : List Val) → Is queue.the_row q vs → q.length ≤ 16 → q.length ≤ length q.packets
-queue-room q vs owned h = omega (arith, queue-array q vs owned)
+pub queue_room : (q : Queue) (vs : List Val) → Is queue.the_row q vs → q.length ≤ 16 → q.length ≤ length q.packets
+queue_room q vs owned h = omega (arith, queue_array q vs owned)
 
 module _ {X : Type 0} (n : ℕ) (xs : List X) (j : ℕ) where
-  pub left-turn : (d : X) → j < n → n ≤ length xs → slice j n xs ≡ get_or xs j d ∷ slice (j + 1) n xs
-  left-turn d h k = slice-cons j n xs d h k ∙ ap (λ i. get_or xs j d ∷ slice i n xs) (sym (add-one j))
+  pub left_turn : (d : X) → j < n → n ≤ length xs → slice j n xs ≡ get_or xs j d ∷ slice (j + 1) n xs
+  left_turn d h k = slice-cons j n xs d h k ∙ ap (λ i. get_or xs j d ∷ slice i n xs) (sym (add-one j))
 
   pub left_end : n ≤ j → slice j n xs ≡ []
   left_end h = let k : length (take n xs) ≤ j = omega (arith, length-take n xs) in drop_of_length-le (take n xs) k
@@ -59,15 +59,15 @@ module _ {X : Type 0} (n : ℕ) (xs : List X) (j : ℕ) where
     pub each_turn :
         {answer : Bool} (d : X) → j < n → n ≤ length xs → answer ≡ test (get_or xs j d)
         → each_of test (slice j n xs) ≡ (answer && each_of test (slice (j + 1) n xs))
-    each_turn d h k e = ap (each_of test) (left-turn d h k) ∙ ap (λ t. t && each_of test (slice (j + 1) n xs)) (sym e)
+    each_turn d h k e = ap (each_of test) (left_turn d h k) ∙ ap (λ t. t && each_of test (slice (j + 1) n xs)) (sym e)
 
-    pub each-end : n ≤ j → each_of test (slice j n xs) ≡ true
-    each-end h = ap (each_of test) (left_end h)
+    pub each_end : n ≤ j → each_of test (slice j n xs) ≡ true
+    each_end h = ap (each_of test) (left_end h)
 
     pub some_turn :
         {answer : Bool} (d : X) → j < n → n ≤ length xs → answer ≡ test (get_or xs j d)
         → some_of test (slice j n xs) ≡ (answer || some_of test (slice (j + 1) n xs))
-    some_turn d h k e = ap (some_of test) (left-turn d h k) ∙ ap (λ t. t || some_of test (slice (j + 1) n xs)) (sym e)
+    some_turn d h k e = ap (some_of test) (left_turn d h k) ∙ ap (λ t. t || some_of test (slice (j + 1) n xs)) (sym e)
 
     pub some_end : n ≤ j → some_of test (slice j n xs) ≡ false
     some_end h = ap (some_of test) (left_end h)

@@ -1,18 +1,18 @@
 -- The state of the code (src/lib.rt), and what it means: the machine of the rules. `meaning` leaves out the places that have no
 -- meaning, `form` pads a bus with zeros, `padded` is paper 01's 'What has no meaning is zero', `standing` all of its standing
--- conditions, and `waitingIn` what waits. Assumes nothing.
+-- conditions, and `waiting_in` what waits. Assumes nothing.
 use Rattle.std.specs.Prelude.{ℕ, zero, suc, ◌-◌, ◌*◌, ◌/◌, ◌%◌, ◌^◌, ◌<◌, min, ◌≡◌, Bool, true, false, not, ◌&&◌, ◌||◌, cond, List, [], ◌∷◌, leb, eqb, length, get_or, take, drop}
 use Rattle.std.proofs.Math.Option.{Option, none, some}
 use Rattle.word.specs.Word.{bit_at, word_of}
 use Rattle.window.specs.declared.Side.TheVariants.{Left}
 use Rattle.window.specs.declared.Window.{Window}
-use Rattle.window.specs.Splitting.{sameSide}
+use Rattle.window.specs.Splitting.{same_side}
 pub use Rattle.rules.specs.declared.Slot.{Slot}
 pub use Rattle.rules.specs.declared.Packet.{Packet}
 use Rattle.rules.specs.Lists.{each_of, total}
 use Rattle.rules.specs.Bus as Machine
-use Rattle.rules.specs.Bus.{places, most-stations, code}
-use Rattle.rules.specs.SetUp.{disciplineOf}
+use Rattle.rules.specs.Bus.{places, most_stations, code}
+use Rattle.rules.specs.SetUp.{discipline_of}
 use Rattle.rules.specs.Standing.{stands}
 pub use Rattle.sorts.specs.declared.Address.{Address}
 pub use Rattle.sorts.specs.declared.Capability.{Capability}
@@ -35,8 +35,8 @@ pub record Recorded : Type 0 where
   pub lengths : List ℕ
   pub admissions : List Slot
 
-abbrev pub recordedIn : Segment → Recorded
-recordedIn g =
+abbrev pub recorded_in : Segment → Recorded
+recorded_in g =
     record {
       word = g.contenders;
       parameters = g.parameters;
@@ -63,24 +63,24 @@ abbrev pub Held : State → Type 0
 Held s =
     record {
       listed : length s.segment.listed ≡ 64;
-      contenders : RecordedHeld (recordedIn s.segment);
+      contenders : RecordedHeld (recorded_in s.segment);
       lengths : length s.queues.lengths ≡ 64;
       packets : length s.queues.packets ≡ 1024;
     }
 
 -- ---- what has no meaning is zero: a packet, a contender, a contention, a round's last winner, a station that are not there
 
-abbrev pub noPacket : Packet
-noPacket = record { number = 0; value = 0; length = 0; admission = record { 0 = 0 } }
+abbrev pub no_packet : Packet
+no_packet = record { number = 0; value = 0; length = 0; admission = record { 0 = 0 } }
 
-abbrev pub noContender : Contender
-noContender = record { contends = false; parameter = 0; packet = noPacket }
+abbrev pub no_contender : Contender
+no_contender = record { contends = false; parameter = 0; packet = no_packet }
 
-abbrev pub noContention : Contention
-noContention = record { begun = false; window = record { start = 0; size = 0; side = Left }; tied = false; tie = 0 }
+abbrev pub no_contention : Contention
+no_contention = record { begun = false; window = record { start = 0; size = 0; side = Left }; tied = false; tie = 0 }
 
-abbrev pub noRound : Round
-noRound = record { won = false; last = record { 0 = 0 } }
+abbrev pub no_round : Round
+no_round = record { won = false; last = record { 0 = 0 } }
 
 abbrev pub nobody : Listed
 nobody = record { address = record { 0 = 0 }; capability = record { 0 = 0 } }
@@ -92,8 +92,8 @@ abbrev pub places_at : Queues → ℕ → List Packet
 places_at qs i = take places (drop (places * i) qs.packets)
 
 -- the packets in the queue of station i
-abbrev pub queueAt : Queues → ℕ → List Packet
-queueAt qs i = take (get_or qs.lengths i 0) (places_at qs i)
+abbrev pub queue_at : Queues → ℕ → List Packet
+queue_at qs i = take (get_or qs.lengths i 0) (places_at qs i)
 
 -- station i's place among the contenders: whether its bit is set, and what stands in the rows
 abbrev pub place_in : Recorded → ℕ → Contender
@@ -110,35 +110,35 @@ place_in r i =
           };
     }
 
-abbrev pub recordedAt : Segment → ℕ → Contender
-recordedAt g i = place_in (recordedIn g) i
+abbrev pub recorded_at : Segment → ℕ → Contender
+recorded_at g i = place_in (recorded_in g) i
 
 -- the offer of a station's place among the contenders
-abbrev pub offerOf : Contender → Option Machine.Offer
-offerOf c = cond c.contends (some (record { parameter = c.parameter; packet = c.packet })) none
+abbrev pub offer_of : Contender → Option Machine.Offer
+offer_of c = cond c.contends (some (record { parameter = c.parameter; packet = c.packet })) none
 
 -- station i, by its packets
-abbrev pub stationWith : Segment → ℕ → List Packet → Machine.Station
-stationWith g i queue =
+abbrev pub station_with : Segment → ℕ → List Packet → Machine.Station
+station_with g i queue =
     record {
       address = (get_or g.listed i nobody).address.0;
       capability = (get_or g.listed i nobody).capability.0;
       queue = queue;
-      offer = offerOf (recordedAt g i);
+      offer = offer_of (recorded_at g i);
     }
 
 -- station i
-abbrev pub stationAt : State → ℕ → Machine.Station
-stationAt s i = stationWith s.segment i (queueAt s.queues i)
+abbrev pub station_at : State → ℕ → Machine.Station
+station_at s i = station_with s.segment i (queue_at s.queues i)
 
 -- k values of f, from f i on
-abbrev pub valuesFrom : {X : Type 0} → (ℕ → X) → ℕ → ℕ → List X
-valuesFrom f i zero = []
-valuesFrom f i (suc k) = f i ∷ valuesFrom f (suc i) k
+abbrev pub values_from : {X : Type 0} → (ℕ → X) → ℕ → ℕ → List X
+values_from f i zero = []
+values_from f i (suc k) = f i ∷ values_from f (suc i) k
 
 -- the stations, in listed order
-abbrev pub stationsOf : State → List Machine.Station
-stationsOf s = valuesFrom (stationAt s) 0 s.segment.settings.n
+abbrev pub stations_of : State → List Machine.Station
+stations_of s = values_from (station_at s) 0 s.segment.settings.n
 
 -- the last winner of a round, if a circuit has won
 abbrev pub last_of : Round → Option ℕ
@@ -149,14 +149,14 @@ abbrev pub tie_of : Contention → Option ℕ
 tie_of c = cond c.tied (some c.tie) none
 
 -- the contention, if one is under way
-abbrev pub contentionOf : Contention → Option Machine.Contention
-contentionOf c = cond c.begun (some (record { window = c.window; tie = tie_of c })) none
+abbrev pub contention_of : Contention → Option Machine.Contention
+contention_of c = cond c.begun (some (record { window = c.window; tie = tie_of c })) none
 
 -- the bus of a segment with these stations
-abbrev pub busWith : Segment → List Machine.Station → Machine.Bus
-busWith g stations =
+abbrev pub bus_with : Segment → List Machine.Station → Machine.Bus
+bus_with g stations =
     record {
-      discipline = disciplineOf g.settings.discipline;
+      discipline = discipline_of g.settings.discipline;
       D = g.settings.d;
       A = g.settings.a;
       q = g.settings.q;
@@ -167,153 +167,153 @@ busWith g stations =
       lost = g.lost;
       turned = g.turned;
       last = last_of g.round;
-      contention = contentionOf g.contention;
+      contention = contention_of g.contention;
     }
 
 -- the bus that a state is, whatever stands in places that have no meaning
 abbrev pub meaning : State → Machine.Bus
-meaning s = busWith s.segment (stationsOf s)
+meaning s = bus_with s.segment (stations_of s)
 
 -- ---- from the machine to the state
 
 -- a row of n places, f i at place i
 unfoldable pub row : {X : Type 0} → ℕ → (ℕ → X) → List X
-row n f = valuesFrom f 0 n
+row n f = values_from f 0 n
 
 -- a station that is not there
-abbrev pub noStation : Machine.Station
-noStation = record { address = 0; capability = 0; queue = []; offer = none }
+abbrev pub no_station : Machine.Station
+no_station = record { address = 0; capability = 0; queue = []; offer = none }
 
 -- station i of a bus; one that is not there past its stations
-abbrev pub stationOr : Machine.Bus → ℕ → Machine.Station
-stationOr b i = get_or b.stations i noStation
+abbrev pub station_or : Machine.Bus → ℕ → Machine.Station
+station_or b i = get_or b.stations i no_station
 
 -- a station as it is listed, and its place among the contenders
-abbrev pub listedForm : Machine.Station → Listed
-listedForm s = record { address = record { 0 = s.address }; capability = record { 0 = s.capability } }
+abbrev pub listed_form : Machine.Station → Listed
+listed_form s = record { address = record { 0 = s.address }; capability = record { 0 = s.capability } }
 
-abbrev pub contenderForm : Option Machine.Offer → Contender
-contenderForm none = noContender
-contenderForm (some o) = record { contends = true; parameter = o.parameter; packet = o.packet }
+abbrev pub contender_form : Option Machine.Offer → Contender
+contender_form none = no_contender
+contender_form (some o) = record { contends = true; parameter = o.parameter; packet = o.packet }
 
 -- the contenders by their places: the word of those who contend, and the rows of what each has
 abbrev pub recorded : (ℕ → Contender) → Recorded
 recorded at =
     record {
-      word = word_of (λ i. (at i).contends) most-stations;
-      parameters = row most-stations (λ i. (at i).parameter);
-      numbers = row most-stations (λ i. (at i).packet.number);
-      values = row most-stations (λ i. (at i).packet.value);
-      lengths = row most-stations (λ i. (at i).packet.length);
-      admissions = row most-stations (λ i. (at i).packet.admission);
+      word = word_of (λ i. (at i).contends) most_stations;
+      parameters = row most_stations (λ i. (at i).parameter);
+      numbers = row most_stations (λ i. (at i).packet.number);
+      values = row most_stations (λ i. (at i).packet.value);
+      lengths = row most_stations (λ i. (at i).packet.length);
+      admissions = row most_stations (λ i. (at i).packet.admission);
     }
 
 -- the place among the contenders that station i of a bus has
-abbrev pub contenderIn : Machine.Bus → ℕ → Contender
-contenderIn b i = contenderForm (stationOr b i).offer
+abbrev pub contender_in : Machine.Bus → ℕ → Contender
+contender_in b i = contender_form (station_or b i).offer
 
 -- the round by its last winner, and the contention by its window and its tie value
-abbrev pub roundForm : Option ℕ → Round
-roundForm none = noRound
-roundForm (some c) = record { won = true; last = record { 0 = c } }
+abbrev pub round_form : Option ℕ → Round
+round_form none = no_round
+round_form (some c) = record { won = true; last = record { 0 = c } }
 
-abbrev pub tiedForm : Window → Option ℕ → Contention
-tiedForm w none = record { begun = true; window = w; tied = false; tie = 0 }
-tiedForm w (some v) = record { begun = true; window = w; tied = true; tie = v }
+abbrev pub tied_form : Window → Option ℕ → Contention
+tied_form w none = record { begun = true; window = w; tied = false; tie = 0 }
+tied_form w (some v) = record { begun = true; window = w; tied = true; tie = v }
 
-abbrev pub contentionForm : Option Machine.Contention → Contention
-contentionForm none = noContention
-contentionForm (some c) = tiedForm c.window c.tie
+abbrev pub contention_form : Option Machine.Contention → Contention
+contention_form none = no_contention
+contention_form (some c) = tied_form c.window c.tie
 
 -- the numbers of the set-up, all of the state but the queues, and the queues
-abbrev pub settingsForm : Machine.Bus → Settings
-settingsForm b = record { discipline = code b.discipline; d = b.D; a = b.A; q = b.q; n = length b.stations }
+abbrev pub settings_form : Machine.Bus → Settings
+settings_form b = record { discipline = code b.discipline; d = b.D; a = b.A; q = b.q; n = length b.stations }
 
-abbrev pub segmentForm : Machine.Bus → Segment
-segmentForm b =
+abbrev pub segment_form : Machine.Bus → Segment
+segment_form b =
     record {
-      settings = settingsForm b;
-      listed = row most-stations (λ i. listedForm (stationOr b i));
+      settings = settings_form b;
+      listed = row most_stations (λ i. listed_form (station_or b i));
       clock = record { 0 = b.clock };
       admitted = b.admitted;
       sent = b.sent;
       lost = b.lost;
       turned = b.turned;
-      round = roundForm b.last;
-      contention = contentionForm b.contention;
-      contenders = (recorded (contenderIn b)).word;
-      parameters = (recorded (contenderIn b)).parameters;
-      numbers = (recorded (contenderIn b)).numbers;
-      values = (recorded (contenderIn b)).values;
-      lengths = (recorded (contenderIn b)).lengths;
-      admissions = (recorded (contenderIn b)).admissions;
+      round = round_form b.last;
+      contention = contention_form b.contention;
+      contenders = (recorded (contender_in b)).word;
+      parameters = (recorded (contender_in b)).parameters;
+      numbers = (recorded (contender_in b)).numbers;
+      values = (recorded (contender_in b)).values;
+      lengths = (recorded (contender_in b)).lengths;
+      admissions = (recorded (contender_in b)).admissions;
     }
 
-abbrev pub queuesForm : Machine.Bus → Queues
-queuesForm b =
+abbrev pub queues_form : Machine.Bus → Queues
+queues_form b =
     record {
-      lengths = row most-stations (λ i. length (stationOr b i).queue);
-      packets = row (places * most-stations) (λ j. get_or (stationOr b (j / places)).queue (j % places) noPacket);
+      lengths = row most_stations (λ i. length (station_or b i).queue);
+      packets = row (places * most_stations) (λ j. get_or (station_or b (j / places)).queue (j % places) no_packet);
     }
 
 -- the state that a bus is held in
 abbrev pub form : Machine.Bus → State
-form b = record { segment = segmentForm b; queues = queuesForm b }
+form b = record { segment = segment_form b; queues = queues_form b }
 
 -- ---- 'What has no meaning is zero: places past a queue's end, stations past N, the last winner where there is none, the tie value
 -- outside the tie phase, the window and contenders between contentions.'
 
 -- a place that no packet fills
-abbrev pub no-packet : Packet → Bool
-no-packet p = eqb p.number 0 && eqb p.value 0 && eqb p.length 0 && eqb p.admission.0 0
+abbrev pub has_no_packet : Packet → Bool
+has_no_packet p = eqb p.number 0 && eqb p.value 0 && eqb p.length 0 && eqb p.admission.0 0
 
 -- a queue's length is within its sixteen places, and the places past its end are zero
-abbrev pub queue-padded : ℕ → List Packet → Bool
-queue-padded n packets = leb n places && each_of no-packet (drop n packets)
+abbrev pub queue_padded : ℕ → List Packet → Bool
+queue_padded n packets = leb n places && each_of has_no_packet (drop n packets)
 
 -- a place of a station that does not contend is zero
-abbrev pub contender-padded : Contender → Bool
-contender-padded c = c.contends || (eqb c.parameter 0 && no-packet c.packet)
+abbrev pub contender_padded : Contender → Bool
+contender_padded c = c.contends || (eqb c.parameter 0 && has_no_packet c.packet)
 
 -- the queue and the contender of station i have zeros where they should
-abbrev pub station-padded : State → ℕ → Bool
-station-padded s i =
-    queue-padded (get_or s.queues.lengths i 0) (places_at s.queues i)
-    && contender-padded (recordedAt s.segment i)
+abbrev pub station_padded : State → ℕ → Bool
+station_padded s i =
+    queue_padded (get_or s.queues.lengths i 0) (places_at s.queues i)
+    && contender_padded (recorded_at s.segment i)
 
 -- no station is listed at place i, none contends there, and its queue is empty
-abbrev pub no-station : State → ℕ → Bool
-no-station s i =
+abbrev pub has_no_station : State → ℕ → Bool
+has_no_station s i =
     eqb (get_or s.segment.listed i nobody).address.0 0
     && eqb (get_or s.segment.listed i nobody).capability.0 0
     && eqb (get_or s.queues.lengths i 0) 0
-    && not (recordedAt s.segment i).contends
+    && not (recorded_at s.segment i).contends
 
 -- whether the test holds for each of the k places from i on
-unfoldable pub each-place : (ℕ → Bool) → ℕ → ℕ → Bool
-each-place test i zero = true
-each-place test i (suc k) = test i && each-place test (suc i) k
+unfoldable pub each_place : (ℕ → Bool) → ℕ → ℕ → Bool
+each_place test i zero = true
+each_place test i (suc k) = test i && each_place test (suc i) k
 
 -- 'the last winner where there is none'
-abbrev pub round-padded : Round → Bool
-round-padded r = r.won || eqb r.last.0 0
+abbrev pub round_padded : Round → Bool
+round_padded r = r.won || eqb r.last.0 0
 
 -- no window
-abbrev pub no-window : Window → Bool
-no-window w = eqb w.start 0 && eqb w.size 0 && sameSide w.side Left
+abbrev pub no_window : Window → Bool
+no_window w = eqb w.start 0 && eqb w.size 0 && same_side w.side Left
 
 -- 'the tie value outside the tie phase, the window .. between contentions'
-abbrev pub contention-padded : Contention → Bool
-contention-padded c = (c.begun || (no-window c.window && not c.tied)) && (c.tied || eqb c.tie 0)
+abbrev pub contention_padded : Contention → Bool
+contention_padded c = (c.begun || (no_window c.window && not c.tied)) && (c.tied || eqb c.tie 0)
 
 -- The sentence whole, and that the discipline's number is one of the three. Each of the 64 places is tested, and those past N for a station too.
 abbrev pub padded : State → Bool
 padded s =
     leb s.segment.settings.discipline 2
-    && each-place (station-padded s) 0 most-stations
-    && each-place (no-station s) s.segment.settings.n (most-stations - s.segment.settings.n)
-    && round-padded s.segment.round
-    && contention-padded s.segment.contention
+    && each_place (station_padded s) 0 most_stations
+    && each_place (has_no_station s) s.segment.settings.n (most_stations - s.segment.settings.n)
+    && round_padded s.segment.round
+    && contention_padded s.segment.contention
 
 -- ---- the standing conditions of a lent state
 
@@ -322,5 +322,5 @@ standing s = padded s && stands (meaning s)
 
 -- ---- 'waiting is the number of packets in the queues': of the first n queues, by their lengths. A length above 16 counts as 16.
 
-abbrev pub waitingIn : List ℕ → ℕ → ℕ
-waitingIn lengths n = total (λ k. min k places) (take n lengths)
+abbrev pub waiting_in : List ℕ → ℕ → ℕ
+waiting_in lengths n = total (λ k. min k places) (take n lengths)

@@ -3,7 +3,7 @@
 ghost use Rattle.std.specs.Prelude.{◌≡◌};
 ghost use Rattle.rules.specs.Bus.{nothing};
 ghost use Rattle.state.specs.State.{form};
-ghost use Rattle.state.specs.SetUp.{settingsRefusal, codedSetUp, setUpResult, requestOf};
+ghost use Rattle.state.specs.SetUp.{settings_refusal, coded_set_up, set_up_result, request_of};
 
 use rules::{Packet, Slot, Verdict};
 use sorts::{Address, Capability};
@@ -148,7 +148,7 @@ pub fn all_zero() -> State
 
 // 2 to 6 of a set-up's numbers, before its stations are known; 0 for none.
 pub fn settings_refusal(settings: Settings) -> u32
-    ensures { result ≡ settingsRefusal settings }
+    ensures { result ≡ settings_refusal settings }
 {
     let verdict = stations::settings_verdict(settings, stations::MOST_STATIONS);
     verdict.refusal
@@ -156,7 +156,7 @@ pub fn settings_refusal(settings: Settings) -> u32
 
 // 'Set-up tries 2 to 6, then the stations in turn, each 7 to 10. A refused set-up hands back its number and an all-zero state.'
 pub fn set_up(settings: Settings, row: Row) -> SetUp
-    ensures { result ≡ setUpResult (codedSetUp (requestOf settings row)) }
+    ensures { result ≡ set_up_result (coded_set_up (request_of settings row)) }
 {
     let stations = row.stations;
     let length = row.length;

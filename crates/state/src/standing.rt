@@ -1,10 +1,10 @@
 // The standing conditions: what refusal 1 goes by.
 ghost use Rattle.std.specs.Prelude.{◌+◌, ◌≤◌, min, ◌≡◌, cond, eqb, ltb, drop, take};
 ghost use Rattle.rules.specs.Lists.{each_of, some_of};
-ghost use Rattle.rules.specs.SetUp.{disciplineOf};
-ghost use Rattle.rules.specs.Standing.{packet-fits, rising, same-packet};
-ghost use Rattle.state.specs.State.{no-packet, no-window, standing, waitingIn};
-ghost use Rattle.state.specs.Parts.{packetsOf, no-contender, contenderSound, stationTest, nobodyTest, parameterFits, queuesSound, roundSound, contentionSound};
+ghost use Rattle.rules.specs.SetUp.{discipline_of};
+ghost use Rattle.rules.specs.Standing.{packet_fits, rising, same_packet};
+ghost use Rattle.state.specs.State.{has_no_packet, no_window, standing, waiting_in};
+ghost use Rattle.state.specs.Parts.{packets_of, has_no_contender, contender_sound, station_test, nobody_test, parameter_fits, queues_sound, round_sound, contention_sound};
 
 use crate::{
     Contender, Contention, Listed, Queue, Queues, Segment, Settings, State, numbers, stations,
@@ -19,7 +19,7 @@ pub const MOST_ADMITTED: u64 = 4_294_967_295;
 
 // Whether a place is one that no packet fills.
 fn no_packet(p: Packet) -> bool
-    ensures { result ≡ no-packet p }
+    ensures { result ≡ has_no_packet p }
 {
     if p.number != 0 {
         return false;
@@ -35,7 +35,7 @@ fn no_packet(p: Packet) -> bool
 
 // Whether a place is that of a station that does not contend.
 fn no_contender(c: Contender) -> bool
-    ensures { result ≡ no-contender c }
+    ensures { result ≡ has_no_contender c }
 {
     if c.contends {
         return false;
@@ -48,7 +48,7 @@ fn no_contender(c: Contender) -> bool
 
 // Whether two packets are one.
 fn same_packet(p: Packet, o: Packet) -> bool
-    ensures { result ≡ same-packet p o }
+    ensures { result ≡ same_packet p o }
 {
     if p.number != o.number {
         return false;
@@ -65,7 +65,7 @@ fn same_packet(p: Packet, o: Packet) -> bool
 // 'What has no meaning is zero: places past a queue's end'
 fn zero_past_end(queue: Queue) -> bool
     requires { queue.length ≤ 16 }
-    ensures { result ≡ each_of no-packet (drop queue.length queue.packets) }
+    ensures { result ≡ each_of has_no_packet (drop queue.length queue.packets) }
 {
     let length = queue.length;
     for j in length..16 {
@@ -80,7 +80,7 @@ fn zero_past_end(queue: Queue) -> bool
 // 'numbers from 1 to the admitted count and rising'
 fn rises(queue: Queue, admitted: u64) -> bool
     requires { queue.length ≤ 16 }
-    ensures { result ≡ rising 0 admitted (packetsOf queue) }
+    ensures { result ≡ rising 0 admitted (packets_of queue) }
 {
     let length = queue.length;
     let mut before = 0u32;
@@ -96,7 +96,7 @@ fn rises(queue: Queue, admitted: u64) -> bool
 
 // Whether a packet's value and length are in range, and its admission slot is not above the clock.
 fn packet_fits(discipline: u32, d: u32, clock: Slot, p: Packet) -> bool
-    ensures { result ≡ packet-fits (disciplineOf discipline) d clock.0 p }
+    ensures { result ≡ packet_fits (discipline_of discipline) d clock.0 p }
 {
     if !disciplines::value_fits(discipline, d, p.value) {
         return false;
@@ -110,7 +110,7 @@ fn packet_fits(discipline: u32, d: u32, clock: Slot, p: Packet) -> bool
 // 'values and lengths in range'; 'admission slot not above the clock'
 fn packets_fit(queue: Queue, discipline: u32, d: u32, clock: Slot) -> bool
     requires { queue.length ≤ 16 }
-    ensures { result ≡ each_of (packet-fits (disciplineOf discipline) d clock.0) (packetsOf queue) }
+    ensures { result ≡ each_of (packet_fits (discipline_of discipline) d clock.0) (packets_of queue) }
 {
     let length = queue.length;
     for j in 0..length {
@@ -125,7 +125,7 @@ fn packets_fit(queue: Queue, discipline: u32, d: u32, clock: Slot) -> bool
 // Whether a packet is one of a queue's.
 fn holds(queue: Queue, packet: Packet) -> bool
     requires { queue.length ≤ 16 }
-    ensures { result ≡ some_of (same-packet packet) (packetsOf queue) }
+    ensures { result ≡ some_of (same_packet packet) (packets_of queue) }
 {
     let length = queue.length;
     for j in 0..length {
@@ -139,7 +139,7 @@ fn holds(queue: Queue, packet: Packet) -> bool
 
 // 'in PRI and RTVC equal to priority or capability'
 fn parameter_fits(discipline: u32, capability: Capability, c: Contender) -> bool
-    ensures { result ≡ parameterFits (disciplineOf discipline) capability c }
+    ensures { result ≡ parameter_fits (discipline_of discipline) capability c }
 {
     if discipline == disciplines::PRI {
         return c.parameter == sorts::wide(c.packet.value);
@@ -154,7 +154,7 @@ fn parameter_fits(discipline: u32, capability: Capability, c: Contender) -> bool
 // place of a station that does not contend is zero, and none contends between contentions.
 fn contender_stands(settings: Settings, begun: bool, l: Listed, c: Contender, queue: Queue) -> bool
     requires { queue.length ≤ 16 }
-    ensures { result ≡ contenderSound settings begun l c (packetsOf queue) }
+    ensures { result ≡ contender_sound settings begun l c (packets_of queue) }
 {
     if !c.contends {
         return no_contender(c);
@@ -181,7 +181,7 @@ fn station_stands(
     c: Contender,
     queue: Queue,
 ) -> bool
-    ensures { result ≡ stationTest settings begun clock admitted l c queue }
+    ensures { result ≡ station_test settings begun clock admitted l c queue }
 {
     if 16 < queue.length {
         return false;
@@ -200,7 +200,7 @@ fn station_stands(
 
 // 'What has no meaning is zero: stations past N'
 fn nobody_at(l: Listed, c: Contender, queue: Queue) -> bool
-    ensures { result ≡ nobodyTest l c queue }
+    ensures { result ≡ nobody_test l c queue }
 {
     if !sorts::same_address(l.address, zeros::NOBODY.address) {
         return false;
@@ -228,7 +228,7 @@ fn place_stands(
     c: Contender,
     queue: Queue,
 ) -> bool
-    ensures { result ≡ cond (ltb i settings.n) (stationTest settings begun clock admitted l c queue) (nobodyTest l c queue) }
+    ensures { result ≡ cond (ltb i settings.n) (station_test settings begun clock admitted l c queue) (nobody_test l c queue) }
 {
     if i < settings.n {
         return station_stands(settings, begun, clock, admitted, l, c, queue);
@@ -248,7 +248,7 @@ fn at_most(n: usize, most: usize) -> usize
 
 // 'waiting is the number of packets in the queues', of the first n of them. A length above 16 counts as 16, and n above 64 as 64.
 pub fn waiting_in(lengths: [usize; 64], n: usize) -> usize
-    ensures { result ≡ waitingIn lengths n }
+    ensures { result ≡ waiting_in lengths n }
 {
     let count = at_most(n, 64);
     let mut sum = 0usize;
@@ -289,7 +289,7 @@ fn has_capability(listed: [Listed; 64], n: usize, capability: Capability) -> boo
 // 'a last winner only in RTVC and some station's capability'; without one the field is zero
 fn round_stands(g: Segment) -> bool
     requires { g.settings.n ≤ 64 }
-    ensures { result ≡ roundSound g }
+    ensures { result ≡ round_sound g }
 {
     let round = g.round;
     let settings = g.settings;
@@ -305,7 +305,7 @@ fn round_stands(g: Segment) -> bool
 
 // Whether this is no window: 'the window .. between contentions' is zero.
 fn no_window(w: Window) -> bool
-    ensures { result ≡ no-window w }
+    ensures { result ≡ no_window w }
 {
     if w.start != 0 {
         return false;
@@ -322,7 +322,7 @@ fn no_window(w: Window) -> bool
 
 // 'during a contention a window ..., tie value below D'; 'the tie value outside the tie phase, the window .. between contentions' are zero
 fn contention_stands(settings: Settings, c: Contention) -> bool
-    ensures { result ≡ contentionSound settings c }
+    ensures { result ≡ contention_sound settings c }
 {
     if !c.begun {
         if c.tied {
@@ -350,7 +350,7 @@ fn contention_stands(settings: Settings, c: Contention) -> bool
 // the loop itself: a call copies the whole row. Those of places past a queue's end are written over by the next station's.
 fn queues_stand(g: Segment, queues: Queues) -> bool
     requires { g.settings.n ≤ 64 }
-    ensures { result ≡ queuesSound g queues }
+    ensures { result ≡ queues_sound g queues }
 {
     let settings = g.settings;
     let contention = g.contention;

@@ -1,11 +1,11 @@
 // The stations of a set-up: refusals 2 to 6 of its numbers, then 7 to 10 of each station in turn; and the state that it gives.
 ghost use Rattle.std.specs.Prelude.{◌≤◌, min, ◌≡◌, ◌||◌, cond, List, [], map, ltb, eqb, length, get_or, take};
 ghost use Rattle.rules.specs.Lists.{outside, first_of};
-ghost use Rattle.rules.specs.Bus.{most-stations, least-space, most-space};
-ghost use Rattle.rules.specs.SetUp.{Asked, fine, step-outside, capability-outside, settingsTests, stationTests, rowTests, setUpVerdict};
+ghost use Rattle.rules.specs.Bus.{most_stations, least_space, most_space};
+ghost use Rattle.rules.specs.SetUp.{Asked, fine, step_outside, capability_outside, settings_tests, station_tests, row_tests, set_up_verdict};
 ghost use Rattle.state.specs.State.{nobody, row};
-ghost use Rattle.state.specs.SetUp.{asked_of, requestWith};
-ghost use Rattle.state.specs.Parts.{Addresses, Capabilities, number_of, shared, freshState};
+ghost use Rattle.state.specs.SetUp.{asked_of, request_with};
+ghost use Rattle.state.specs.Parts.{Addresses, Capabilities, number_of, shared, fresh_state};
 
 use crate::{Compared, Listed, Queues, Segment, Settings, State, zeros};
 use rules::{Slot, Verdict};
@@ -24,7 +24,7 @@ const MOST_STEP: u32 = 65_535;
 
 // Whether a space is outside its range.
 fn space_outside(space: u32) -> bool
-    ensures { result ≡ outside least-space most-space space }
+    ensures { result ≡ outside least_space most_space space }
 {
     if space < LEAST_SPACE {
         return true;
@@ -34,7 +34,7 @@ fn space_outside(space: u32) -> bool
 
 // 'RTDG: 1 to 65,535; otherwise exactly 1'
 fn step_outside(discipline: u32, q: u32) -> bool
-    ensures { result ≡ step-outside discipline q }
+    ensures { result ≡ step_outside discipline q }
 {
     if discipline == disciplines::RTDG {
         if q < 1 {
@@ -47,7 +47,7 @@ fn step_outside(discipline: u32, q: u32) -> bool
 
 // 'stations N: 1 to 64', of a row with this many of its 64 places filled. 'A station row shorter than N gives 6.'
 fn count_outside(n: usize, count: usize) -> bool
-    ensures { result ≡ (outside 1 most-stations n || ltb (min count most-stations) n) }
+    ensures { result ≡ (outside 1 most_stations n || ltb (min count most_stations) n) }
 {
     if n < 1 {
         return true;
@@ -67,7 +67,7 @@ fn fault(refusal: u32, station: usize) -> Verdict
 
 // 2 to 6, of such a row.
 pub fn settings_verdict(settings: Settings, count: usize) -> Verdict
-    ensures { (row : List Asked) → length row ≡ min count most-stations → result ≡ first_of fine (settingsTests (requestWith settings row)) }
+    ensures { (row : List Asked) → length row ≡ min count most_stations → result ≡ first_of fine (settings_tests (request_with settings row)) }
 {
     if 2 < settings.discipline {
         return fault(2, 0);
@@ -109,7 +109,7 @@ fn earlier_same(compared: Compared, already: bool, s: Listed, t: Listed) -> bool
 
 // 'RTVC: 0 to D - 1, distinct; otherwise 0'
 fn capability_outside(discipline: u32, d: u32, capability: Capability) -> bool
-    ensures { result ≡ capability-outside discipline d capability.0 }
+    ensures { result ≡ capability_outside discipline d capability.0 }
 {
     if discipline == disciplines::RTVC {
         return sorts::capability_past(d, capability);
@@ -125,7 +125,7 @@ fn station_verdict(
     address: bool,
     capability: bool,
 ) -> Verdict
-    ensures { (earlier : List Listed) → address ≡ shared Addresses s earlier → capability ≡ shared Capabilities s earlier → result ≡ first_of fine (stationTests (requestWith settings []) i (map asked_of earlier) (asked_of s)) }
+    ensures { (earlier : List Listed) → address ≡ shared Addresses s earlier → capability ≡ shared Capabilities s earlier → result ≡ first_of fine (station_tests (request_with settings []) i (map asked_of earlier) (asked_of s)) }
 {
     if sorts::address_past(settings.a, s.address) {
         return fault(7, i);
@@ -148,7 +148,7 @@ fn station_verdict(
 // 'the first faulty station in the listed order decides'. The earlier stations are gone through in the loop itself: a call copies the row.
 fn first_faulty(settings: Settings, stations: [Listed; 64]) -> Verdict
     requires { settings.n ≤ 64 }
-    ensures { result ≡ first_of fine (rowTests (requestWith settings []) 0 [] (map asked_of (take settings.n stations))) }
+    ensures { result ≡ first_of fine (row_tests (request_with settings []) 0 [] (map asked_of (take settings.n stations))) }
 {
     let n = settings.n;
     for i in 0..n {
@@ -170,7 +170,7 @@ fn first_faulty(settings: Settings, stations: [Listed; 64]) -> Verdict
 
 // 'Set-up tries 2 to 6, then the stations in turn, each 7 to 10', of a row of this length.
 pub fn verdict(settings: Settings, stations: [Listed; 64], length: usize) -> Verdict
-    ensures { result ≡ setUpVerdict (requestWith settings (map asked_of (take length stations))) }
+    ensures { result ≡ set_up_verdict (request_with settings (map asked_of (take length stations))) }
 {
     let v = settings_verdict(settings, length);
     if v.refusal != 0 {
@@ -193,7 +193,7 @@ pub fn up_to(stations: [Listed; 64], n: usize) -> [Listed; 64]
 
 // A state with these stations: slot 0, empty queues, no contention, no circuit has won.
 pub fn fresh(settings: Settings, listed: [Listed; 64]) -> State
-    ensures { result ≡ freshState settings listed }
+    ensures { result ≡ fresh_state settings listed }
 {
     let parameters = [0u64; 64];
     let none = [0u32; 64];

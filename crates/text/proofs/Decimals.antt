@@ -10,11 +10,11 @@ use native.Mathlib.Omega.{arith}
 use borrow.Author.Tests.{lt-ltb, le-ltb, ltb-true}
 use lib.Dec.{ltb}
 use lib.ListN.{length, length-append}
-use Rattle.text.specs.Text.{digit, decimalIn, decimal}
+use Rattle.text.specs.Text.{digit, decimal_in, decimal}
 
 -- p is 10 ^ k for the k that has a number n below ten times it and, unless it is 1, not below it
-abbrev pub powerFor : ℕ → ℕ → Type 0
-powerFor n p = (k : ℕ) × (p ≡ 10 ^ k) × (n / 10 < p) × ((k ≡ 0) ⊎ (p ≤ n))
+abbrev pub power_for : ℕ → ℕ → Type 0
+power_for n p = (k : ℕ) × (p ≡ 10 ^ k) × (n / 10 < p) × ((k ≡ 0) ⊎ (p ≤ n))
 
 -- ---- digits from the highest place down
 
@@ -34,11 +34,11 @@ digits_last (suc k) n =
 
 -- what a turn gives, by whether the number is below ten
 abbrev turned : ℕ → ℕ → Bool → List ℕ
-turned turns n small = cond small (digit n ∷ []) (decimalIn turns (n / 10) ++ (digit (n % 10) ∷ []))
+turned turns n small = cond small (digit n ∷ []) (decimal_in turns (n / 10) ++ (digit (n % 10) ∷ []))
 
 -- enough turns give the digits from the highest that is not 0, or the only one, down
 turns-digits :
-    (turns k n : ℕ) → n < turns → n / 10 < 10 ^ k → (k ≡ 0) ⊎ (10 ^ k ≤ n) → decimalIn turns n ≡ digits (suc k) n
+    (turns k n : ℕ) → n < turns → n / 10 < 10 ^ k → (k ≡ 0) ⊎ (10 ^ k ≤ n) → decimal_in turns n ≡ digits (suc k) n
 turns-digits zero k n l below above = absurd (omega arith)
 turns-digits (suc turns) zero n l below above =
     ap (turned turns n) (lt-ltb n 10 (omega arith))
@@ -52,58 +52,58 @@ turns-digits (suc turns) (suc k) n l below above =
     ∙ digits_last (suc k) n
 
 -- a number in decimal is its digits from the place of its highest power of ten down
-pub decimal-digits : (n p : ℕ) (h : powerFor n p) → decimal n ≡ digits (suc h.0) n
+pub decimal-digits : (n p : ℕ) (h : power_for n p) → decimal n ≡ digits (suc h.0) n
 unfolding decimal
 decimal-digits n p h = turns-digits (suc n) h.0 n (omega arith) (rw h.1 at h.2) (rw h.1 at h.3)
 
 -- ---- how many digits
 
 -- there are as many digits as places
-digits-length : (k n : ℕ) → length (digits k n) ≡ k
-digits-length zero n = refl
-digits-length (suc k) n = ap suc (digits-length k n)
+digits_length : (k n : ℕ) → length (digits k n) ≡ k
+digits_length zero n = refl
+digits_length (suc k) n = ap suc (digits_length k n)
 
 -- a number has a digit for each place up to that of its highest power of ten
-pub power-length : (n p : ℕ) (h : powerFor n p) → length (decimal n) ≡ suc h.0
-power-length n p h = ap length (decimal-digits n p h) ∙ digits-length (suc h.0) n
+pub power_length : (n p : ℕ) (h : power_for n p) → length (decimal n) ≡ suc h.0
+power_length n p h = ap length (decimal-digits n p h) ∙ digits_length (suc h.0) n
 
 -- any turns give the digits at as many places as they are
-turns-places : (turns n : ℕ) → decimalIn turns n ≡ digits (length (decimalIn turns n)) n
-turns-places zero n = refl
-turns-places (suc turns) n = go (ltb n 10) refl (turns-places turns (n / 10))
+turns_places : (turns n : ℕ) → decimal_in turns n ≡ digits (length (decimal_in turns n)) n
+turns_places zero n = refl
+turns_places (suc turns) n = go (ltb n 10) refl (turns_places turns (n / 10))
   where
-    go : (t : Bool) → ltb n 10 ≡ t → decimalIn turns (n / 10) ≡ digits (length (decimalIn turns (n / 10))) (n / 10)
+    go : (t : Bool) → ltb n 10 ≡ t → decimal_in turns (n / 10) ≡ digits (length (decimal_in turns (n / 10))) (n / 10)
         → turned turns n t ≡ digits (length (turned turns n t)) n
     go true e more = ap (λ m. digit m ∷ []) (omega (arith, ltb-true, div-one n))
     go false e more =
-        let tenth = decimalIn turns (n / 10) in
+        let tenth = decimal_in turns (n / 10) in
         ap (λ (l : List ℕ). l ++ (digit (n % 10) ∷ [])) more
         ∙ digits_last (length tenth) n
         ∙ ap (λ k. digits k n) (sym (length-append tenth (digit (n % 10) ∷ []) ∙ add-one (length tenth)))
 
 -- a number in decimal is its digits at as many places as they are
-pub decimal-places : (n : ℕ) → decimal n ≡ digits (length (decimal n)) n
+pub decimal_places : (n : ℕ) → decimal n ≡ digits (length (decimal n)) n
 unfolding decimal
-decimal-places n = turns-places (suc n) n
+decimal_places n = turns_places (suc n) n
 
 -- any turns give no more digits than the power of ten above the number tells
-turns-length : (turns k n : ℕ) → n < 10 ^ suc k → length (decimalIn turns n) ≤ suc k
-turns-length zero k n h = omega arith
-turns-length (suc turns) zero n h = let small = lt-ltb n 10 (omega arith) in rw small (omega arith)
-turns-length (suc turns) (suc k) n h = go (ltb n 10) (turns-length turns k (n / 10) (omega (arith, pow-suc 10 (suc k))))
+turns_length : (turns k n : ℕ) → n < 10 ^ suc k → length (decimal_in turns n) ≤ suc k
+turns_length zero k n h = omega arith
+turns_length (suc turns) zero n h = let small = lt-ltb n 10 (omega arith) in rw small (omega arith)
+turns_length (suc turns) (suc k) n h = go (ltb n 10) (turns_length turns k (n / 10) (omega (arith, pow-suc 10 (suc k))))
   where
-    go : (t : Bool) → length (decimalIn turns (n / 10)) ≤ suc k → length (turned turns n t) ≤ suc (suc k)
+    go : (t : Bool) → length (decimal_in turns (n / 10)) ≤ suc k → length (turned turns n t) ≤ suc (suc k)
     go true few = omega arith
-    go false few = omega (arith, length-append (decimalIn turns (n / 10)) (digit (n % 10) ∷ []))
+    go false few = omega (arith, length-append (decimal_in turns (n / 10)) (digit (n % 10) ∷ []))
 
 -- a number below 10 ^ (k + 1) has no more than k + 1 digits
-pub decimal-length : (k n : ℕ) → n < 10 ^ suc k → length (decimal n) ≤ suc k
+pub decimal_length : (k n : ℕ) → n < 10 ^ suc k → length (decimal n) ≤ suc k
 unfolding decimal
-decimal-length k n = turns-length (suc n) k n
+decimal_length k n = turns_length (suc n) k n
 
 -- one below 2 ^ 32 no more than ten, and one below 2 ^ 64 no more than twenty
-pub decimal-short : (n : ℕ) → n < 2 ^ 32 → length (decimal n) ≤ 10
-decimal-short n h = decimal-length 9 n (omega arith)
+pub decimal_short : (n : ℕ) → n < 2 ^ 32 → length (decimal n) ≤ 10
+decimal_short n h = decimal_length 9 n (omega arith)
 
-pub decimal-long : (n : ℕ) → n < 2 ^ 64 → length (decimal n) ≤ 20
-decimal-long n h = decimal-length 19 n (omega arith)
+pub decimal_long : (n : ℕ) → n < 2 ^ 64 → length (decimal n) ≤ 20
+decimal_long n h = decimal_length 19 n (omega arith)

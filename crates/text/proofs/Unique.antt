@@ -8,29 +8,29 @@ use Rattle.text.proofs.spaces.Reads as spaces
 use Rattle.text.proofs.digits_of.Reads as digits_of
 use Rattle.text.proofs.number.Reads as number
 
-pub put-determined : Determines put.Learnt
-put-determined κs args r r' end end' p q = unique p.0 q.0
+pub put_determined : Determines put.Learnt
+put_determined κs args r r' end end' p q = unique p.0 q.0
 
-pub put-room-determined : DeterminesBytes put.Learnt (λ κs end. end.0.now)
-put-room-determined κs args r r' end end' p q = unique p.1 q.1
+pub put_room_determined : DeterminesBytes put.Learnt (λ κs end. end.0.now)
+put_room_determined κs args r r' end end' p q = unique p.1 q.1
 
-pub letters-determined : Determines letters.Learnt
-letters-determined κs args r r' end end' p q = unique p.0 q.0
+pub letters_determined : Determines letters.Learnt
+letters_determined κs args r r' end end' p q = unique p.0 q.0
 
-pub letters-room-determined : DeterminesBytes letters.Learnt (λ κs end. end.0.now)
-letters-room-determined κs args r r' end end' p q = unique p.1 q.1
+pub letters_room_determined : DeterminesBytes letters.Learnt (λ κs end. end.0.now)
+letters_room_determined κs args r r' end end' p q = unique p.1 q.1
 
-pub spaces-determined : Determines spaces.Learnt
-spaces-determined κs args r r' end end' p q = unique p.0 q.0
+pub spaces_determined : Determines spaces.Learnt
+spaces_determined κs args r r' end end' p q = unique p.0 q.0
 
-pub spaces-room-determined : DeterminesBytes spaces.Learnt (λ κs end. end.0.now)
-spaces-room-determined κs args r r' end end' p q = unique p.1 q.1
+pub spaces_room_determined : DeterminesBytes spaces.Learnt (λ κs end. end.0.now)
+spaces_room_determined κs args r r' end end' p q = unique p.1 q.1
 
-pub digits-of-determined : Determines digits_of.Learnt
-digits-of-determined κs args r r' end end' = unique
+pub digits_of_determined : Determines digits_of.Learnt
+digits_of_determined κs args r r' end end' = unique
 
-pub number-determined : Determines number.Learnt
-number-determined κs args r r' end end' p q = unique p.0 q.0
+pub number_determined : Determines number.Learnt
+number_determined κs args r r' end end' p q = unique p.0 q.0
 
-pub number-room-determined : DeterminesBytes number.Learnt (λ κs end. end.0.now)
-number-room-determined κs args r r' end end' p q = unique p.1 q.1
+pub number_room_determined : DeterminesBytes number.Learnt (λ κs end. end.0.now)
+number_room_determined κs args r r' end end' p q = unique p.1 q.1

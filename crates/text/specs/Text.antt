@@ -21,12 +21,12 @@ abbrev pub digit : ℕ → ℕ
 digit d = 48 + d
 
 -- a number in decimal, its last digit last; each turn takes off a digit, so that as many turns as the number says are enough
-abbrev pub decimalIn : ℕ → ℕ → List ℕ
-decimalIn zero n = []
-decimalIn (suc turns) n = cond (ltb n 10) (digit n ∷ []) (decimalIn turns (n / 10) ++ (digit (n % 10) ∷ []))
+abbrev pub decimal_in : ℕ → ℕ → List ℕ
+decimal_in zero n = []
+decimal_in (suc turns) n = cond (ltb n 10) (digit n ∷ []) (decimal_in turns (n / 10) ++ (digit (n % 10) ∷ []))
 
 unfoldable pub decimal : ℕ → List ℕ
-decimal n = decimalIn (suc n) n
+decimal n = decimal_in (suc n) n
 
 -- ---- fields and lines
 

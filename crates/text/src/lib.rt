@@ -1,14 +1,14 @@
 // Bytes of text in room that is lent. Each function that writes stores its text from an offset on and hands out the offset past it; a text
 // that does not fit is not stored at all, and the offset comes back as it was. Every function takes any input.
 ghost use Rattle.std.specs.Prelude.{◌+◌, ◌<◌, ◌≡◌, [], ◌∷◌, leb, length, replicate};
-ghost use Rattle.text.specs.Text.{digit as digitOf, decimal, space};
-ghost use Rattle.text.specs.Room.{room-bytes, stored, past};
+ghost use Rattle.text.specs.Text.{digit as digit_of, decimal, space};
+ghost use Rattle.text.specs.Room.{room_bytes, stored, past};
 
 const ROOM_BYTES: usize = 65_536;
 
 // Whether the room has so many bytes from an offset on.
 fn has_room(at: usize, count: usize) -> bool
-    ensures { result ≡ leb (at + count) room-bytes }
+    ensures { result ≡ leb (at + count) room_bytes }
 {
     if at > ROOM_BYTES {
         return false;
@@ -77,7 +77,7 @@ pub fn digits_of(n: u64) -> usize
 // The ASCII code of a digit.
 fn digit(d: u64) -> u8
     requires { d < 10 }
-    ensures { result ≡ digitOf d }
+    ensures { result ≡ digit_of d }
 {
     48 + d as u8
 }

@@ -6,67 +6,67 @@ use mathlib.Core.Path.{◌≡◌}
 use mathlib.Core.Bool.{Bool, true, false, ◌&&◌, ◌||◌}
 use Rattle.window.specs.declared.Side.TheVariants.{Left}
 use Rattle.window.specs.declared.Window.{Window}
-use Rattle.window.specs.Splitting.{exponentOf, firstWindow, left_half, halved, moveRight, movedRight, inWindow, isPower, placed, Placed}
+use Rattle.window.specs.Splitting.{exponent_of, first_window, left_half, halved, move_right, moved_right, in_window, is_power, placed, Placed}
 use Rattle.window.proofs.Facts as Facts
 
 -- ---- 'The first window of a space is rounded up to the nearest power of two': it covers the space, and no smaller power of two does
 
-pub covers : (space : ℕ) → space ≤ 2 ^ 32 → space ≤ (firstWindow space).size
+pub covers : (space : ℕ) → space ≤ 2 ^ 32 → space ≤ (first_window space).size
 covers = Facts.covers
 
-pub least : (space k : ℕ) → space ≤ 2 ^ 32 → space ≤ 2 ^ k → exponentOf space ≤ k
+pub least : (space k : ℕ) → space ≤ 2 ^ 32 → space ≤ 2 ^ k → exponent_of space ≤ k
 least = Facts.least
 
 -- ---- 'L and M are the numbers of halvings that take the first windows of D and A down to size 1'
 
-pub halvings : (space : ℕ) → (halved (exponentOf space) (firstWindow space)).size ≡ 1
+pub halvings : (space : ℕ) → (halved (exponent_of space) (first_window space)).size ≡ 1
 halvings = Facts.halvings
 
 -- ---- what lies in a window
 
-pub in_window : (w : Window) (n : ℕ) → inWindow w n ≡ true → (w.start ≤ n) × (n < w.start + w.size)
-in_window = Facts.in_window
+pub in_window_bounds : (w : Window) (n : ℕ) → in_window w n ≡ true → (w.start ≤ n) × (n < w.start + w.size)
+in_window_bounds = Facts.in_window_bounds
 
-pub in-window-test : (w : Window) (n : ℕ) → w.start ≤ n → n < w.start + w.size → inWindow w n ≡ true
-in-window-test = Facts.in-window-test
+pub in_window_test : (w : Window) (n : ℕ) → w.start ≤ n → n < w.start + w.size → in_window w n ≡ true
+in_window_test = Facts.in_window_test
 
 -- a number is in a window of even size exactly where it is in its left half or in that half moved right, and never in both
-pub halves : (w : Window) (h n : ℕ) → w.size ≡ 2 * h → inWindow w n ≡ (inWindow (left_half w) n || inWindow (moveRight (left_half w)) n)
+pub halves : (w : Window) (h n : ℕ) → w.size ≡ 2 * h → in_window w n ≡ (in_window (left_half w) n || in_window (move_right (left_half w)) n)
 halves = Facts.halves
 
-pub halves-apart : (w : Window) (h n : ℕ) → w.size ≡ 2 * h → (inWindow (left_half w) n && inWindow (moveRight (left_half w)) n) ≡ false
-halves-apart = Facts.halves-apart
+pub halves_apart : (w : Window) (h n : ℕ) → w.size ≡ 2 * h → (in_window (left_half w) n && in_window (move_right (left_half w)) n) ≡ false
+halves_apart = Facts.halves_apart
 
 -- ---- 'a count of ones tests that a lent window size is a power of two': it accepts those, and no other
 
-pub power-level : (n : ℕ) → isPower n ≡ true → (k : ℕ) × (n ≡ 2 ^ k)
-power-level = Facts.power-level
+pub power_level : (n : ℕ) → is_power n ≡ true → (k : ℕ) × (n ≡ 2 ^ k)
+power_level = Facts.power_level
 
-pub power-test : (k : ℕ) → isPower (2 ^ k) ≡ true
-power-test = Facts.power-test
+pub power_test : (k : ℕ) → is_power (2 ^ k) ≡ true
+power_test = Facts.power_test
 
 -- ---- a lent window passes the test exactly when it keeps the conditions; it lies inside the first window
 
-pub placed-view : (space : ℕ) (w : Window) → placed space w ≡ true → Placed space w
-placed-view = Facts.placed-view
+pub placed_view : (space : ℕ) (w : Window) → placed space w ≡ true → Placed space w
+placed_view = Facts.placed_view
 
-pub placed-test : (space : ℕ) (w : Window) → Placed space w → placed space w ≡ true
-placed-test = Facts.placed-test
+pub placed_test : (space : ℕ) (w : Window) → Placed space w → placed space w ≡ true
+placed_test = Facts.placed_test
 
-pub placed-inside : (space : ℕ) (w : Window) → placed space w ≡ true → w.start + w.size ≤ (firstWindow space).size
-placed-inside = Facts.placed-inside
+pub placed_inside : (space : ℕ) (w : Window) → placed space w ≡ true → w.start + w.size ≤ (first_window space).size
+placed_inside = Facts.placed_inside
 
 -- ---- the first window is placed, and so is what the moves make of a placed window
 
-pub placed_first : (space : ℕ) → placed space (firstWindow space) ≡ true
+pub placed_first : (space : ℕ) → placed space (first_window space) ≡ true
 placed_first = Facts.placed_first
 
-pub placed-left : (space : ℕ) (w : Window) → placed space w ≡ true → 2 ≤ w.size → placed space (left_half w) ≡ true
-placed-left = Facts.placed-left
+pub placed_left : (space : ℕ) (w : Window) → placed space w ≡ true → 2 ≤ w.size → placed space (left_half w) ≡ true
+placed_left = Facts.placed_left
 
-pub placed-right : (space : ℕ) (w : Window) → placed space w ≡ true → w.side ≡ Left → placed space (moveRight w) ≡ true
-placed-right = Facts.placed-right
+pub placed_right : (space : ℕ) (w : Window) → placed space w ≡ true → w.side ≡ Left → placed space (move_right w) ≡ true
+placed_right = Facts.placed_right
 
 -- a placed window never meets the end of 64 bits
-pub moved-right : (space : ℕ) (w : Window) → placed space w ≡ true → movedRight w ≡ moveRight w
-moved-right = Facts.moved-right
+pub moved_right_free : (space : ℕ) (w : Window) → placed space w ≡ true → moved_right w ≡ move_right w
+moved_right_free = Facts.moved_right_free

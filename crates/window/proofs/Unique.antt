@@ -6,7 +6,7 @@ use Rattle.window.proofs.exponent.Reads as exponent
 use Rattle.window.proofs.first_window.Reads as first-window
 use Rattle.window.proofs.left_half.Reads as left-half
 use Rattle.window.proofs.move_right.Reads as move-right
-use Rattle.window.proofs.in_window.Reads as in_window
+use Rattle.window.proofs.in_window_bounds.Reads as in_window_bounds
 use Rattle.window.proofs.is_power.Reads as is-power
 use Rattle.window.proofs.is_placed.Reads as is-placed
 
@@ -14,23 +14,23 @@ use Rattle.window.proofs.is_placed.Reads as is-placed
 pub unique {ℓ} : {A : Type ℓ} {x y z : A} → x ≡ z → y ≡ z → x ≡ y
 unique p q = p ∙ sym q
 
-pub exponent-determined : Determines exponent.Learnt
-exponent-determined κs args r r' end end' = unique
+pub exponent_determined : Determines exponent.Learnt
+exponent_determined κs args r r' end end' = unique
 
-pub first-window-determined : Determines first-window.Learnt
-first-window-determined κs args r r' end end' = unique
+pub first_window_determined : Determines first-window.Learnt
+first_window_determined κs args r r' end end' = unique
 
-pub left-half-determined : Determines left-half.Learnt
-left-half-determined κs args r r' end end' = unique
+pub left_half_determined : Determines left-half.Learnt
+left_half_determined κs args r r' end end' = unique
 
-pub move-right-determined : Determines move-right.Learnt
-move-right-determined κs args r r' end end' = unique
+pub move_right_determined : Determines move-right.Learnt
+move_right_determined κs args r r' end end' = unique
 
-pub in-window-determined : Determines in_window.Learnt
-in-window-determined κs args r r' end end' = unique
+pub in_window_determined : Determines in_window_bounds.Learnt
+in_window_determined κs args r r' end end' = unique
 
-pub is-power-determined : Determines is-power.Learnt
-is-power-determined κs args r r' end end' = unique
+pub is_power_determined : Determines is-power.Learnt
+is_power_determined κs args r r' end end' = unique
 
-pub is-placed-determined : Determines is-placed.Learnt
-is-placed-determined κs args r r' end end' = unique
+pub is_placed_determined : Determines is-placed.Learnt
+is_placed_determined κs args r r' end end' = unique

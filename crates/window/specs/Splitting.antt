@@ -2,7 +2,7 @@
 --
 -- A window is the numbers from `start` up to, but not with, `start + size`. Its side says which half of its parent it is; a
 -- first window, which has no parent, is called right (Figure 6, line 3). The records `Window` and `Side` are those of src/lib.rt.
--- Numbers here have no width. Where the code's have one, `movedRight` says what the code does at their end.
+-- Numbers here have no width. Where the code's have one, `moved_right` says what the code does at their end.
 -- Assumes nothing.
 use Rattle.std.specs.Prelude.{ℕ, zero, suc, ◌+◌, ◌-◌, ◌*◌, ◌/◌, ◌%◌, ◌^◌, ◌≤◌, ◌<◌, ◌≡◌, Bool, true, false, ◌&&◌, cond, leb, ltb, eqb}
 use Rattle.std.specs.Int.Count.{count_leading_zeros, ones}
@@ -12,13 +12,13 @@ use Rattle.window.specs.declared.Window.{Window}
 
 -- The exponent of a space: 'leading zeros of the space less one give the exponent'. It is also the number of halvings that
 -- take the space's first window down to size 1: paper 01's L for D, and M for A.
-unfoldable pub exponentOf : ℕ → ℕ
+unfoldable pub exponent_of : ℕ → ℕ
 unfolding count_leading_zeros
-exponentOf space = 32 - count_leading_zeros 32 (space - 1)
+exponent_of space = 32 - count_leading_zeros 32 (space - 1)
 
 -- 'The first window of a space is rounded up to the nearest power of two', start 0, side right. Figure 6, line 3.
-abbrev pub firstWindow : ℕ → Window
-firstWindow space = record { start = 0; size = 2 ^ exponentOf space; side = Right }
+abbrev pub first_window : ℕ → Window
+first_window space = record { start = 0; size = 2 ^ exponent_of space; side = Right }
 
 -- 'its left half, side left'. Figure 6, lines 20 and 21.
 abbrev pub left_half : Window → Window
@@ -30,43 +30,43 @@ halved zero w = w
 halved (suc k) w = halved k (left_half w)
 
 -- 'the window moves right by its size, side right'. Figure 6, lines 26 and 27.
-abbrev pub moveRight : Window → Window
-moveRight w = record { start = w.start + w.size; size = w.size; side = Right }
+abbrev pub move_right : Window → Window
+move_right w = record { start = w.start + w.size; size = w.size; side = Right }
 
 -- The same where a start is held in 64 bits: a window that reaches their end has nowhere to go, and stays.
-abbrev pub movedRight : Window → Window
-movedRight w = cond (ltb (w.start + w.size) (2 ^ 64)) (moveRight w) w
+abbrev pub moved_right : Window → Window
+moved_right w = cond (ltb (w.start + w.size) (2 ^ 64)) (move_right w) w
 
 -- Whether a number lies in a window. Figure 6, line 6.
-abbrev pub inWindow : Window → ℕ → Bool
-inWindow w n = leb w.start n && ltb n (w.start + w.size)
+abbrev pub in_window : Window → ℕ → Bool
+in_window w n = leb w.start n && ltb n (w.start + w.size)
 
 -- 'a count of ones tests that a lent window size is a power of two'
-unfoldable pub isPower : ℕ → Bool
+unfoldable pub is_power : ℕ → Bool
 unfolding ones
-isPower n = eqb (ones n) 1
+is_power n = eqb (ones n) 1
 
 -- 'otherwise left at an even multiple and right at an odd one'
-abbrev pub sideAt : ℕ → Side
-sideAt multiple = cond (eqb (multiple % 2) 0) Left Right
+abbrev pub side_at : ℕ → Side
+side_at multiple = cond (eqb (multiple % 2) 0) Left Right
 
 -- whether two sides are the same
-abbrev pub sameSide : Side → Side → Bool
-sameSide Left Left = true
-sameSide Left Right = false
-sameSide Right Left = false
-sameSide Right Right = true
+abbrev pub same_side : Side → Side → Bool
+same_side Left Left = true
+same_side Left Right = false
+same_side Right Left = false
+same_side Right Right = true
 
 -- Whether a lent window could have come from the first window of a space: 'a window whose size is a power of two, no larger than
 -- the first window, starting inside it at a multiple of the size, side right for the first window itself, otherwise left at an
 -- even multiple and right at an odd one'.
 abbrev pub placed : ℕ → Window → Bool
 placed space w =
-    isPower w.size
-    && leb w.size (firstWindow space).size
-    && ltb w.start (firstWindow space).size
+    is_power w.size
+    && leb w.size (first_window space).size
+    && ltb w.start (first_window space).size
     && eqb (w.start % w.size) 0
-    && sameSide w.side (cond (eqb w.size (firstWindow space).size) Right (sideAt (w.start / w.size)))
+    && same_side w.side (cond (eqb w.size (first_window space).size) Right (side_at (w.start / w.size)))
 
 -- the same as conditions: the window's level, the exponent of its size, and the multiple of its size at which it starts
 pub record Placed (space : ℕ) (w : Window) : Type 0 where
@@ -74,11 +74,11 @@ pub record Placed (space : ℕ) (w : Window) : Type 0 where
   pub level : ℕ
   pub size_is : w.size ≡ 2 ^ level
   -- 'no larger than the first window'
-  pub level-le : level ≤ exponentOf space
+  pub level_le : level ≤ exponent_of space
   -- 'at a multiple of the size'
   pub multiple : ℕ
   pub start_is : w.start ≡ multiple * 2 ^ level
   -- 'starting inside it'
-  pub start-in : w.start < 2 ^ exponentOf space
+  pub start_in : w.start < 2 ^ exponent_of space
   -- 'side right for the first window itself, otherwise left at an even multiple and right at an odd one'
-  pub side-is : w.side ≡ cond (eqb level (exponentOf space)) Right (sideAt multiple)
+  pub side_is : w.side ≡ cond (eqb level (exponent_of space)) Right (side_at multiple)

@@ -1,6 +1,6 @@
 // Windows and their moves: the splitting of report 90-127, Figure 6, for parameters and addresses alike.
 ghost use Rattle.std.specs.Prelude.{◌≡◌};
-ghost use Rattle.window.specs.Splitting.{exponentOf, firstWindow, left_half, movedRight, inWindow, isPower, placed, sameSide};
+ghost use Rattle.window.specs.Splitting.{exponent_of, first_window, left_half, moved_right, in_window, is_power, placed, same_side};
 
 // Which half of its parent a window is; the first window counts as right (Figure 6, line 3).
 #[derive(Drop)]
@@ -19,7 +19,7 @@ pub struct Window {
 
 // 'leading zeros of the space less one give the exponent'; that of space 0 is 0.
 pub fn exponent(space: u32) -> u32
-    ensures { result ≡ exponentOf space }
+    ensures { result ≡ exponent_of space }
 {
     if space == 0 {
         return 0;
@@ -29,7 +29,7 @@ pub fn exponent(space: u32) -> u32
 
 // The first window of a space: start 0, its size 'rounded up to the nearest power of two', side right (Figure 6, line 3).
 pub fn first_window(space: u32) -> Window
-    ensures { result ≡ firstWindow space }
+    ensures { result ≡ first_window space }
 {
     let e = exponent(space);
     Window {
@@ -52,7 +52,7 @@ pub fn left_half(w: Window) -> Window
 
 // The window moved right by its size, side right (Figure 6, lines 26 and 27); one that reaches the end of 64 bits stays.
 pub fn move_right(w: Window) -> Window
-    ensures { result ≡ movedRight w }
+    ensures { result ≡ moved_right w }
 {
     let start = w.start;
     let size = w.size;
@@ -68,8 +68,8 @@ pub fn move_right(w: Window) -> Window
 }
 
 // Whether a number lies in a window (Figure 6, line 6).
-pub fn in_window(w: Window, n: u64) -> bool
-    ensures { result ≡ inWindow w n }
+pub fn in_window_bounds(w: Window, n: u64) -> bool
+    ensures { result ≡ in_window w n }
 {
     if n < w.start {
         return false;
@@ -79,7 +79,7 @@ pub fn in_window(w: Window, n: u64) -> bool
 
 // 'a count of ones tests that a lent window size is a power of two'
 pub fn is_power(size: u64) -> bool
-    ensures { result ≡ isPower size }
+    ensures { result ≡ is_power size }
 {
     u64::count_ones(size) == 1
 }
@@ -116,7 +116,7 @@ pub fn is_placed(w: Window, space: u32) -> bool
 
 // Whether a side is the right one.
 fn is_right(side: Side) -> bool
-    ensures { result ≡ sameSide side Side.Right }
+    ensures { result ≡ same_side side Side.Right }
 {
     match side {
         Side::Left => false,

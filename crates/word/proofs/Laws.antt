@@ -18,7 +18,7 @@ use lib.Count.{ones, ones_step, count_trailing_zeros, trailing_le, under}
 use lib.Dec.{eqb, ltb}
 use lib.ListN.{length}
 use lib.Pow.{pow_pos, pow_mono, pow-add, high, shr-shr, shr_lt, mod-pow-add}
-use Rattle.word.specs.Word.{bits, bit_at, placed, placesFrom, members, bit_of, word_of, set_at, first_or, count_of, lowestOf}
+use Rattle.word.specs.Word.{bits, bit_at, placed, places_from, members, bit_of, word_of, set_at, first_or, count_of, lowest_of}
 
 -- ---- one digit
 
@@ -31,22 +31,22 @@ digit n = go (dec_le 1 (n % 2))
     go (no f) = inl (lt-one (lt_of_not-le f))
 
 -- a test is the digit that says it
-bit-of : (t : Bool) → eqb (bit_of t) 1 ≡ t
-bit-of true = refl
-bit-of false = refl
+bit_of_test : (t : Bool) → eqb (bit_of t) 1 ≡ t
+bit_of_test true = refl
+bit_of_test false = refl
 
 -- a digit is that of the test of it
-of-bit : (n : ℕ) → bit_of (eqb (n % 2) 1) ≡ n % 2
-of-bit n = go (digit n)
+of_bit : (n : ℕ) → bit_of (eqb (n % 2) 1) ≡ n % 2
+of_bit n = go (digit n)
   where
     go : (n % 2 ≡ 0) ⊎ (n % 2 ≡ 1) → bit_of (eqb (n % 2) 1) ≡ n % 2
     go (inl e) = rw e
     go (inr e) = rw e
 
 -- a digit of a test is below 2
-bit-lt : (t : Bool) → bit_of t < 2
-bit-lt true = omega arith
-bit-lt false = omega arith
+bit_lt : (t : Bool) → bit_of t < 2
+bit_lt true = omega arith
+bit_lt false = omega arith
 
 -- the next digit's place
 next : (w i : ℕ) → w / 2 ^ i / 2 ≡ w / 2 ^ suc i
@@ -80,7 +80,7 @@ low_digit a k r i h = ap (λ (n : ℕ). eqb (n % 2) 1) moved ∙ ap (λ (n : ℕ
 top_digit : (t : Bool) (k r : ℕ) → r < 2 ^ k → eqb ((r + bit_of t * 2 ^ k) / 2 ^ k % 2) 1 ≡ t
 top_digit t k r h =
     ap (λ (n : ℕ). eqb (n / 2 ^ k % 2) 1) (add_comm r (bit_of t * 2 ^ k)) ∙ ap (λ (n : ℕ). eqb (n % 2) 1) (high (bit_of t) k h)
-    ∙ ap (λ (n : ℕ). eqb n 1) (mod-eq_of_lt (bit-lt t)) ∙ bit-of t
+    ∙ ap (λ (n : ℕ). eqb n 1) (mod-eq_of_lt (bit_lt t)) ∙ bit_of_test t
 
 -- station i stands at bit i: the one law that opens `bit_at`, on which the others stand
 pub bit_word : (test : ℕ → Bool) (k i : ℕ) → i < k → bit_at (word_of test k) i ≡ test i
@@ -101,11 +101,11 @@ word_same f g (suc k) e =
     ap₂ (λ (x : ℕ) (t : Bool). x + bit_of t * 2 ^ k) (word_same f g k (λ i h. e i (omega arith))) (e k (le_refl (suc k)))
 
 -- the word of a number's first k digits is what 2 ^ k leaves of it
-word-digits : (k w : ℕ) → word_of (λ i. eqb (w / 2 ^ i % 2) 1) k ≡ w % 2 ^ k
+word_digits : (k w : ℕ) → word_of (λ i. eqb (w / 2 ^ i % 2) 1) k ≡ w % 2 ^ k
 unfolding word_of
-word-digits zero w = omega (arith, mod-lt w (pow_pos 0))
-word-digits (suc k) w =
-    ap₂ (λ (x y : ℕ). x + y * 2 ^ k) (word-digits k w) (of-bit (w / 2 ^ k)) ∙ add_comm (w % 2 ^ k) (w / 2 ^ k % 2 * 2 ^ k)
+word_digits zero w = omega (arith, mod-lt w (pow_pos 0))
+word_digits (suc k) w =
+    ap₂ (λ (x y : ℕ). x + y * 2 ^ k) (word_digits k w) (of_bit (w / 2 ^ k)) ∙ add_comm (w % 2 ^ k) (w / 2 ^ k % 2 * 2 ^ k)
     ∙ sym (ap (λ (n : ℕ). w % 2 ^ n) (sym (one-add k)) ∙ mod-pow-add w 1 k)
 
 -- a number is below its power
@@ -114,29 +114,29 @@ below_power zero = omega arith
 below_power (suc n) = omega (arith, below_power n, pow-suc 2 n)
 
 -- the bit at a place is the digit there
-bit-at : (w i : ℕ) → bit_at w i ≡ eqb (w / 2 ^ i % 2) 1
-bit-at w i =
-    ap (λ (n : ℕ). bit_at n i) (sym (word-digits (suc i + w) w ∙ mod-eq_of_lt (lt_of_lt_of_le (below_power w) (pow_mono (omega arith)))))
+bit_at_remainder : (w i : ℕ) → bit_at w i ≡ eqb (w / 2 ^ i % 2) 1
+bit_at_remainder w i =
+    ap (λ (n : ℕ). bit_at n i) (sym (word_digits (suc i + w) w ∙ mod-eq_of_lt (lt_of_lt_of_le (below_power w) (pow_mono (omega arith)))))
     ∙ bit_word (λ j. eqb (w / 2 ^ j % 2) 1) (suc i + w) i (omega arith)
 
-bit-digit : (w i : ℕ) → bit_of (bit_at w i) ≡ w / 2 ^ i % 2
-bit-digit w i = ap bit_of (bit-at w i) ∙ of-bit (w / 2 ^ i)
+bit_digit : (w i : ℕ) → bit_of (bit_at w i) ≡ w / 2 ^ i % 2
+bit_digit w i = ap bit_of (bit_at_remainder w i) ∙ of_bit (w / 2 ^ i)
 
 bit_is : (w i d : ℕ) → w / 2 ^ i % 2 ≡ d → bit_at w i ≡ eqb d 1
-bit_is w i d e = bit-at w i ∙ ap (λ (n : ℕ). eqb n 1) e
+bit_is w i d e = bit_at_remainder w i ∙ ap (λ (n : ℕ). eqb n 1) e
 
 pub bit_past : (k w i : ℕ) → w < 2 ^ k → k ≤ i → bit_at w i ≡ false
-bit_past k w i h l = bit-at w i ∙ ap (λ (n : ℕ). eqb (n % 2) 1) (div-eq_of_lt (lt_of_lt_of_le h (pow_mono l)))
+bit_past k w i h l = bit_at_remainder w i ∙ ap (λ (n : ℕ). eqb (n % 2) 1) (div-eq_of_lt (lt_of_lt_of_le h (pow_mono l)))
 
-pub word-bits : (k w : ℕ) → w < 2 ^ k → word_of (bit_at w) k ≡ w
-word-bits k w h = word_same (bit_at w) (λ i. eqb (w / 2 ^ i % 2) 1) k (λ i l. bit-at w i) ∙ word-digits k w ∙ mod-eq_of_lt h
+pub word_bits : (k w : ℕ) → w < 2 ^ k → word_of (bit_at w) k ≡ w
+word_bits k w h = word_same (bit_at w) (λ i. eqb (w / 2 ^ i % 2) 1) k (λ i l. bit_at_remainder w i) ∙ word_digits k w ∙ mod-eq_of_lt h
 
 pub same_bits : (k v w : ℕ) → v < 2 ^ k → w < 2 ^ k → ((i : ℕ) → i < k → bit_at v i ≡ bit_at w i) → v ≡ w
-same_bits k v w hv hw e = sym (word-bits k v hv) ∙ word_same (bit_at v) (bit_at w) k e ∙ word-bits k w hw
+same_bits k v w hv hw e = sym (word_bits k v hv) ∙ word_same (bit_at v) (bit_at w) k e ∙ word_bits k w hw
 
 -- a word of fewer bits, bit by bit
-pub bit-of-word : (f : ℕ → Bool) (k i : ℕ) → bit_at (word_of f k) i ≡ (ltb i k && f i)
-bit-of-word f k i = go (dec_le (suc i) k)
+pub bit_of_word : (f : ℕ → Bool) (k i : ℕ) → bit_at (word_of f k) i ≡ (ltb i k && f i)
+bit_of_word f k i = go (dec_le (suc i) k)
   where
     go : Dec (i < k) → bit_at (word_of f k) i ≡ (ltb i k && f i)
     go (yes l) = bit_word f k i l ∙ sym (ap (λ (t : Bool). t && f i) (lt-ltb i k l))
@@ -144,21 +144,21 @@ bit-of-word f k i = go (dec_le (suc i) k)
         let l : k ≤ i = omega (arith, lt_of_not-le n) in
         bit_past k (word_of f k) i (word_lt f k) l ∙ sym (ap (λ (t : Bool). t && f i) (le-ltb i k l))
 
-pub word-stays : (f : ℕ → Bool) (k : ℕ) → f k ≡ false → word_of f (suc k) ≡ word_of f k
+pub word_stays : (f : ℕ → Bool) (k : ℕ) → f k ≡ false → word_of f (suc k) ≡ word_of f k
 unfolding word_of
-word-stays f k e = ap (λ (t : Bool). word_of f k + bit_of t * 2 ^ k) e ∙ ap (λ (n : ℕ). word_of f k + n) (zero-mul (2 ^ k)) ∙ add-zero (word_of f k)
+word_stays f k e = ap (λ (t : Bool). word_of f k + bit_of t * 2 ^ k) e ∙ ap (λ (n : ℕ). word_of f k + n) (zero-mul (2 ^ k)) ∙ add-zero (word_of f k)
 
 pub word_none : (k : ℕ) → word_of (λ i. false) k ≡ 0
 unfolding word_of
 word_none zero = refl
-word_none (suc k) = word-stays (λ i. false) k refl ∙ word_none k
+word_none (suc k) = word_stays (λ i. false) k refl ∙ word_none k
 
-pub bit-none : (i : ℕ) → bit_at 0 i ≡ false
-bit-none i = bit_past 0 0 i (omega arith) (omega arith)
+pub bit_none : (i : ℕ) → bit_at 0 i ≡ false
+bit_none i = bit_past 0 0 i (omega arith) (omega arith)
 
 -- the word of a set place and of those before it
-set-next-in : (n : ℕ) (f : ℕ → Bool) (k : ℕ) → k < n → f k ≡ true → word_of (λ i. eqb i k || bit_at (word_of f k) i) n ≡ word_of f (suc k)
-set-next-in n f k h e =
+set_next_in : (n : ℕ) (f : ℕ → Bool) (k : ℕ) → k < n → f k ≡ true → word_of (λ i. eqb i k || bit_at (word_of f k) i) n ≡ word_of f (suc k)
+set_next_in n f k h e =
     same_bits n (word_of (λ i. eqb i k || bit_at (word_of f k) i) n) (word_of f (suc k)) (word_lt (λ i. eqb i k || bit_at (word_of f k) i) n)
     (lt_of_lt_of_le (word_lt f (suc k)) (pow_mono h))
     (λ i l. bit_word (λ i. eqb i k || bit_at (word_of f k) i) n i l ∙ go i (dec_le i k) (dec_le k i))
@@ -176,7 +176,7 @@ set-next-in n f k h e =
         ∙ sym (bit_past (suc k) (word_of f (suc k)) i (word_lt f (suc k)) l)
 
 pub set_next : (f : ℕ → Bool) (k : ℕ) → k < bits → f k ≡ true → set_at (word_of f k) k ≡ word_of f (suc k)
-set_next = set-next-in bits
+set_next = set_next_in bits
 
 -- ---- masks
 
@@ -186,16 +186,16 @@ module _ (op : ℕ → ℕ → ℕ) (on : Bool → Bool → Bool)
     (shr : (v w k : ℕ) → op v w / 2 ^ k ≡ op (v / 2 ^ k) (w / 2 ^ k))
     (rem : (v w k : ℕ) → op v w % 2 ^ k ≡ op (v % 2 ^ k) (w % 2 ^ k))
     (bound : (k v w : ℕ) → v < 2 ^ k → w < 2 ^ k → op v w < 2 ^ k) where
-  mask-bits : (v w i : ℕ) → bit_at (op v w) i ≡ on (bit_at v i) (bit_at w i)
-  mask-bits v w i =
-      bit-at (op v w) i ∙ ap (λ (n : ℕ). eqb (n % 2) 1) (shr v w i)
-      ∙ ap (λ (n : ℕ). eqb n 1) (rem (v / 2 ^ i) (w / 2 ^ i) 1 ∙ ap₂ op (sym (bit-digit v i)) (sym (bit-digit w i))) ∙ one (bit_at v i) (bit_at w i)
+  mask_bits : (v w i : ℕ) → bit_at (op v w) i ≡ on (bit_at v i) (bit_at w i)
+  mask_bits v w i =
+      bit_at_remainder (op v w) i ∙ ap (λ (n : ℕ). eqb (n % 2) 1) (shr v w i)
+      ∙ ap (λ (n : ℕ). eqb n 1) (rem (v / 2 ^ i) (w / 2 ^ i) 1 ∙ ap₂ op (sym (bit_digit v i)) (sym (bit_digit w i))) ∙ one (bit_at v i) (bit_at w i)
 
-  mask-of : (f g : ℕ → Bool) (k : ℕ) → op (word_of f k) (word_of g k) ≡ word_of (λ i. on (f i) (g i)) k
-  mask-of f g k =
+  mask_of : (f g : ℕ → Bool) (k : ℕ) → op (word_of f k) (word_of g k) ≡ word_of (λ i. on (f i) (g i)) k
+  mask_of f g k =
       same_bits k (op (word_of f k) (word_of g k)) (word_of (λ i. on (f i) (g i)) k)
       (bound k (word_of f k) (word_of g k) (word_lt f k) (word_lt g k)) (word_lt (λ i. on (f i) (g i)) k)
-      (λ i h. mask-bits (word_of f k) (word_of g k) i ∙ ap₂ on (bit_word f k i h) (bit_word g k i h) ∙ sym (bit_word (λ i. on (f i) (g i)) k i h))
+      (λ i h. mask_bits (word_of f k) (word_of g k) i ∙ ap₂ on (bit_word f k i h) (bit_word g k i h) ∙ sym (bit_word (λ i. on (f i) (g i)) k i h))
 
 -- `and` and `or` of two digits
 and_one : (s t : Bool) → eqb (bit_and (bit_of s) (bit_of t)) 1 ≡ (s && t)
@@ -204,26 +204,26 @@ and_one true false = refl
 and_one false true = refl
 and_one false false = refl
 
-or-one : (s t : Bool) → eqb (bit_or (bit_of s) (bit_of t)) 1 ≡ (s || t)
-or-one true true = refl
-or-one true false = refl
-or-one false true = refl
-or-one false false = refl
+or_one : (s t : Bool) → eqb (bit_or (bit_of s) (bit_of t)) 1 ≡ (s || t)
+or_one true true = refl
+or_one true false = refl
+or_one false true = refl
+or_one false false = refl
 
 pub both_bits : (v w i : ℕ) → bit_at (bit_and v w) i ≡ (bit_at v i && bit_at w i)
-both_bits = mask-bits bit_and ◌&&◌ and_one and_shr and_mod and_lt
+both_bits = mask_bits bit_and ◌&&◌ and_one and_shr and_mod and_lt
 
-pub either-bits : (v w i : ℕ) → bit_at (bit_or v w) i ≡ (bit_at v i || bit_at w i)
-either-bits = mask-bits bit_or ◌||◌ or-one or_shr or_mod or_lt
+pub either_bits : (v w i : ℕ) → bit_at (bit_or v w) i ≡ (bit_at v i || bit_at w i)
+either_bits = mask_bits bit_or ◌||◌ or_one or_shr or_mod or_lt
 
 pub both_of : (f g : ℕ → Bool) (k : ℕ) → bit_and (word_of f k) (word_of g k) ≡ word_of (λ i. f i && g i) k
-both_of = mask-of bit_and ◌&&◌ and_one and_shr and_mod and_lt
+both_of = mask_of bit_and ◌&&◌ and_one and_shr and_mod and_lt
 
-pub either-of : (f g : ℕ → Bool) (k : ℕ) → bit_or (word_of f k) (word_of g k) ≡ word_of (λ i. f i || g i) k
-either-of = mask-of bit_or ◌||◌ or-one or_shr or_mod or_lt
+pub either_of : (f g : ℕ → Bool) (k : ℕ) → bit_or (word_of f k) (word_of g k) ≡ word_of (λ i. f i || g i) k
+either_of = mask_of bit_or ◌||◌ or_one or_shr or_mod or_lt
 
-pub both-with : (k w : ℕ) (g : ℕ → Bool) → w < 2 ^ k → bit_and w (word_of g k) ≡ word_of (λ i. bit_at w i && g i) k
-both-with k w g h = ap (λ (n : ℕ). bit_and n (word_of g k)) (sym (word-bits k w h)) ∙ both_of (bit_at w) g k
+pub both_with : (k w : ℕ) (g : ℕ → Bool) → w < 2 ^ k → bit_and w (word_of g k) ≡ word_of (λ i. bit_at w i && g i) k
+both_with k w g h = ap (λ (n : ℕ). bit_and n (word_of g k)) (sym (word_bits k w h)) ∙ both_of (bit_at w) g k
 
 -- a word and the word of the other places make all ones
 whole : (f : ℕ → Bool) (k : ℕ) → suc (word_of (λ i. not (f i)) k + word_of f k) ≡ 2 ^ k
@@ -261,21 +261,21 @@ single p (suc k) = go (single p k) (dec_le k p) (dec_le p k)
 
 -- ---- a place set, cleared and tested in a word of k bits
 
-pub set-mask : (k w p : ℕ) → w < 2 ^ k → bit_or w (cond (ltb p k) (2 ^ p) 0) ≡ word_of (λ i. eqb i p || bit_at w i) k
-set-mask k w p h =
-    Bits.or_comm w (cond (ltb p k) (2 ^ p) 0) ∙ ap₂ bit_or (sym (single p k)) (sym (word-bits k w h)) ∙ either-of (λ i. eqb i p) (bit_at w) k
+pub set_mask : (k w p : ℕ) → w < 2 ^ k → bit_or w (cond (ltb p k) (2 ^ p) 0) ≡ word_of (λ i. eqb i p || bit_at w i) k
+set_mask k w p h =
+    Bits.or_comm w (cond (ltb p k) (2 ^ p) 0) ∙ ap₂ bit_or (sym (single p k)) (sym (word_bits k w h)) ∙ either_of (λ i. eqb i p) (bit_at w) k
 
-pub clear-mask : (k w p : ℕ) → w < 2 ^ k → bit_and w (2 ^ k - 1 - cond (ltb p k) (2 ^ p) 0) ≡ word_of (λ i. not (eqb i p) && bit_at w i) k
-clear-mask k w p h =
+pub clear_mask : (k w p : ℕ) → w < 2 ^ k → bit_and w (2 ^ k - 1 - cond (ltb p k) (2 ^ p) 0) ≡ word_of (λ i. not (eqb i p) && bit_at w i) k
+clear_mask k w p h =
     Bits.and_comm w (2 ^ k - 1 - cond (ltb p k) (2 ^ p) 0)
-    ∙ ap₂ bit_and (ap (λ (n : ℕ). 2 ^ k - 1 - n) (sym (single p k)) ∙ flip_of (λ i. eqb i p) k) (sym (word-bits k w h))
+    ∙ ap₂ bit_and (ap (λ (n : ℕ). 2 ^ k - 1 - n) (sym (single p k)) ∙ flip_of (λ i. eqb i p) k) (sym (word_bits k w h))
     ∙ both_of (λ i. not (eqb i p)) (bit_at w) k
 
-pub test-mask : (k w p : ℕ) → w < 2 ^ k → not (eqb (bit_and w (cond (ltb p k) (2 ^ p) 0)) 0) ≡ bit_at w p
-test-mask k w p h = ap (λ (n : ℕ). not (eqb n 0)) met ∙ go (bit_at w p) refl
+pub test_mask : (k w p : ℕ) → w < 2 ^ k → not (eqb (bit_and w (cond (ltb p k) (2 ^ p) 0)) 0) ≡ bit_at w p
+test_mask k w p h = ap (λ (n : ℕ). not (eqb n 0)) met ∙ go (bit_at w p) refl
   where
     met : bit_and w (cond (ltb p k) (2 ^ p) 0) ≡ word_of (λ i. bit_at w i && eqb i p) k
-    met = ap (bit_and w) (sym (single p k)) ∙ both-with k w (λ i. eqb i p) h
+    met = ap (bit_and w) (sym (single p k)) ∙ both_with k w (λ i. eqb i p) h
 
     none : bit_at w p ≡ false → (i : ℕ) (t : Bool) → eqb i p ≡ t → (bit_at w i && t) ≡ false
     none e i true q = ap (λ (n : ℕ). bit_at w n && true) (eqb-true i p q) ∙ ap (λ (t : Bool). t && true) e
@@ -291,38 +291,38 @@ test-mask k w p h = ap (λ (n : ℕ). not (eqb n 0)) met ∙ go (bit_at w p) ref
         ap not
         (ne_eqb (word_of (λ i. bit_at w i && eqb i p) k) 0
         (λ z. false≢true
-        (sym (bit-none p) ∙ ap (λ (n : ℕ). bit_at n p) (sym z) ∙ bit_word (λ i. bit_at w i && eqb i p) k p (within e (dec_le (suc p) k))
+        (sym (bit_none p) ∙ ap (λ (n : ℕ). bit_at n p) (sym z) ∙ bit_word (λ i. bit_at w i && eqb i p) k p (within e (dec_le (suc p) k))
         ∙ ap₂ ◌&&◌ e (eq-eqb p p refl))))
 
 -- ---- the list of set places
 
-pub places_same : (f g : ℕ → Bool) (i k : ℕ) → ((j : ℕ) → i ≤ j → j < i + k → f j ≡ g j) → placesFrom f i k ≡ placesFrom g i k
+pub places_same : (f g : ℕ → Bool) (i k : ℕ) → ((j : ℕ) → i ≤ j → j < i + k → f j ≡ g j) → places_from f i k ≡ places_from g i k
 places_same f g i zero e = refl
 places_same f g i (suc k) e =
     ap₂ (λ (t : Bool) (l : List ℕ). placed t i l) (e i (le_refl i) (omega arith)) (places_same f g (suc i) k (λ j a b. e j (omega arith) (omega arith)))
 
-pub places-none : (f : ℕ → Bool) (i k : ℕ) → ((j : ℕ) → i ≤ j → j < i + k → f j ≡ false) → placesFrom f i k ≡ []
-places-none f i zero e = refl
-places-none f i (suc k) e =
-    ap₂ (λ (t : Bool) (l : List ℕ). placed t i l) (e i (le_refl i) (omega arith)) (places-none f (suc i) k (λ j a b. e j (omega arith) (omega arith)))
+pub places_none : (f : ℕ → Bool) (i k : ℕ) → ((j : ℕ) → i ≤ j → j < i + k → f j ≡ false) → places_from f i k ≡ []
+places_none f i zero e = refl
+places_none f i (suc k) e =
+    ap₂ (λ (t : Bool) (l : List ℕ). placed t i l) (e i (le_refl i) (omega arith)) (places_none f (suc i) k (λ j a b. e j (omega arith) (omega arith)))
 
-placed-append : (t : Bool) (i : ℕ) (xs ys : List ℕ) → placed t i (xs ++ ys) ≡ placed t i xs ++ ys
-placed-append true i xs ys = refl
-placed-append false i xs ys = refl
+placed_append : (t : Bool) (i : ℕ) (xs ys : List ℕ) → placed t i (xs ++ ys) ≡ placed t i xs ++ ys
+placed_append true i xs ys = refl
+placed_append false i xs ys = refl
 
-pub places-split : (f : ℕ → Bool) (i j k : ℕ) → placesFrom f i (j + k) ≡ placesFrom f i j ++ placesFrom f (i + j) k
-places-split f i zero k = ap₂ (λ (a b : ℕ). placesFrom f a b) (sym (add-zero i)) (zero-add k)
-places-split f i (suc j) k =
-    ap (placesFrom f i) (suc-add j k) ∙ ap (placed (f i) i) (places-split f (suc i) j k)
-    ∙ placed-append (f i) i (placesFrom f (suc i) j) (placesFrom f (suc i + j) k)
-    ∙ ap (λ (n : ℕ). placed (f i) i (placesFrom f (suc i) j) ++ placesFrom f n k) (suc-add i j ∙ sym (add-suc i j))
+pub places_split : (f : ℕ → Bool) (i j k : ℕ) → places_from f i (j + k) ≡ places_from f i j ++ places_from f (i + j) k
+places_split f i zero k = ap₂ (λ (a b : ℕ). places_from f a b) (sym (add-zero i)) (zero-add k)
+places_split f i (suc j) k =
+    ap (places_from f i) (suc-add j k) ∙ ap (placed (f i) i) (places_split f (suc i) j k)
+    ∙ placed_append (f i) i (places_from f (suc i) j) (places_from f (suc i + j) k)
+    ∙ ap (λ (n : ℕ). placed (f i) i (places_from f (suc i) j) ++ places_from f n k) (suc-add i j ∙ sym (add-suc i j))
 
 -- a word of k bits has the places of its test
-places-word : (k : ℕ) (f : ℕ → Bool) → placesFrom (bit_at (word_of f k)) 0 k ≡ placesFrom f 0 k
-places-word k f = places_same (bit_at (word_of f k)) f 0 k (λ j a b. bit_word f k j (omega arith))
+places_word : (k : ℕ) (f : ℕ → Bool) → places_from (bit_at (word_of f k)) 0 k ≡ places_from f 0 k
+places_word k f = places_same (bit_at (word_of f k)) f 0 k (λ j a b. bit_word f k j (omega arith))
 
-pub members-word : (f : ℕ → Bool) → members (word_of f bits) ≡ placesFrom f 0 bits
-members-word = places-word bits
+pub members_word : (f : ℕ → Bool) → members (word_of f bits) ≡ places_from f 0 bits
+members_word = places_word bits
 
 -- ---- counts
 
@@ -332,58 +332,58 @@ length-placed true i l = sym (one-add (length l))
 length-placed false i l = sym (zero-add (length l))
 
 -- the ones from place i on
-ones-places : (k i w : ℕ) → w / 2 ^ i < 2 ^ k → ones (w / 2 ^ i) ≡ length (placesFrom (bit_at w) i k)
+ones_places : (k i w : ℕ) → w / 2 ^ i < 2 ^ k → ones (w / 2 ^ i) ≡ length (places_from (bit_at w) i k)
 unfolding ones
-ones-places zero i w h = ap ones (lt-one h)
-ones-places (suc k) i w h =
+ones_places zero i w h = ap ones (lt-one h)
+ones_places (suc k) i w h =
     ones_step (w / 2 ^ i)
-    ∙ ap₂ ◌+◌ (sym (bit-digit w i)) (ap ones (next w i) ∙ ones-places k (suc i) w below)
-    ∙ sym (length-placed (bit_at w i) i (placesFrom (bit_at w) (suc i) k))
+    ∙ ap₂ ◌+◌ (sym (bit_digit w i)) (ap ones (next w i) ∙ ones_places k (suc i) w below)
+    ∙ sym (length-placed (bit_at w i) i (places_from (bit_at w) (suc i) k))
   where
     below : w / 2 ^ suc i < 2 ^ k
     below = subst (λ (n : ℕ). n < 2 ^ k) (next w i) (shr_lt k 1 (subst (λ (n : ℕ). w / 2 ^ i < 2 ^ n) (sym (add-one k)) h))
 
-ones-all : (k w : ℕ) → w < 2 ^ k → ones w ≡ length (placesFrom (bit_at w) 0 k)
-ones-all k w h = ap ones (sym (div-one w)) ∙ ones-places k 0 w (subst (λ (n : ℕ). n < 2 ^ k) (sym (div-one w)) h)
+ones_all : (k w : ℕ) → w < 2 ^ k → ones w ≡ length (places_from (bit_at w) 0 k)
+ones_all k w h = ap ones (sym (div-one w)) ∙ ones_places k 0 w (subst (λ (n : ℕ). n < 2 ^ k) (sym (div-one w)) h)
 
-pub ones-members : (w : ℕ) → w < 2 ^ bits → ones w ≡ count_of w
-ones-members = ones-all bits
+pub ones_members : (w : ℕ) → w < 2 ^ bits → ones w ≡ count_of w
+ones_members = ones_all bits
 
 -- the first of some places, or another number where there is none
-abbrev pub firstElse : ℕ → List ℕ → ℕ
-firstElse n [] = n
-firstElse n (place ∷ places) = place
+abbrev pub first_else : ℕ → List ℕ → ℕ
+first_else n [] = n
+first_else n (place ∷ places) = place
 
 -- the zeros below the lowest one from place i on
-trailing-places : (k i w : ℕ) → i + count_trailing_zeros k (w / 2 ^ i) ≡ firstElse (i + k) (placesFrom (bit_at w) i k)
+trailing_places : (k i w : ℕ) → i + count_trailing_zeros k (w / 2 ^ i) ≡ first_else (i + k) (places_from (bit_at w) i k)
 unfolding count_trailing_zeros
-trailing-places zero i w = refl
-trailing-places (suc k) i w = go (trailing-places k (suc i) w) (digit (w / 2 ^ i))
+trailing_places zero i w = refl
+trailing_places (suc k) i w = go (trailing_places k (suc i) w) (digit (w / 2 ^ i))
   where
     go :
-        suc i + count_trailing_zeros k (w / 2 ^ suc i) ≡ firstElse (suc i + k) (placesFrom (bit_at w) (suc i) k)
+        suc i + count_trailing_zeros k (w / 2 ^ suc i) ≡ first_else (suc i + k) (places_from (bit_at w) (suc i) k)
         → (w / 2 ^ i % 2 ≡ 0) ⊎ (w / 2 ^ i % 2 ≡ 1)
-        → i + under (w / 2 ^ i % 2) (count_trailing_zeros k (w / 2 ^ i / 2)) ≡ firstElse (i + suc k) (placed (bit_at w i) i (placesFrom (bit_at w) (suc i) k))
+        → i + under (w / 2 ^ i % 2) (count_trailing_zeros k (w / 2 ^ i / 2)) ≡ first_else (i + suc k) (placed (bit_at w i) i (places_from (bit_at w) (suc i) k))
     go rest (inl e) =
         ap (λ (d : ℕ). i + under d (count_trailing_zeros k (w / 2 ^ i / 2))) e ∙ add-suc i (count_trailing_zeros k (w / 2 ^ i / 2))
         ∙ ap (λ (n : ℕ). suc (i + count_trailing_zeros k n)) (next w i) ∙ sym (suc-add i (count_trailing_zeros k (w / 2 ^ suc i))) ∙ rest
-        ∙ ap (λ (n : ℕ). firstElse n (placesFrom (bit_at w) (suc i) k)) (suc-add i k ∙ sym (add-suc i k))
-        ∙ ap (λ (t : Bool). firstElse (i + suc k) (placed t i (placesFrom (bit_at w) (suc i) k))) (sym (bit_is w i 0 e))
+        ∙ ap (λ (n : ℕ). first_else n (places_from (bit_at w) (suc i) k)) (suc-add i k ∙ sym (add-suc i k))
+        ∙ ap (λ (t : Bool). first_else (i + suc k) (placed t i (places_from (bit_at w) (suc i) k))) (sym (bit_is w i 0 e))
     go rest (inr e) =
         ap (λ (d : ℕ). i + under d (count_trailing_zeros k (w / 2 ^ i / 2))) e ∙ add-zero i
-        ∙ ap (λ (t : Bool). firstElse (i + suc k) (placed t i (placesFrom (bit_at w) (suc i) k))) (sym (bit_is w i 1 e))
+        ∙ ap (λ (t : Bool). first_else (i + suc k) (placed t i (places_from (bit_at w) (suc i) k))) (sym (bit_is w i 1 e))
 
-trailing-all : (k w : ℕ) → count_trailing_zeros k w ≡ firstElse k (placesFrom (bit_at w) 0 k)
-trailing-all k w =
-    ap (count_trailing_zeros k) (sym (div-one w)) ∙ sym (zero-add (count_trailing_zeros k (w / 2 ^ 0))) ∙ trailing-places k 0 w
-    ∙ ap (λ (n : ℕ). firstElse n (placesFrom (bit_at w) 0 k)) (zero-add k)
+trailing_all : (k w : ℕ) → count_trailing_zeros k w ≡ first_else k (places_from (bit_at w) 0 k)
+trailing_all k w =
+    ap (count_trailing_zeros k) (sym (div-one w)) ∙ sym (zero-add (count_trailing_zeros k (w / 2 ^ 0))) ∙ trailing_places k 0 w
+    ∙ ap (λ (n : ℕ). first_else n (places_from (bit_at w) 0 k)) (zero-add k)
 
-pub first-or : (l : List ℕ) → firstElse bits l ≡ first_or l
-first-or [] = refl
-first-or (place ∷ places) = refl
+pub first_or_else : (l : List ℕ) → first_else bits l ≡ first_or l
+first_or_else [] = refl
+first_or_else (place ∷ places) = refl
 
-pub trailing-lowest : (w : ℕ) → count_trailing_zeros bits w ≡ lowestOf w
-trailing-lowest w = trailing-all bits w ∙ first-or (members w)
+pub trailing_lowest : (w : ℕ) → count_trailing_zeros bits w ≡ lowest_of w
+trailing_lowest w = trailing_all bits w ∙ first_or_else (members w)
 
-pub lowest-le : (w : ℕ) → lowestOf w ≤ bits
-lowest-le w = subst (λ (n : ℕ). n ≤ bits) (trailing-lowest w) (trailing_le bits w)
+pub lowest_le : (w : ℕ) → lowest_of w ≤ bits
+lowest_le w = subst (λ (n : ℕ). n ≤ bits) (trailing_lowest w) (trailing_le bits w)

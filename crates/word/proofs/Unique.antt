@@ -8,17 +8,17 @@ use Rattle.word.proofs.test.Reads as test
 use Rattle.word.proofs.count.Reads as count
 use Rattle.word.proofs.lowest.Reads as lowest
 
-pub set-determined : Determines set.Learnt
-set-determined κs args r r' end end' = unique
+pub set_determined : Determines set.Learnt
+set_determined κs args r r' end end' = unique
 
-pub clear-determined : Determines clear.Learnt
-clear-determined κs args r r' end end' = unique
+pub clear_determined : Determines clear.Learnt
+clear_determined κs args r r' end end' = unique
 
-pub test-determined : Determines test.Learnt
-test-determined κs args r r' end end' = unique
+pub test_determined : Determines test.Learnt
+test_determined κs args r r' end end' = unique
 
-pub count-determined : Determines count.Learnt
-count-determined κs args r r' end end' = unique
+pub count_determined : Determines count.Learnt
+count_determined κs args r r' end end' = unique
 
-pub lowest-determined : Determines lowest.Learnt
-lowest-determined κs args r r' end end' = unique
+pub lowest_determined : Determines lowest.Learnt
+lowest_determined κs args r r' end end' = unique

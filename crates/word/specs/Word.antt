@@ -16,13 +16,13 @@ placed true place places = place ∷ places
 placed false place places = places
 
 -- those of the k places from i on for which the test holds, in rising order
-abbrev pub placesFrom : (ℕ → Bool) → ℕ → ℕ → List ℕ
-placesFrom test i zero = []
-placesFrom test i (suc k) = placed (test i) i (placesFrom test (suc i) k)
+abbrev pub places_from : (ℕ → Bool) → ℕ → ℕ → List ℕ
+places_from test i zero = []
+places_from test i (suc k) = placed (test i) i (places_from test (suc i) k)
 
 -- the stations whose bits are set, in listed order: what a word means
 abbrev pub members : ℕ → List ℕ
-members word = placesFrom (bit_at word) 0 bits
+members word = places_from (bit_at word) 0 bits
 
 -- 1 for a test that holds, 0 for one that does not
 abbrev pub bit_of : Bool → ℕ
@@ -38,8 +38,8 @@ word_of test (suc k) = word_of test k + bit_of (test k) * 2 ^ k
 abbrev pub set_at : ℕ → ℕ → ℕ
 set_at word place = word_of (λ i. eqb i place || bit_at word i) bits
 
-abbrev pub clearAt : ℕ → ℕ → ℕ
-clearAt word place = word_of (λ i. not (eqb i place) && bit_at word i) bits
+abbrev pub clear_at : ℕ → ℕ → ℕ
+clear_at word place = word_of (λ i. not (eqb i place) && bit_at word i) bits
 
 -- the first of some places; the number of bits where there is none
 abbrev pub first_or : List ℕ → ℕ
@@ -50,5 +50,5 @@ first_or (place ∷ places) = place
 abbrev pub count_of : ℕ → ℕ
 count_of word = length (members word)
 
-abbrev pub lowestOf : ℕ → ℕ
-lowestOf word = first_or (members word)
+abbrev pub lowest_of : ℕ → ℕ
+lowest_of word = first_or (members word)

@@ -1,7 +1,7 @@
 // Up to 64 stations as one word, station i in listed order at bit i: set, cleared and tested by shifts and masks, counted by a count of ones,
 // the first found by trailing zeros. Every function takes any input.
 ghost use Rattle.std.specs.Prelude.{◌≡◌, ◌^◌, cond, ltb};
-ghost use Rattle.word.specs.Word.{bits, bit_at, set_at, clearAt, count_of, lowestOf};
+ghost use Rattle.word.specs.Word.{bits, bit_at, set_at, clear_at, count_of, lowest_of};
 
 // How many stations a word has room for.
 const BITS: usize = 64;
@@ -25,7 +25,7 @@ pub fn set(word: u64, place: usize) -> u64
 
 // The word with the bit at a place clear.
 pub fn clear(word: u64, place: usize) -> u64
-    ensures { result ≡ clearAt word place }
+    ensures { result ≡ clear_at word place }
 {
     word & !alone(place)
 }
@@ -46,7 +46,7 @@ pub fn count(word: u64) -> u32
 
 // The lowest place whose bit is set; 64 where none is.
 pub fn lowest(word: u64) -> usize
-    ensures { result ≡ lowestOf word }
+    ensures { result ≡ lowest_of word }
 {
     u64::trailing_zeros(word) as usize
 }

@@ -16,25 +16,25 @@ same_self [] = refl
 same_self (x ∷ xs) = ap (λ t. cond t (same xs xs) false) (eq-eqb x x refl) ∙ same_self xs
 
 -- and as no other
-pub same-equal : (xs ys : List ℕ) → same xs ys ≡ true → xs ≡ ys
-same-equal [] [] h = refl
-same-equal [] (y ∷ ys) h = cc
-same-equal (x ∷ xs) [] h = cc
-same-equal (x ∷ xs) (y ∷ ys) h = go (eqb x y) refl h (same-equal xs ys)
+pub same_equal : (xs ys : List ℕ) → same xs ys ≡ true → xs ≡ ys
+same_equal [] [] h = refl
+same_equal [] (y ∷ ys) h = cc
+same_equal (x ∷ xs) [] h = cc
+same_equal (x ∷ xs) (y ∷ ys) h = go (eqb x y) refl h (same_equal xs ys)
   where
     go : (t : Bool) → eqb x y ≡ t → cond t (same xs ys) false ≡ true → (same xs ys ≡ true → xs ≡ ys) → ◌≡◌ {A = List ℕ} (x ∷ xs) (y ∷ ys)
     go true e h more = ap₂ (λ a (l : List ℕ). a ∷ l) (eqb-true x y e) (more h)
     go false e h more = cc
 
-pub equal-same : (xs ys : List ℕ) → xs ≡ ys → same xs ys ≡ true
-equal-same xs ys e = ap (same xs) (sym e) ∙ same_self xs
+pub equal_same : (xs ys : List ℕ) → xs ≡ ys → same xs ys ≡ true
+equal_same xs ys e = ap (same xs) (sym e) ∙ same_self xs
 
 -- words of other lengths are not the same
-pub same-lengths : (xs ys : List ℕ) → (length xs ≡ length ys → ⊥) → same xs ys ≡ false
-same-lengths xs ys other = go (same xs ys) refl
+pub same_lengths : (xs ys : List ℕ) → (length xs ≡ length ys → ⊥) → same xs ys ≡ false
+same_lengths xs ys other = go (same xs ys) refl
   where
     go : (t : Bool) → same xs ys ≡ t → t ≡ false
-    go true e = absurd (other (ap length (same-equal xs ys e)))
+    go true e = absurd (other (ap length (same_equal xs ys e)))
     go false e = refl
 
 -- what is left from an offset on, by the bytes there

@@ -38,17 +38,17 @@ past_end test text at h = let none = ap (λ (l : List ℕ). length (while test l
 -- ---- how they stand in the text
 
 -- they are no more than the text, and its start
-pub while-few : (test : ℕ → Bool) (text : List ℕ) → length (while test text) ≤ length text
-while-few test [] = omega arith
-while-few test (b ∷ rest) = go (test b) (while-few test rest)
+pub while_few : (test : ℕ → Bool) (text : List ℕ) → length (while test text) ≤ length text
+while_few test [] = omega arith
+while_few test (b ∷ rest) = go (test b) (while_few test rest)
   where
     go : (t : Bool) → length (while test rest) ≤ length rest → length (cond t (b ∷ while test rest) []) ≤ suc (length rest)
     go true few = omega arith
     go false few = omega arith
 
-pub while-taken : (test : ℕ → Bool) (text : List ℕ) → take (length (while test text)) text ≡ while test text
-while-taken test [] = refl
-while-taken test (b ∷ rest) = go (test b) (while-taken test rest)
+pub while_taken : (test : ℕ → Bool) (text : List ℕ) → take (length (while test text)) text ≡ while test text
+while_taken test [] = refl
+while_taken test (b ∷ rest) = go (test b) (while_taken test rest)
   where
     go :
         (t : Bool) → take (length (while test rest)) rest ≡ while test rest
@@ -59,29 +59,29 @@ while-taken test (b ∷ rest) = go (test b) (while-taken test rest)
 -- ---- bytes that all pass: `while test xs ≡ xs`
 
 -- the first passes, and the others do
-pub passes-first : (test : ℕ → Bool) (b : ℕ) (rest : List ℕ) → while test (b ∷ rest) ≡ b ∷ rest → test b ≡ true
-passes-first test b rest h = go (test b) h
+pub passes_first : (test : ℕ → Bool) (b : ℕ) (rest : List ℕ) → while test (b ∷ rest) ≡ b ∷ rest → test b ≡ true
+passes_first test b rest h = go (test b) h
   where
     go : (t : Bool) → cond t (b ∷ while test rest) [] ≡ b ∷ rest → t ≡ true
     go true h = refl
     go false h = cc
 
-pub passes-others : (test : ℕ → Bool) (b : ℕ) (rest : List ℕ) → while test (b ∷ rest) ≡ b ∷ rest → while test rest ≡ rest
-passes-others test b rest h =
+pub passes_others : (test : ℕ → Bool) (b : ℕ) (rest : List ℕ) → while test (b ∷ rest) ≡ b ∷ rest → while test rest ≡ rest
+passes_others test b rest h =
     let tail : ◌≡◌ {A = List ℕ} (b ∷ while test rest) (b ∷ rest)
-    = sym (ap (λ t. cond t (b ∷ while test rest) []) (passes-first test b rest h)) ∙ h in
+    = sym (ap (λ t. cond t (b ∷ while test rest) []) (passes_first test b rest h)) ∙ h in
     cc
 
 -- one more before them
-pub passes-one : (test : ℕ → Bool) (b : ℕ) (rest : List ℕ) → test b ≡ true → while test rest ≡ rest → while test (b ∷ rest) ≡ b ∷ rest
-passes-one test b rest e h = ap₂ (λ t (l : List ℕ). cond t (b ∷ l) []) e h
+pub passes_one : (test : ℕ → Bool) (b : ℕ) (rest : List ℕ) → test b ≡ true → while test rest ≡ rest → while test (b ∷ rest) ≡ b ∷ rest
+passes_one test b rest e h = ap₂ (λ t (l : List ℕ). cond t (b ∷ l) []) e h
 
 -- before other bytes those go on that pass after them
 pub while-append :
     (test : ℕ → Bool) (xs ys : List ℕ) → while test xs ≡ xs → while test (xs ++ ys) ≡ xs ++ while test ys
 while-append test [] ys h = refl
 while-append test (b ∷ rest) ys h =
-    ap₂ (λ t (l : List ℕ). cond t (b ∷ l) []) (passes-first test b rest h) (while-append test rest ys (passes-others test b rest h))
+    ap₂ (λ t (l : List ℕ). cond t (b ∷ l) []) (passes_first test b rest h) (while-append test rest ys (passes_others test b rest h))
 
 -- two such texts
 pub passes_append : (test : ℕ → Bool) (xs ys : List ℕ) → while test xs ≡ xs → while test ys ≡ ys → while test (xs ++ ys) ≡ xs ++ ys

@@ -5,37 +5,37 @@ use mathlib.Core.List.{List}
 use native.Mathlib.Omega.{arith}
 use lib.ListN.{length, take, drop, length-drop}
 use lib.Seq.{drop-drop}
-use Rattle.words.specs.Words.{blank, in-word, blanks, unblanked, first_word, afterWord, wordSpan}
-use Rattle.words.proofs.Runs.{while-few, while-taken}
+use Rattle.words.specs.Words.{blank, in_word, blanks, unblanked, first_word, after_word, word_span}
+use Rattle.words.proofs.Runs.{while_few, while_taken}
 
 module _ (line : List ℕ) (at : ℕ) where
   -- it begins at the offset or past it, and ends there or past that
-  pub span_begins : at ≤ (wordSpan line at).from
+  pub span_begins : at ≤ (word_span line at).from
   span_begins = omega arith
 
-  pub span-ends : (wordSpan line at).from ≤ (wordSpan line at).to
-  span-ends = omega arith
+  pub span_ends : (word_span line at).from ≤ (word_span line at).to
+  span_ends = omega arith
 
   -- within the line
-  pub span-within : at ≤ length line → (wordSpan line at).to ≤ length line
-  span-within h =
+  pub span_within : at ≤ length line → (word_span line at).to ≤ length line
+  span_within h =
       let rest = drop at line in
-      omega (arith, while-few blank rest, while-few in-word (unblanked rest), length-drop at line, length-drop (length (blanks rest)) rest)
+      omega (arith, while_few blank rest, while_few in_word (unblanked rest), length-drop at line, length-drop (length (blanks rest)) rest)
 
   -- what is left from where it begins
-  pub span-from : drop (wordSpan line at).from line ≡ unblanked (drop at line)
-  span-from = sym (drop-drop (length (blanks (drop at line))) at line)
+  pub span_from : drop (word_span line at).from line ≡ unblanked (drop at line)
+  span_from = sym (drop-drop (length (blanks (drop at line))) at line)
 
   -- it is the first word
   pub span-word :
-      take ((wordSpan line at).to - (wordSpan line at).from) (drop (wordSpan line at).from line) ≡ first_word (drop at line)
+      take ((word_span line at).to - (word_span line at).from) (drop (word_span line at).from line) ≡ first_word (drop at line)
   span-word =
-      let long : (wordSpan line at).to - (wordSpan line at).from ≡ length (first_word (drop at line)) = omega arith in
-      ap (λ n. take n (drop (wordSpan line at).from line)) long
-      ∙ ap (take (length (first_word (drop at line)))) span-from
-      ∙ while-taken in-word (unblanked (drop at line))
+      let long : (word_span line at).to - (word_span line at).from ≡ length (first_word (drop at line)) = omega arith in
+      ap (λ n. take n (drop (word_span line at).from line)) long
+      ∙ ap (take (length (first_word (drop at line)))) span_from
+      ∙ while_taken in_word (unblanked (drop at line))
 
   -- and what comes after it is what is left of the line
-  pub span-after : drop (wordSpan line at).to line ≡ afterWord (drop at line)
-  span-after =
-      sym (drop-drop (length (first_word (drop at line))) (wordSpan line at).from line) ∙ ap (drop (length (first_word (drop at line)))) span-from
+  pub span_after : drop (word_span line at).to line ≡ after_word (drop at line)
+  span_after =
+      sym (drop-drop (length (first_word (drop at line))) (word_span line at).from line) ∙ ap (drop (length (first_word (drop at line)))) span_from

@@ -7,14 +7,14 @@ use Rattle.words.proofs.word_at.Reads as word_at
 use Rattle.words.proofs.same.Reads as same
 use Rattle.words.proofs.number_of.Reads as number_of_lem
 
-pub line-end-determined : Determines line-end.Learnt
-line-end-determined κs args r r' end end' = unique
+pub line_end_determined : Determines line-end.Learnt
+line_end_determined κs args r r' end end' = unique
 
-pub word-at-determined : Determines word_at.Learnt
-word-at-determined κs args r r' end end' = unique
+pub word_at_determined : Determines word_at.Learnt
+word_at_determined κs args r r' end end' = unique
 
-pub same-determined : Determines same.Learnt
-same-determined κs args r r' end end' = unique
+pub same_determined : Determines same.Learnt
+same_determined κs args r r' end end' = unique
 
-pub number-of-determined : Determines number_of_lem.Learnt
-number-of-determined κs args r r' end end' = unique
+pub number_of_determined : Determines number_of_lem.Learnt
+number_of_determined κs args r r' end end' = unique

@@ -2,14 +2,14 @@
 use Rattle.std.specs.Prelude.{ℕ, Bool, List}
 use Rattle.words.specs.declared.Class.{Class}
 use Rattle.words.specs.declared.Class.TheVariants.{Line, Blank, Word}
-use Rattle.words.specs.Words.{while, in-line, blank, in-word}
+use Rattle.words.specs.Words.{while, in_line, blank, in_word}
 
 -- the test of a class
-abbrev pub inClass : Class → ℕ → Bool
-inClass Line = in-line
-inClass Blank = blank
-inClass Word = in-word
+abbrev pub in_class : Class → ℕ → Bool
+in_class Line = in_line
+in_class Blank = blank
+in_class Word = in_word
 
 -- the bytes of a class at the start of a text
-abbrev pub bytesIn : Class → List ℕ → List ℕ
-bytesIn class text = while (inClass class) text
+abbrev pub bytes_in : Class → List ℕ → List ℕ
+bytes_in class text = while (in_class class) text

@@ -1,8 +1,8 @@
 // Lines, words and numbers of a text that a person writes. Every exported function takes any bytes.
 ghost use Rattle.std.specs.Prelude.{◌≡◌, ◌+◌, ◌≤◌, ◌&&◌, leb, length, drop};
-ghost use Rattle.words.specs.Words.{blank, firstLine, wordSpan, digitOf, numberFrom, number_of, numberForm};
+ghost use Rattle.words.specs.Words.{blank, first_line, word_span, digit_of, number_from, number_of, number_form};
 ghost use Rattle.words.specs.Words.{same as same_words};
-ghost use Rattle.words.specs.Parts.{inClass, bytesIn};
+ghost use Rattle.words.specs.Parts.{in_class, bytes_in};
 
 // 'a number is at most 4,294,967,295'
 const LARGEST: u64 = 4_294_967_295;
@@ -41,7 +41,7 @@ fn is_blank(byte: u8) -> bool
 
 // Whether a byte goes with those of its class.
 fn is_in(class: Class, byte: u8) -> bool
-    ensures { result ≡ inClass class byte }
+    ensures { result ≡ in_class class byte }
 {
     match class {
         Class::Line => byte != b'\n',
@@ -52,7 +52,7 @@ fn is_in(class: Class, byte: u8) -> bool
 
 // The offset past the bytes of a class that stand from an offset on.
 fn past(text: &[u8], at: usize, class: Class) -> usize
-    ensures { result ≡ at + length (bytesIn class (drop at text.now)) }
+    ensures { result ≡ at + length (bytes_in class (drop at text.now)) }
 {
     let mut end = at;
     while end < text.len() {
@@ -66,14 +66,14 @@ fn past(text: &[u8], at: usize, class: Class) -> usize
 
 // The offset past the line that stands from an offset on: its newline's, or the end's.
 pub fn line_end(text: &[u8], at: usize) -> usize
-    ensures { result ≡ at + length (firstLine (drop at text.now)) }
+    ensures { result ≡ at + length (first_line (drop at text.now)) }
 {
     past(text, at, Class::Line)
 }
 
 // The first word from an offset of a line on; where a comment or the end comes first, it is empty.
 pub fn word_at(line: &[u8], at: usize) -> Span
-    ensures { result ≡ wordSpan line.now at }
+    ensures { result ≡ word_span line.now at }
 {
     let from = past(line, at, Class::Blank);
     let to = past(line, from, Class::Word);
@@ -106,7 +106,7 @@ fn within(byte: u8, first: u8, last: u8) -> bool
 
 // The digit that a byte is, or 16.
 fn digit(byte: u8) -> u64
-    ensures { result ≡ digitOf byte }
+    ensures { result ≡ digit_of byte }
 {
     if within(byte, b'0', b'9') {
         return (byte - 48) as u64;
@@ -123,7 +123,7 @@ fn digit(byte: u8) -> u64
 // The number that the digits from an offset of a word on are, by a base.
 fn digits(word: &[u8], from: usize, base: u64) -> Number
     requires { base ≤ 16 }
-    ensures { result ≡ numberForm (numberFrom base 0 (drop from word.now)) }
+    ensures { result ≡ number_form (number_from base 0 (drop from word.now)) }
 {
     let mut n: u64 = 0;
     let mut i = from;
@@ -152,7 +152,7 @@ fn digits(word: &[u8], from: usize, base: u64) -> Number
 
 // The number that a word is.
 pub fn number_of(word: &[u8]) -> Number
-    ensures { result ≡ numberForm (number_of word.now) }
+    ensures { result ≡ number_form (number_of word.now) }
 {
     if word.len() == 0 {
         return Number {

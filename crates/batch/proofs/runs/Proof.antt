@@ -40,8 +40,8 @@ loop-again c = search rules
 returns : tie.Need-returns invariant-loop decreases-loop
 returns c = search rules
 
-pub runs-spec : {M : Type 1} → statement M
-runs-spec =
+pub runs_spec : {M : Type 1} → statement M
+runs_spec =
     tie.close
     (tie.spec
     invariant-loop

@@ -2,8 +2,8 @@
 use mathlib.Core.Path.{sym, ◌∙◌}
 use borrow.Author.Rules.{rules}
 use Rattle.state.proofs.Stands.{lent}
-use Rattle.state.proofs.StandingParts.{state-held}
-use Rattle.bus.proofs.InPlace.{Sound, sound-of, Taken, taken-uncounted, asked-away, asked_in}
+use Rattle.state.proofs.StandingParts.{state_held}
+use Rattle.bus.proofs.InPlace.{Sound, sound_of, Taken, taken-uncounted, asked-away, asked_in}
 use Rattle.bus.proofs.admit.Statement.{statement}
 use Rattle.bus.proofs.admit.Tie as tie
 
@@ -13,7 +13,7 @@ stands-requires c κs = search rules
 sound! : (c : tie.After-stands) → Sound c.stands.result c.before.args.s
 sound! c =
     let start = c.before in
-    sound-of start.args.s c.stands.result (state-held start.args.s _ start.well-formed.0) (lent start.args.s _ start.well-formed.0) c.stands.ensures
+    sound_of start.args.s c.stands.result (state_held start.args.s _ start.well-formed.0) (lent start.args.s _ start.well-formed.0) c.stands.ensures
 
 asked-requires : tie.Need-asked-requires
 asked-requires c κs =
@@ -40,31 +40,31 @@ taken! c =
     asked_in args.s args.address args.value args.length tested.stands.result (sound! tested) told.asked.result told.asked.ensures c.if1.true
 
 mul-waiting : tie.Need-overflow-mul-waiting
-mul-waiting c = let h = (taken! c).in-row in search rules
+mul-waiting c = let h = (taken! c).within_row in search rules
 
 array-read-waiting : tie.Need-array-read-waiting
-array-read-waiting c = (taken! c).in-row
+array-read-waiting c = (taken! c).within_row
 
 mul_at : tie.Need-overflow-mul-at
-mul_at c = let h = (taken! c).in-row in search rules
+mul_at c = let h = (taken! c).within_row in search rules
 
 add_at : tie.Need-overflow-add-at
-add_at c = let h = (taken! c).in-row in let k = (taken! c).room in search rules
+add_at c = let h = (taken! c).within_row in let k = (taken! c).room in search rules
 
 mul-packet : tie.Need-overflow-mul-packet
-mul-packet c = let h = (taken! c.before).in-row in let k = (taken! c.before).room in search rules
+mul-packet c = let h = (taken! c.before).within_row in let k = (taken! c.before).room in search rules
 
 element-set-from-packet : tie.Need-element-set-from-packet
-element-set-from-packet c = let h = (taken! c.before).in-row in let k = (taken! c.before).room in search rules
+element-set-from-packet c = let h = (taken! c.before).within_row in let k = (taken! c.before).room in search rules
 
 add-queues : tie.Need-overflow-add-queues
-add-queues c = let h = (taken! c.before).in-row in let k = (taken! c.before).room in search rules
+add-queues c = let h = (taken! c.before).within_row in let k = (taken! c.before).room in search rules
 
 mul-queues : tie.Need-overflow-mul-queues
-mul-queues c = let h = (taken! c.before).in-row in search rules
+mul-queues c = let h = (taken! c.before).within_row in search rules
 
 element-write-queues : tie.Need-element-write-queues
-element-write-queues c = (taken! c.before).in-row
+element-write-queues c = (taken! c.before).within_row
 
 cast-g : tie.Need-overflow-cast-g
 cast-g c = search rules
@@ -86,8 +86,8 @@ returns-2 c =
     c.before.before.turned-after.result
     c.before.before.turned-after.ensures
 
-pub admit-spec : {M : Type 1} → statement M
-admit-spec =
+pub admit_spec : {M : Type 1} → statement M
+admit_spec =
     tie.close
     (tie.spec
     stands-requires

@@ -4,15 +4,15 @@ use mathlib.Core.Path.{◌≡◌, ap, ap₂, ◌∙◌}
 use mathlib.Core.Bool.{false}
 use lib.ListN.{length}
 use borrow.Author.Rules.{rules}
-use Rattle.rules.specs.Begin.{begin, dropsOf}
+use Rattle.rules.specs.Begin.{begin, drops_of}
 use Rattle.bus.specs.Types.{State}
 use Rattle.state.specs.State.{meaning, form}
 use Rattle.bus.specs.Coded.{Begun}
-use Rattle.bus.specs.Parts.{shownOf}
-use Rattle.state.proofs.Places.{queues-arrays}
+use Rattle.bus.specs.Parts.{shown_of}
+use Rattle.state.proofs.Places.{queues_arrays}
 use Rattle.state.proofs.Stands.{Lent, lent}
-use Rattle.state.proofs.StandingParts.{state-held}
-use Rattle.bus.proofs.InPlace.{whole, Sound, sound-of, may-leave, fewer-wait, all-dropped, may-begin, begun-form}
+use Rattle.state.proofs.StandingParts.{state_held}
+use Rattle.bus.proofs.InPlace.{whole, Sound, sound_of, may-leave, fewer_wait, all_dropped, may-begin, begun_whole}
 use Rattle.bus.proofs.Calls.{begin-away, begin-on, begins-now, shown-is}
 use Rattle.bus.proofs.begin.Statement.{statement}
 use Rattle.bus.proofs.begin.Tie as tie
@@ -23,7 +23,7 @@ stands-requires c κs = search rules
 sound! : (c : tie.After-stands) → Sound c.stands.result c.before.args.s
 sound! c =
     let start = c.before in
-    sound-of start.args.s c.stands.result (state-held start.args.s _ start.well-formed.0) (lent start.args.s _ start.well-formed.0) c.stands.ensures
+    sound_of start.args.s c.stands.result (state_held start.args.s _ start.well-formed.0) (lent start.args.s _ start.well-formed.0) c.stands.ensures
 
 begin-refusal-requires : tie.Need-begin-refusal-requires
 begin-refusal-requires c κs = search rules
@@ -57,14 +57,14 @@ module _ (c : tie.After-without) where
   at = c.before.before.before.before.before
 
   arrays : (length c.without.result.lengths ≡ 64) × (length c.without.result.packets ≡ 1024)
-  arrays = queues-arrays c.without.result _ c.without.type-inv
+  arrays = queues_arrays c.without.result _ c.without.type-inv
 
 dropped-requires : tie.Need-dropped-requires
 dropped-requires c κs =
     let past = c.before in
     let t = at past in
     let to = past.before.before.before.dropping in
-    fewer-wait (s t) (ready t).0 to.result to.ensures past.without.result past.without.ensures (arrays past)
+    fewer_wait (s t) (ready t).0 to.result to.ensures past.without.result past.without.ensures (arrays past)
 
 begun-requires : tie.Need-begun-requires
 begun-requires c κs =
@@ -86,12 +86,12 @@ returns c =
     let to = past.before.before.before.dropping in
     let rest = past.without.result in
     let drops = told.dropped.result in
-    let drops! : drops ≡ dropsOf (meaning (s t)) =
-    all-dropped (s t) r.0 to.result to.ensures rest past.without.ensures (arrays past) drops told.dropped.ensures in
+    let drops! : drops ≡ drops_of (meaning (s t)) =
+    all_dropped (s t) r.0 to.result to.ensures rest past.without.ensures (arrays past) drops told.dropped.ensures in
     let state! : whole made.begun.result rest ≡ form (begin (meaning (s t))) =
-    begun-form (s t) r.0 to.result to.ensures rest past.without.ensures (arrays past) drops told.dropped.ensures made.begun.result made.begun.ensures in
+    begun_whole (s t) r.0 to.result to.ensures rest past.without.ensures (arrays past) drops told.dropped.ensures made.begun.result made.begun.ensures in
     ap (λ (answer : Begun). record { answer = answer; state = whole made.begun.result rest }) c.shown.ensures
-    ∙ ap₂ (λ (x : State) (k : ℕ). record { answer = shownOf x.segment k; state = x }) state! drops!
+    ∙ ap₂ (λ (x : State) (k : ℕ). record { answer = shown_of x.segment k; state = x }) state! drops!
     ∙ ap (λ (answer : Begun). record { answer = answer; state = form (begin (meaning (s t))) }) (shown-is (meaning (s t)))
     ∙ begins-now (s t) r.0 r.1
 
@@ -105,8 +105,8 @@ returns-2 c =
     ap (λ (answer : Begun). record { answer = answer; state = s }) c.before.unbegun.ensures
     ∙ begin-away tested.stands.result s (sound! tested) told.begin-refusal.result told.begin-refusal.ensures c.if1.false
 
-pub begin-spec : {M : Type 1} → statement M
-begin-spec =
+pub begin_spec : {M : Type 1} → statement M
+begin_spec =
     tie.close
     (tie.spec
     stands-requires

@@ -18,5 +18,5 @@ returns-3 c =
     let yes : c.before.before.args.stands ≡ true = granted refl c.before.if1.false in
     rw (yes, c.if2.false)
 
-pub begin-refusal-spec : {M : Type 1} → statement M
-begin-refusal-spec = tie.close (tie.spec returns returns-2 returns-3)
+pub begin_refusal_spec : {M : Type 1} → statement M
+begin_refusal_spec = tie.close (tie.spec returns returns-2 returns-3)

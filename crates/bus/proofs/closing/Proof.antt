@@ -6,7 +6,7 @@ use borrow.Author.Rules.{rules}
 use Rattle.bus.specs.Types.{State}
 use Rattle.bus.specs.Coded.{Totals}
 use Rattle.state.proofs.Tested.{denied, granted}
-use Rattle.state.proofs.Stands.{lent, waiting-counted}
+use Rattle.state.proofs.Stands.{lent, waiting_counted}
 use Rattle.bus.proofs.closing.Statement.{statement}
 use Rattle.bus.proofs.closing.Tie as tie
 
@@ -39,8 +39,8 @@ returns-2 c =
     let s = start.args.s in
     let stood! = granted tested.before.stands.ensures tested.if1.false in
     let r = lent s _ start.well-formed.0 stood! in
-    let waiting! = c.before.waiting-in.ensures ∙ waiting-counted s r in
+    let waiting! = c.before.waiting-in.ensures ∙ waiting_counted s r in
     rw stood! (ap (totals s) waiting!)
 
-pub closing-spec : {M : Type 1} → statement M
-closing-spec = tie.close (tie.spec stands-requires returns waiting-in-requires returns-2)
+pub closing_spec : {M : Type 1} → statement M
+closing_spec = tie.close (tie.spec stands-requires returns waiting-in-requires returns-2)

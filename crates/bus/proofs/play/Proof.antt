@@ -12,5 +12,5 @@ calls-requires c κs = c.stands.ensures
 returns : tie.Need-returns
 returns c = c.calls.ensures
 
-pub play-spec : {M : Type 1} → statement M
-play-spec = tie.close (tie.spec stands-requires calls-requires returns)
+pub play_spec : {M : Type 1} → statement M
+play_spec = tie.close (tie.spec stands-requires calls-requires returns)

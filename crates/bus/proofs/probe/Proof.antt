@@ -4,13 +4,13 @@ use mathlib.Core.Path.{◌≡◌, ap, ◌∙◌}
 use mathlib.Core.Bool.{true, false}
 use lib.Dec.{ltb}
 use borrow.Author.Rules.{rules}
-use Rattle.rules.specs.Bus.{last-slot}
+use Rattle.rules.specs.Bus.{last_slot}
 use Rattle.bus.specs.Types.{State}
 use Rattle.bus.specs.Coded.{Answer}
-use Rattle.state.proofs.Places.{queues-arrays}
+use Rattle.state.proofs.Places.{queues_arrays}
 use Rattle.state.proofs.Stands.{Lent, lent}
-use Rattle.state.proofs.StandingParts.{state-held}
-use Rattle.bus.proofs.InPlace.{Sound, sound-of, may-probe, none-won, winner-there!, may-send, one-won}
+use Rattle.state.proofs.StandingParts.{state_held}
+use Rattle.bus.proofs.InPlace.{Sound, sound_of, may-probe, none_won, winner_there!, may-send, one-won}
 use Rattle.bus.proofs.Calls.{probe-away, probe-on, probes-now}
 use Rattle.bus.proofs.probe.Statement.{statement}
 use Rattle.bus.proofs.probe.Tie as tie
@@ -21,7 +21,7 @@ stands-requires c κs = search rules
 sound! : (c : tie.After-stands) → Sound c.stands.result c.before.args.s
 sound! c =
     let start = c.before in
-    sound-of start.args.s c.stands.result (state-held start.args.s _ start.well-formed.0) (lent start.args.s _ start.well-formed.0) c.stands.ensures
+    sound_of start.args.s c.stands.result (state_held start.args.s _ start.well-formed.0) (lent start.args.s _ start.well-formed.0) c.stands.ensures
 
 probe-refusal-requires : tie.Need-probe-refusal-requires
 probe-refusal-requires c κs = search rules
@@ -35,7 +35,7 @@ module _ (c : tie.Then1) where
   abbrev s : State
   s = c.before.before.before.before.before.args.s
 
-  ready : (Lent s) × (s.segment.contention.begun ≡ true) × (ltb last-slot s.segment.clock.0 ≡ false)
+  ready : (Lent s) × (s.segment.contention.begun ≡ true) × (ltb last_slot s.segment.clock.0 ≡ false)
   ready =
       let told = c.before.before in
       let tested = told.before.before in
@@ -56,7 +56,7 @@ module _ (c : tie.Then2) where
   place! : heard.heard-in.result.place < 64
   place! =
       let r = ready on in
-      winner-there! (s on).segment (s on).queues 0 r.0 r.1 heard.heard-in.result heard.heard-in.ensures c.if2.true
+      winner_there! (s on).segment (s on).queues 0 r.0 r.1 heard.heard-in.result heard.heard-in.ensures c.if2.true
 
 add-without : tie.Need-overflow-add-without
 add-without c = let h = place! c in search rules
@@ -73,7 +73,7 @@ returns c =
     let r = ready (on won) in
     let rest = c.without.result in
     one-won x.segment x.queues 0 r.0 r.1 (heard won).heard-in.result (heard won).heard-in.ensures won.if2.true rest c.without.ensures
-    (queues-arrays rest _ c.without.type-inv)
+    (queues_arrays rest _ c.without.type-inv)
     ∙ probes-now x r.0 r.1 r.2
 
 returns-2 : tie.Need-returns-2
@@ -81,7 +81,7 @@ returns-2 c =
     let past = c.before.before.before.before in
     let x = s past.before in
     let r = ready past.before in
-    none-won x.segment x.queues 0 r.0 r.1 past.heard-in.result past.heard-in.ensures c.if2.false ∙ probes-now x r.0 r.1 r.2
+    none_won x.segment x.queues 0 r.0 r.1 past.heard-in.result past.heard-in.ensures c.if2.false ∙ probes-now x r.0 r.1 r.2
 
 -- ---- one that is refused
 
@@ -93,8 +93,8 @@ returns-3 c =
     ap (λ (answer : Answer). record { answer = answer; state = s }) c.before.refused.ensures
     ∙ probe-away tested.stands.result s (sound! tested) told.probe-refusal.result told.probe-refusal.ensures c.if1.false
 
-pub probe-spec : {M : Type 1} → statement M
-probe-spec =
+pub probe_spec : {M : Type 1} → statement M
+probe_spec =
     tie.close
     (tie.spec
     stands-requires

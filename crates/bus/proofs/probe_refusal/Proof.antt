@@ -22,15 +22,15 @@ returns-3 : tie.Need-returns-3
 returns-3 c =
     let start = c.before.before.before.before in
     let yes : start.args.stands ≡ true = granted refl c.before.before.before.if1.false in
-    let under-way : start.args.begun ≡ true = granted refl c.before.before.if2.false in
-    rw (yes, under-way, sym c.before.before2.ensures ∙ c.if3.true)
+    let under_way : start.args.begun ≡ true = granted refl c.before.before.if2.false in
+    rw (yes, under_way, sym c.before.before2.ensures ∙ c.if3.true)
 
 returns-4 : tie.Need-returns-4
 returns-4 c =
     let start = c.before.before.before.before in
     let yes : start.args.stands ≡ true = granted refl c.before.before.before.if1.false in
-    let under-way : start.args.begun ≡ true = granted refl c.before.before.if2.false in
-    rw (yes, under-way, sym c.before.before2.ensures ∙ c.if3.false)
+    let under_way : start.args.begun ≡ true = granted refl c.before.before.if2.false in
+    rw (yes, under_way, sym c.before.before2.ensures ∙ c.if3.false)
 
-pub probe-refusal-spec : {M : Type 1} → statement M
-probe-refusal-spec = tie.close (tie.spec returns returns-2 before-requires returns-3 returns-4)
+pub probe_refusal_spec : {M : Type 1} → statement M
+probe_refusal_spec = tie.close (tie.spec returns returns-2 before-requires returns-3 returns-4)

@@ -6,17 +6,17 @@ use mathlib.Core.Bool.{false}
 use lib.Dec.{ltb}
 use lib.ListN.{length}
 use borrow.Author.Rules.{rules}
-use Rattle.rules.specs.Bus.{last-slot}
+use Rattle.rules.specs.Bus.{last_slot}
 use Rattle.rules.specs.Probe.{probe}
 use Rattle.bus.specs.Types.{Segment, Queues, State}
-use Rattle.bus.specs.Coded.{Answer, codedStep, stepResult}
-use Rattle.state.proofs.Places.{queues-arrays}
+use Rattle.bus.specs.Coded.{Answer, coded_step, step_result}
+use Rattle.state.proofs.Places.{queues_arrays}
 use Rattle.state.proofs.Tested.{denied, granted}
 use Rattle.state.proofs.Stands.{Lent, lent}
-use Rattle.state.proofs.StandingParts.{state-held}
-use Rattle.bus.proofs.ProbedSlot.{openOf, stepped}
+use Rattle.state.proofs.StandingParts.{state_held}
+use Rattle.bus.proofs.ProbedSlot.{open_of, stepped}
 use Rattle.bus.proofs.Steps.{probes}
-use Rattle.bus.proofs.InPlace.{whole, Sound, sound-of, step-away, step-on, Opened, was-open, opened-as, may-leave, fewer-wait, may-begin, late-gone, may-probe, none-won, winner-there!, may-send, one-won}
+use Rattle.bus.proofs.InPlace.{whole, Sound, sound_of, step-away, step-on, Opened, was_open, opened-as, may-leave, fewer_wait, may-begin, late_gone, may-probe, none_won, winner_there!, may-send, one-won}
 use Rattle.bus.proofs.step.Statement.{statement}
 use Rattle.bus.proofs.step.Tie as tie
 
@@ -26,7 +26,7 @@ stands-requires c κs = search rules
 sound! : (c : tie.After-stands) → Sound c.stands.result c.before.args.s
 sound! c =
     let start = c.before in
-    sound-of start.args.s c.stands.result (state-held start.args.s _ start.well-formed.0) (lent start.args.s _ start.well-formed.0) c.stands.ensures
+    sound_of start.args.s c.stands.result (state_held start.args.s _ start.well-formed.0) (lent start.args.s _ start.well-formed.0) c.stands.ensures
 
 step-refusal-requires : tie.Need-step-refusal-requires
 step-refusal-requires c κs = search rules
@@ -40,7 +40,7 @@ module _ (t : tie.Then1) where
   abbrev s : State
   s = t.before.before.before.before.args.s
 
-  ready : (Lent s) × (ltb last-slot s.segment.clock.0 ≡ false)
+  ready : (Lent s) × (ltb last_slot s.segment.clock.0 ≡ false)
   ready =
       let tested = t.before.before in
       step-on tested.before.stands.result s (sound! tested.before) tested.step-refusal.result tested.step-refusal.ensures t.if1.taken
@@ -61,14 +61,14 @@ module _ (c : tie.After-without) where
   turn = c.before.before.before.before.before.before.before.before
 
   arrays : (length c.without.result.lengths ≡ 64) × (length c.without.result.packets ≡ 1024)
-  arrays = queues-arrays c.without.result _ c.without.type-inv
+  arrays = queues_arrays c.without.result _ c.without.type-inv
 
 dropped-requires : tie.Need-dropped-requires
 dropped-requires c κs =
     let past = c.before in
     let t = turn past in
     let to = past.before.before.before.dropping in
-    fewer-wait (s t) (ready t).0 to.result to.ensures past.without.result past.without.ensures (arrays past)
+    fewer_wait (s t) (ready t).0 to.result to.ensures past.without.result past.without.ensures (arrays past)
 
 begun-requires : tie.Need-begun-requires
 begun-requires c κs =
@@ -89,10 +89,10 @@ module _ (c : tie.Joined2) where
       ⊎_elim
       (λ w.
       opened-as (ap (λ (x : State). x.segment) w.8) (ap (λ (x : State). x.queues) w.8) w.9
-      (late-gone (s at) r w.1.result w.1.ensures w.4.result w.4.ensures (queues-arrays w.4.result _ w.4.ok) w.6.result w.6.ensures w.7.result
+      (late_gone (s at) r w.1.result w.1.ensures w.4.result w.4.ensures (queues_arrays w.4.result _ w.4.ok) w.6.result w.6.ensures w.7.result
       w.7.ensures
       (denied refl w.0.taken)))
-      (λ w. opened-as (ap (λ (x : State). x.segment) w.1) (ap (λ (x : State). x.queues) w.1) w.2 (was-open (s at) r (granted refl w.0.left)))
+      (λ w. opened-as (ap (λ (x : State). x.segment) w.1) (ap (λ (x : State). x.queues) w.1) w.2 (was_open (s at) r (granted refl w.0.left)))
       c.if2.branch
 
   abbrev queues : Queues
@@ -104,8 +104,8 @@ module _ (c : tie.Joined2) where
   abbrev drops : ℕ
   drops = c.if2.drops
 
-  of-step : stepped (probe (openOf (whole probing queues) drops)) ≡ stepResult (codedStep (s at))
-  of-step = probes (s at) (ready at).0 (ready at).1 (openOf (whole probing queues) drops) opened!.is
+  of_step : stepped (probe (open_of (whole probing queues) drops)) ≡ step_result (coded_step (s at))
+  of_step = probes (s at) (ready at).0 (ready at).1 (open_of (whole probing queues) drops) opened!.is
 
 heard-in-requires : tie.Need-heard-in-requires
 heard-in-requires c κs = let o = opened! c in may-probe (probing c) (queues c) (drops c) o.ready o.begun
@@ -122,7 +122,7 @@ module _ (c : tie.Then3) where
   place! : heard.heard-in.result.place < 64
   place! =
       let o = opened! on in
-      winner-there! (probing on) (queues on) (drops on) o.ready o.begun heard.heard-in.result heard.heard-in.ensures c.if3.true
+      winner_there! (probing on) (queues on) (drops on) o.ready o.begun heard.heard-in.result heard.heard-in.ensures c.if3.true
 
 add-without : tie.Need-overflow-add-without
 add-without c = let h = place! c in search rules
@@ -139,15 +139,15 @@ returns c =
     let o = opened! j in
     let rest = c.without2.result in
     one-won (probing j) (queues j) (drops j) o.ready o.begun (heard won).heard-in.result (heard won).heard-in.ensures won.if3.true rest c.without2.ensures
-    (queues-arrays rest _ c.without2.type-inv)
-    ∙ of-step j
+    (queues_arrays rest _ c.without2.type-inv)
+    ∙ of_step j
 
 returns-2 : tie.Need-returns-2
 returns-2 c =
     let past = c.before.before.before.before in
     let j = past.before in
     let o = opened! j in
-    none-won (probing j) (queues j) (drops j) o.ready o.begun past.heard-in.result past.heard-in.ensures c.if3.false ∙ of-step j
+    none_won (probing j) (queues j) (drops j) o.ready o.begun past.heard-in.result past.heard-in.ensures c.if3.false ∙ of_step j
 
 returns-3 : tie.Need-returns-3
 returns-3 c =

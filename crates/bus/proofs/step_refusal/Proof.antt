@@ -22,5 +22,5 @@ returns-3 c =
     let yes : c.before.before.before.args.stands ≡ true = granted refl c.before.before.if1.false in
     rw (yes, sym c.before.before2.ensures ∙ c.if2.false)
 
-pub step-refusal-spec : {M : Type 1} → statement M
-step-refusal-spec = tie.close (tie.spec returns before-requires returns-2 returns-3)
+pub step_refusal_spec : {M : Type 1} → statement M
+step_refusal_spec = tie.close (tie.spec returns before-requires returns-2 returns-3)

@@ -1,9 +1,9 @@
 -- `lay_out` is safe: what it writes is in the room. Assumes nothing.
 use mathlib.Core.Path.{sym, ap, ◌∙◌}
 use lib.ListN.{length}
-use Rattle.meanings.proofs.Telling.{Within, part-there, part_length}
-use Rattle.layout.specs.Layout.{layoutSays}
-use Rattle.layout.proofs.Promises.{room-kept}
+use Rattle.meanings.proofs.Telling.{Within, part_there, part_length}
+use Rattle.layout.specs.Layout.{layout_says}
+use Rattle.layout.proofs.Promises.{room_kept}
 use borrow.Author.Rules.{rules}
 use Rattle.buslayout.proofs.lay_out.Statement.{statement}
 use Rattle.buslayout.proofs.lay_out.Tie as tie
@@ -15,7 +15,7 @@ within c =
     record {
       long =
           room.large-buffer.ensures
-          ∙ sym (ap length c.read.ensures.1.0 ∙ room-kept (layoutSays room.before.before.args.text.now) room.large-buffer.result);
+          ∙ sym (ap length c.read.ensures.1.0 ∙ room_kept (layout_says room.before.before.args.text.now) room.large-buffer.result);
       inside = c.read.ensures.1.1;
     }
 
@@ -32,7 +32,7 @@ returns : tie.Need-returns
 returns c = search rules
 
 array-share-prefix-room : tie.Need-array-share-prefix-room
-array-share-prefix-room c = part-there (within c.before.before)
+array-share-prefix-room c = part_there (within c.before.before)
 
 slice-aggregate-write-all : tie.Need-slice-aggregate-write-all
 slice-aggregate-write-all c = part_length (within c.before.before.before)
@@ -49,8 +49,8 @@ returns-2 c = search rules
 returns-3 : tie.Need-returns-3
 returns-3 c = search rules
 
-pub lay-out-spec : {M : Type 1} → statement M
-lay-out-spec =
+pub lay_out_spec : {M : Type 1} → statement M
+lay_out_spec =
     tie.close
     (tie.spec
     large-buffer-requires

@@ -1,6 +1,6 @@
 -- `say_refusal` is safe: the words that it says are in the room. Assumes nothing.
-use Rattle.meanings.specs.Meanings.{meaningOf}
-use Rattle.meanings.proofs.Telling.{Within, room-start, stored-within, part-there, part_length}
+use Rattle.meanings.specs.Meanings.{meaning_of}
+use Rattle.meanings.proofs.Telling.{Within, room_start, stored-within, part_there, part_length}
 use borrow.Author.Rules.{rules}
 use Rattle.buslayout.proofs.say_refusal.Statement.{statement}
 use Rattle.buslayout.proofs.say_refusal.Tie as tie
@@ -9,7 +9,7 @@ use Rattle.buslayout.proofs.say_refusal.Tie as tie
 within : (c : tie.After-meaning) → Within c.meaning.new.0 c.meaning.result
 within c =
     let room = c.before.before.large-buffer in
-    stored-within (meaningOf _) (room-start room.result room.ensures) c.meaning.ensures
+    stored-within (meaning_of _) (room_start room.result room.ensures) c.meaning.ensures
 
 slice-aggregate-say : tie.Need-slice-aggregate-say
 slice-aggregate-say c = search rules
@@ -33,7 +33,7 @@ meaning-requires : tie.Need-meaning-requires
 meaning-requires c κs = search rules
 
 array-share-prefix-room : tie.Need-array-share-prefix-room
-array-share-prefix-room c = part-there (within c)
+array-share-prefix-room c = part_there (within c)
 
 slice-aggregate-say-3 : tie.Need-slice-aggregate-say-3
 slice-aggregate-say-3 c = part_length (within c.before)
@@ -44,8 +44,8 @@ say-requires-3 c κs = search rules
 returns : tie.Need-returns
 returns c = search rules
 
-pub say-refusal-spec : {M : Type 1} → statement M
-say-refusal-spec =
+pub say_refusal_spec : {M : Type 1} → statement M
+say_refusal_spec =
     tie.close
     (tie.spec
     slice-aggregate-say

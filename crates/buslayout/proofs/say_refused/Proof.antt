@@ -1,6 +1,6 @@
 -- `say_refused` is safe: the part of the room that it says is in it. Assumes nothing.
-use Rattle.meanings.specs.Refused.{refusedText}
-use Rattle.meanings.proofs.Telling.{Within, start-within, part-there, part_length}
+use Rattle.meanings.specs.Refused.{refused_text}
+use Rattle.meanings.proofs.Telling.{Within, start-within, part_there, part_length}
 use borrow.Author.Rules.{rules}
 use Rattle.buslayout.proofs.say_refused.Statement.{statement}
 use Rattle.buslayout.proofs.say_refused.Tie as tie
@@ -10,7 +10,7 @@ within : (c : tie.After-refused) → Within c.refused.new.1.1.1.0 c.refused.resu
 within c =
     let room = c.before.before in
     let args = room.before.before.args in
-    start-within (refusedText args.input.now args.number args.offset) room.large-buffer.result room.large-buffer.ensures c.refused.ensures
+    start-within (refused_text args.input.now args.number args.offset) room.large-buffer.result room.large-buffer.ensures c.refused.ensures
 
 large-buffer-requires : tie.Need-large-buffer-requires
 large-buffer-requires c κs = search rules
@@ -19,7 +19,7 @@ refused-requires : tie.Need-refused-requires
 refused-requires c κs = search rules
 
 array-share-prefix-room : tie.Need-array-share-prefix-room
-array-share-prefix-room c = part-there (within c)
+array-share-prefix-room c = part_there (within c)
 
 slice-aggregate-say-line : tie.Need-slice-aggregate-say-line
 slice-aggregate-say-line c = part_length (within c.before)
@@ -30,8 +30,8 @@ say-line-requires c κs = search rules
 returns : tie.Need-returns
 returns c = search rules
 
-pub say-refused-spec : {M : Type 1} → statement M
-say-refused-spec =
+pub say_refused_spec : {M : Type 1} → statement M
+say_refused_spec =
     tie.close
     (tie.spec
     large-buffer-requires

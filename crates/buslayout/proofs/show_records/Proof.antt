@@ -35,8 +35,8 @@ loop-again c = search rules
 returns-2 : tie.Need-returns-2 invariant-loop decreases-loop
 returns-2 c = search rules
 
-pub show-records-spec : {M : Type 1} → statement M
-show-records-spec =
+pub show_records_spec : {M : Type 1} → statement M
+show_records_spec =
     tie.close
     (tie.spec
     invariant-loop

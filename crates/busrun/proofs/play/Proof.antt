@@ -7,10 +7,10 @@ use mathlib.Core.List.{List}
 use native.Mathlib.Omega.{arith}
 use lib.ListN.{length}
 use borrow.Author.Rules.{rules}
-use Rattle.text.specs.Room.{roomWith}
-use Rattle.text.proofs.Promises.{room-kept}
+use Rattle.text.specs.Room.{room_with}
+use Rattle.text.proofs.Promises.{room_kept}
 use Rattle.listing.specs.declared.Turn.{Turn}
-use Rattle.listing.specs.Turns.{opened, turn, turnsLeft}
+use Rattle.listing.specs.Turns.{opened, turn, turns_left}
 use Rattle.listing.proofs.Promises.{falls}
 use Rattle.busrun.proofs.play.Statement.{statement}
 use Rattle.busrun.proofs.play.Tie as tie
@@ -19,22 +19,22 @@ abbrev invariant-loop : tie.invariant-loop
 invariant-loop input room₀ written₀ play₀ room written play = 65536 ≡ length room
 
 abbrev decreases-loop : tie.decreases-loop
-decreases-loop input room₀ written₀ play₀ room written play = turnsLeft input play
+decreases-loop input room₀ written₀ play₀ room written play = turns_left input play
 
 -- a room with a text over its start is as long as it was
-still : (text before : List ℕ) {after : List ℕ} → after ≡ roomWith text before → 65536 ≡ length before → 65536 ≡ length after
-still text before e long = long ∙ sym (ap length e ∙ room-kept text before)
+still : (text before : List ℕ) {after : List ℕ} → after ≡ room_with text before → 65536 ≡ length before → 65536 ≡ length after
+still text before e long = long ∙ sym (ap length e ∙ room_kept text before)
 
 -- the room after the first turn
-opened-room : (c : tie.After-open invariant-loop decreases-loop) → 65536 ≡ length c.«open».new.1.0
-opened-room c =
+opened_room : (c : tie.After-open invariant-loop decreases-loop) → 65536 ≡ length c.«open».new.1.0
+opened_room c =
     let room = c.before.before in
     let args = room.before.before.args in
     still (opened args.input.now).text room.room.result c.«open».ensures.1.0 room.room.ensures
 
 -- and after another
-next-room : (c : tie.After-next invariant-loop decreases-loop) → 65536 ≡ length c.next.new.1.1.0
-next-room c =
+next_room : (c : tie.After-next invariant-loop decreases-loop) → 65536 ≡ length c.next.new.1.1.0
+next_room c =
     let at = c.before.before.before.before.loop in
     let args = c.before.before.before.before.before.before.before.before.before.before.before.before.args in
     still (turn args.input.now at.play).text at.room c.next.ensures.1.0 at.invariant
@@ -46,13 +46,13 @@ open-requires : tie.Need-open-requires invariant-loop decreases-loop
 open-requires c κs = tt
 
 slice-aggregate-write-first : tie.Need-slice-aggregate-write-first invariant-loop decreases-loop
-slice-aggregate-write-first c = opened-room c.before
+slice-aggregate-write-first c = opened_room c.before
 
 write-first-requires : tie.Need-write-first-requires invariant-loop decreases-loop
-write-first-requires c κs = let long = opened-room c.before in omega (arith, c.before.«open».ensures.1.1)
+write-first-requires c κs = let long = opened_room c.before in omega (arith, c.before.«open».ensures.1.1)
 
 loop-holds : tie.Need-loop-init invariant-loop decreases-loop
-loop-holds c = opened-room c.before.before.before
+loop-holds c = opened_room c.before.before.before
 
 returns : tie.Need-returns invariant-loop decreases-loop
 returns c = tt
@@ -61,10 +61,10 @@ next-requires : tie.Need-next-requires invariant-loop decreases-loop
 next-requires c κs = tt
 
 slice-aggregate-write-first-2 : tie.Need-slice-aggregate-write-first-2 invariant-loop decreases-loop
-slice-aggregate-write-first-2 c = next-room c.before
+slice-aggregate-write-first-2 c = next_room c.before
 
 write-first-requires-2 : tie.Need-write-first-requires-2 invariant-loop decreases-loop
-write-first-requires-2 c κs = let long = next-room c.before in omega (arith, c.before.next.ensures.1.1)
+write-first-requires-2 c κs = let long = next_room c.before in omega (arith, c.before.next.ensures.1.1)
 
 loop-less : tie.Need-loop-smaller invariant-loop decreases-loop
 loop-less c =
@@ -73,18 +73,18 @@ loop-less c =
     let input = next.before.before.before.before.before.before.before.before.before.before.before.before.args.input.now in
     let going : at.play.going ≡ true = search rules in
     subst
-    (λ (t : Turn). turnsLeft input t.play < turnsLeft input at.play)
+    (λ (t : Turn). turns_left input t.play < turns_left input at.play)
     (sym next.next.ensures.0)
     (falls input at.play going)
 
 loop-again : tie.Need-loop-preserved invariant-loop decreases-loop
-loop-again c = next-room c.before.before.before
+loop-again c = next_room c.before.before.before
 
 returns-2 : tie.Need-returns-2 invariant-loop decreases-loop
 returns-2 c = tt
 
-pub play-spec : {M : Type 1} → statement M
-play-spec =
+pub play_spec : {M : Type 1} → statement M
+play_spec =
     tie.close
     (tie.spec
     invariant-loop

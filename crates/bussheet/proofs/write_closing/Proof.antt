@@ -4,7 +4,7 @@ use mathlib.Core.Path.{◌≡◌, sym}
 use borrow.Author.Rules.{rules}
 use lib.ListN.{length}
 use lib.Seq.{length-take-le}
-use Rattle.page.specs.Page.{closingText}
+use Rattle.page.specs.Page.{closing_text}
 use Rattle.page.proofs.Promises.{text-within}
 use Rattle.bussheet.proofs.write_closing.Statement.{statement}
 use Rattle.bussheet.proofs.write_closing.Tie as tie
@@ -14,7 +14,7 @@ within : (c : tie.After-closing) → (65536 ≡ length c.closing.new.1.1.1.0) ×
 within c =
     let room = c.before.before in
     let args = room.before.before.args in
-    text-within (closingText args.sums args.highest args.name.now) room.large-buffer.result room.large-buffer.ensures c.closing.ensures
+    text-within (closing_text args.sums args.highest args.name.now) room.large-buffer.result room.large-buffer.ensures c.closing.ensures
 
 large-buffer-requires : tie.Need-large-buffer-requires
 large-buffer-requires c κs = search rules
@@ -35,8 +35,8 @@ write-all-requires c κs = search rules
 returns : tie.Need-returns
 returns c = search rules
 
-pub write-closing-spec : {M : Type 1} → statement M
-write-closing-spec =
+pub write_closing_spec : {M : Type 1} → statement M
+write_closing_spec =
     tie.close
     (tie.spec
     large-buffer-requires

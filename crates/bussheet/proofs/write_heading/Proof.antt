@@ -4,7 +4,7 @@ use mathlib.Core.Path.{◌≡◌, sym}
 use borrow.Author.Rules.{rules}
 use lib.ListN.{length}
 use lib.Seq.{length-take-le}
-use Rattle.page.specs.Page.{headingText}
+use Rattle.page.specs.Page.{heading_text}
 use Rattle.page.proofs.Promises.{text-within}
 use Rattle.bussheet.proofs.write_heading.Statement.{statement}
 use Rattle.bussheet.proofs.write_heading.Tie as tie
@@ -13,7 +13,7 @@ use Rattle.bussheet.proofs.write_heading.Tie as tie
 within : (c : tie.After-heading) → (65536 ≡ length c.heading.new.0) × (c.heading.result ≤ length c.heading.new.0)
 within c =
     let room = c.before.before in
-    text-within (headingText) room.large-buffer.result room.large-buffer.ensures c.heading.ensures
+    text-within (heading_text) room.large-buffer.result room.large-buffer.ensures c.heading.ensures
 
 large-buffer-requires : tie.Need-large-buffer-requires
 large-buffer-requires c κs = search rules
@@ -34,8 +34,8 @@ write-all-requires c κs = search rules
 returns : tie.Need-returns
 returns c = search rules
 
-pub write-heading-spec : {M : Type 1} → statement M
-write-heading-spec =
+pub write_heading_spec : {M : Type 1} → statement M
+write_heading_spec =
     tie.close
     (tie.spec
     large-buffer-requires

@@ -48,8 +48,8 @@ state-requires c κs = search rules
 returns : tie.Need-returns invariant-loop decreases-loop
 returns c = search rules
 
-pub play-spec : {M : Type 1} → statement M
-play-spec =
+pub play_spec : {M : Type 1} → statement M
+play_spec =
     tie.close
     (tie.spec
     invariant-loop

@@ -6,12 +6,12 @@ use native.Mathlib.Numerals.{add-one}
 use native.Mathlib.Omega.{arith}
 use borrow.Author.Rules.{rules}
 use lib.ListN.{length, drop}
-use Rattle.words.specs.Words.{lines_of, firstLine}
-use Rattle.words.proofs.Lines.{end-within, line_taken, lines-on, lines_end}
+use Rattle.words.specs.Words.{lines_of, first_line}
+use Rattle.words.proofs.Lines.{end_within, line_taken, lines_on, lines_end}
 use Rattle.layout.specs.declared.plan.Plan as Coded
-use Rattle.layout.specs.Layout.{takeLine, layoutSays, readLines}
+use Rattle.layout.specs.Layout.{take_line, layout_says, read_lines}
 use Rattle.layout.specs.Parts.{plan_of, taken_of, PlanFits}
-use Rattle.layout.proofs.Turns.{turn-right, turn-wrong, lines-first, saying-wrong}
+use Rattle.layout.proofs.Turns.{turn_right, turn_wrong, lines-first, saying-wrong}
 use Rattle.layout.proofs.read_lines.Statement.{statement}
 use Rattle.layout.proofs.read_lines.Tie as tie
 
@@ -20,7 +20,7 @@ record Going (text : List ℕ) (plan : Coded.Plan) (at line : ℕ) : Type 0 wher
   within : at ≤ length text
   few : line ≤ at
   fits : PlanFits plan
-  left : layoutSays text ≡ readLines line (plan_of plan) (lines_of (drop at text))
+  left : layout_says text ≡ read_lines line (plan_of plan) (lines_of (drop at text))
 
 abbrev invariant-loop : tie.invariant-loop
 invariant-loop text plan₀ at₀ line₀ plan at line = Going text plan at line
@@ -37,7 +37,7 @@ loop-holds c =
       within = omega arith;
       few = omega arith;
       fits = c.start.ensures.1;
-      left = ap (λ p. readLines 0 p (lines_of c.before.before.args.text.now)) (sym c.start.ensures.0);
+      left = ap (λ p. read_lines 0 p (lines_of c.before.before.args.text.now)) (sym c.start.ensures.0);
     }
 
 line-end-requires : tie.Need-line-end-requires invariant-loop decreases-loop
@@ -49,7 +49,7 @@ ends-within :
     c.line-end.result ≤ length at.before.before.before.args.text.now
 ends-within c =
     let at = c.before in
-    end-within at.before.before.before.args.text.now at.loop.at c.line-end.result at.loop.invariant.within c.line-end.ensures
+    end_within at.before.before.before.args.text.now at.loop.at c.line-end.result at.loop.invariant.within c.line-end.ensures
 
 add-line : tie.Need-overflow-add-line invariant-loop decreases-loop
 add-line c = let few = c.before.loop.invariant.few in let within = c.before.loop.invariant.within in search rules
@@ -70,14 +70,14 @@ take-requires c κs = c.before.before.loop.invariant.fits
 taken_here :
     (c : tie.After-take invariant-loop decreases-loop) → let at = c.before.before.before in
     let text = at.before.before.before.args.text.now in
-    taken_of c.take.result ≡ takeLine (plan_of at.loop.plan) (firstLine (drop at.loop.at text))
+    taken_of c.take.result ≡ take_line (plan_of at.loop.plan) (first_line (drop at.loop.at text))
 taken_here c =
     let end = c.before.before in
     let at = end.before in
     let text = at.before.before.before.args.text.now in
     c.take.ensures.0
     ∙ ap
-    (takeLine (plan_of at.loop.plan))
+    (take_line (plan_of at.loop.plan))
     (line_taken text at.loop.at end.line-end.result at.loop.invariant.within end.line-end.ensures)
 
 returns : tie.Need-returns invariant-loop decreases-loop
@@ -88,8 +88,8 @@ returns c =
     let text = at.before.before.before.args.text.now in
     let first = lines-first text at.loop.at end.line-end.result at.loop.invariant.within end.line-end.ensures in (
       saying-wrong _ _ done.take.result.plan c.if1.true
-          ∙ turn-wrong at.loop.line (plan_of at.loop.plan) (firstLine (drop at.loop.at text)) first.0 (taken_of done.take.result) (taken_here done) c.if1.true
-          ∙ ap (readLines at.loop.line (plan_of at.loop.plan)) (sym first.1)
+          ∙ turn_wrong at.loop.line (plan_of at.loop.plan) (first_line (drop at.loop.at text)) first.0 (taken_of done.take.result) (taken_here done) c.if1.true
+          ∙ ap (read_lines at.loop.line (plan_of at.loop.plan)) (sym first.1)
           ∙ sym at.loop.invariant.left,
       done.take.ensures.1,
     )
@@ -105,9 +105,9 @@ returns-2 c =
     let at = end.before in
     let text = at.before.before.before.args.text.now in (
       c.at-end.ensures.0
-          ∙ turn-right at.loop.line (plan_of at.loop.plan) (firstLine (drop at.loop.at text)) [] (taken_of done.take.result) (taken_here done) last.before.if1.false
+          ∙ turn_right at.loop.line (plan_of at.loop.plan) (first_line (drop at.loop.at text)) [] (taken_of done.take.result) (taken_here done) last.before.if1.false
           ∙ ap
-          (readLines at.loop.line (plan_of at.loop.plan))
+          (read_lines at.loop.line (plan_of at.loop.plan))
           (sym (lines_end text at.loop.at end.line-end.result at.loop.invariant.within end.line-end.ensures last.if2.true))
           ∙ sym at.loop.invariant.left,
       c.at-end.ensures.1,
@@ -135,14 +135,14 @@ loop-again c =
       left =
           g.left
           ∙ ap
-          (readLines at.loop.line (plan_of at.loop.plan))
-          (lines-on text at.loop.at end.line-end.result g.within end.line-end.ensures c.if2.false)
-          ∙ sym (turn-right at.loop.line (plan_of at.loop.plan) (firstLine (drop at.loop.at text)) (lines_of (drop (suc end.line-end.result) text)) (taken_of done.take.result) (taken_here done) c.before.if1.false)
-          ∙ ap (λ k. readLines (at.loop.line + 1) (plan_of done.take.result.plan) (lines_of (drop k text))) (sym (add-one end.line-end.result));
+          (read_lines at.loop.line (plan_of at.loop.plan))
+          (lines_on text at.loop.at end.line-end.result g.within end.line-end.ensures c.if2.false)
+          ∙ sym (turn_right at.loop.line (plan_of at.loop.plan) (first_line (drop at.loop.at text)) (lines_of (drop (suc end.line-end.result) text)) (taken_of done.take.result) (taken_here done) c.before.if1.false)
+          ∙ ap (λ k. read_lines (at.loop.line + 1) (plan_of done.take.result.plan) (lines_of (drop k text))) (sym (add-one end.line-end.result));
     }
 
-pub read-lines-spec : {M : Type 1} → statement M
-read-lines-spec =
+pub read_lines_spec : {M : Type 1} → statement M
+read_lines_spec =
     tie.close
     (tie.spec
     invariant-loop

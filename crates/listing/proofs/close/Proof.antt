@@ -3,10 +3,10 @@ use mathlib.Core.Path.{subst}
 use native.Mathlib.Omega.{arith}
 use borrow.Author.Rules.{rules}
 use Rattle.bus.specs.declared.Totals.{Totals}
-use Rattle.text.specs.Room.{room-bytes}
-use Rattle.listing.specs.Turns.{closedBy}
+use Rattle.text.specs.Room.{room_bytes}
+use Rattle.listing.specs.Turns.{closed_by}
 use Rattle.text.specs.Parts.{Told}
-use Rattle.text.proofs.Stores.{told-within}
+use Rattle.text.proofs.Stores.{told_within}
 use Rattle.listing.proofs.close.Statement.{statement}
 use Rattle.listing.proofs.close.Tie as tie
 
@@ -28,9 +28,9 @@ returns c =
       play = c.over.ensures;
       told =
           subst
-          (λ (t : Totals). Told start.args.room.now line.ending.new.0 0 line.ending.result (closedBy start.args.state t).text room-bytes)
+          (λ (t : Totals). Told start.args.room.now line.ending.new.0 0 line.ending.result (closed_by start.args.state t).text room_bytes)
           totals.closing.ensures
-          (told-within line.ending.ensures (omega arith));
+          (told_within line.ending.ensures (omega arith));
     }
 
 pub close_spec : {M : Type 1} → statement M

@@ -7,9 +7,9 @@ use native.Mathlib.Omega.{arith}
 use lib.ListN.{length as size, drop}
 use borrow.Author.Rules.{rules}
 use Rattle.scenario.specs.declared.Record.TheVariants as Is
-use Rattle.scenario.specs.Format.{Said, said, readRecord}
-use Rattle.scenario.proofs.ReadingLaws.{other-kind, arrival-within}
-use Rattle.listing.proofs.Gathered.{So-far, at_first, one_more, none_found, row-full, at_last}
+use Rattle.scenario.specs.Format.{Said, said, read_record}
+use Rattle.scenario.proofs.ReadingLaws.{other-kind, arrival_within}
+use Rattle.listing.proofs.Gathered.{So-far, at_first, one_more, none_found, row_full, at_last}
 use Rattle.listing.proofs.gather.Statement.{statement}
 use Rattle.listing.proofs.gather.Tie as tie
 
@@ -23,7 +23,7 @@ decreases-loop input from row₀ length₀ at₀ row length at = 64 - length
 found_here :
     (c : tie.After-found invariant-loop decreases-loop)
     → let at = c.before.before.before.before in
-    said (Is.Arrival c.found.given.0.0) ≡ readRecord (drop at.loop.at at.before.before.args.input.now)
+    said (Is.Arrival c.found.given.0.0) ≡ read_record (drop at.loop.at at.before.before.args.input.now)
 found_here c = ap said (sym c.found.given.1) ∙ c.before.before.record-at.ensures
 
 -- and its bytes are within the input
@@ -32,7 +32,7 @@ found_within :
     → let at = c.before.before.before.before in at.loop.at + 16 ≤ size at.before.before.args.input.now
 found_within c =
     let at = c.before.before.before.before in
-    arrival-within at.before.before.args.input.now at.loop.at (ap (λ (y : Said). y.kind) (sym (found_here c)))
+    arrival_within at.before.before.args.input.now at.loop.at (ap (λ (y : Said). y.kind) (sym (found_here c)))
 
 loop-holds : tie.Need-loop-init invariant-loop decreases-loop
 loop-holds c = (at_first c.before.args.input.now c.before.args.from, omega arith)
@@ -75,10 +75,10 @@ loop-again c =
 returns-2 : tie.Need-returns-2 invariant-loop decreases-loop
 returns-2 c =
     let turn = c.before.loop in
-    at_last turn.invariant.0 (row-full c.before.before.before.args.input.now turn.at turn.length (omega arith))
+    at_last turn.invariant.0 (row_full c.before.before.before.args.input.now turn.at turn.length (omega arith))
 
-pub gather-spec : {M : Type 1} → statement M
-gather-spec =
+pub gather_spec : {M : Type 1} → statement M
+gather_spec =
     tie.close
     (tie.spec
     invariant-loop

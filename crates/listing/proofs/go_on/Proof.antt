@@ -3,9 +3,9 @@ use mathlib.Core.Path.{◌≡◌}
 use mathlib.Core.Logic.{⊎_elim}
 use native.Mathlib.Omega.{arith}
 use borrow.Author.Rules.{rules}
-use Rattle.bus.specs.Stretch.{stretchForm}
-use Rattle.listing.specs.Turns.{nextArrivals, courseOf}
-use Rattle.listing.proofs.TurnLaws.{stretch-is, made-few, taken-few, taken-within, stretched-turn}
+use Rattle.bus.specs.Stretch.{stretch_form}
+use Rattle.listing.specs.Turns.{next_arrivals, course_of}
+use Rattle.listing.proofs.TurnLaws.{stretch-is, made_few, taken_few, taken_within, stretched-turn}
 use Rattle.listing.proofs.go_on.Statement.{statement}
 use Rattle.listing.proofs.go_on.Tie as tie
 
@@ -13,7 +13,7 @@ use Rattle.listing.proofs.go_on.Tie as tie
 is :
     (c : tie.After-play)
     → let args = c.before.before.before.before.args in
-    c.play.result ≡ stretchForm (courseOf (nextArrivals args.input.now args.play.at) args.play)
+    c.play.result ≡ stretch_form (course_of (next_arrivals args.input.now args.play.at) args.play)
 is c =
     let gathered = c.before.before in
     let args = gathered.before.before.args in
@@ -29,13 +29,13 @@ tell-all-requires : tie.Need-tell-all-requires
 tell-all-requires c κs =
     let played = c.before in
     let args = played.before.before.before.before.args in
-    made-few args.input.now args.play played.play.result (is played)
+    made_few args.input.now args.play played.play.result (is played)
 
 mul-t12 : tie.Need-overflow-mul-t12
 mul-t12 c =
     let played = c.before.before.before.before in
     let args = played.before.before.before.before.args in
-    let few = taken-few args.input.now args.play played.play.result (is played) in
+    let few = taken_few args.input.now args.play played.play.result (is played) in
     omega arith
 
 add-t13 : tie.Need-overflow-add-t13
@@ -48,7 +48,7 @@ add-t13 c =
     ⊎_elim
     (λ h. omega (arith, here))
     (λ h. omega arith)
-    (taken-within args.input.now args.play played.play.result (is played))
+    (taken_within args.input.now args.play played.play.result (is played))
 
 returns : tie.Need-returns
 returns c =
@@ -56,6 +56,6 @@ returns c =
     let args = played.before.before.before.before.args in
     stretched-turn args.input.now args.play played.play.result (is played) c.before.before.tell-all.ensures
 
-pub go-on-spec : {M : Type 1} → statement M
-go-on-spec =
+pub go_on_spec : {M : Type 1} → statement M
+go_on_spec =
     tie.close (tie.spec gather-requires play-requires tell-all-requires mul-t12 add-t13 returns)

@@ -32,5 +32,5 @@ returns-3 c =
     let arrival : report.arrival ≡ true = flipped test.before.before.before.if1.false in
     rw (arrival, ne_eqb report.admitted.refusal 0 test.if2.false) c.arrival.ensures
 
-pub tell-spec : {M : Type 1} → statement M
-tell-spec = tie.close (tie.spec answer-requires returns returns-2 arrival-requires returns-3)
+pub tell_spec : {M : Type 1} → statement M
+tell_spec = tie.close (tie.spec answer-requires returns returns-2 arrival-requires returns-3)

@@ -6,16 +6,16 @@ use native.Mathlib.Omega.{arith}
 use lib.ListN.{get_or, take}
 use lib.Seq.{take-suc}
 use borrow.Author.Rules.{rules}
-use Rattle.bus.specs.Stretch.{noReport}
-use Rattle.listing.specs.Turns.{reportsText}
+use Rattle.bus.specs.Stretch.{no_report}
+use Rattle.listing.specs.Turns.{reports_text}
 use Rattle.text.specs.Parts.{Told}
-use Rattle.text.proofs.Stores.{told_none, told-then, told-within}
-use Rattle.listing.proofs.TurnLaws.{one-report, reports-array}
+use Rattle.text.proofs.Stores.{told_none, told-then, told_within}
+use Rattle.listing.proofs.TurnLaws.{one_report, reports_array}
 use Rattle.listing.proofs.tell_all.Statement.{statement}
 use Rattle.listing.proofs.tell_all.Tie as tie
 
 abbrev invariant-loop : tie.invariant-loop
-invariant-loop room₀ made reports at₀ i₀ room at i = (i ≤ made) × Told room₀ room 0 at (reportsText (take i reports)) (128 * i)
+invariant-loop room₀ made reports at₀ i₀ room at i = (i ≤ made) × Told room₀ room 0 at (reports_text (take i reports)) (128 * i)
 
 abbrev decreases-loop : tie.decreases-loop
 decreases-loop room₀ made reports at₀ i₀ room at i = made - i
@@ -43,22 +43,22 @@ loop-again c =
     let turn = c.before.before.before.before.loop in
     let start = c.before.before.before.before.before.before in
     let reports = start.args.stretch.reports in
-    let all = reports-array start.args.stretch _ start.well-formed.1.0 in
+    let all = reports_array start.args.stretch _ start.well-formed.1.0 in
     let one =
-    ap (λ k. reportsText (take k reports)) (add-one turn.i)
-    ∙ ap reportsText (take-suc reports turn.i noReport (omega arith))
-    ∙ one-report (take turn.i reports) (get_or reports turn.i noReport) in
-    (omega arith, rw one (told-within (told-then turn.invariant.1 c.tell.ensures) (omega arith)))
+    ap (λ k. reports_text (take k reports)) (add-one turn.i)
+    ∙ ap reports_text (take-suc reports turn.i no_report (omega arith))
+    ∙ one_report (take turn.i reports) (get_or reports turn.i no_report) in
+    (omega arith, rw one (told_within (told-then turn.invariant.1 c.tell.ensures) (omega arith)))
 
 returns : tie.Need-returns invariant-loop decreases-loop
 returns c =
     let turn = c.before.loop in
     let start = c.before.before.before in
     let all : turn.i ≡ start.args.stretch.made = omega arith in
-    told-within (rw all at turn.invariant.1) (omega arith)
+    told_within (rw all at turn.invariant.1) (omega arith)
 
-pub tell-all-spec : {M : Type 1} → statement M
-tell-all-spec =
+pub tell_all_spec : {M : Type 1} → statement M
+tell_all_spec =
     tie.close
     (tie.spec
     invariant-loop

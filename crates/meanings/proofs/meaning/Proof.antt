@@ -1,14 +1,14 @@
 -- `meaning` meets its contract: each arm stores the words that the rows have for its number. Assumes nothing.
 use mathlib.Core.Path.{refl}
 use mathlib.Core.List.{[]}
-use Rattle.meanings.specs.Meanings.{meaningOf, setUpRows}
+use Rattle.meanings.specs.Meanings.{meaning_of, set_up_rows}
 use Rattle.meanings.proofs.Words.{others}
 use Rattle.meanings.proofs.meaning.Statement.{statement}
 use Rattle.meanings.proofs.meaning.Tie as tie
 
-pub meaning-spec : {M : Type 1} → statement M
-unfolding meaningOf
-meaning-spec =
+pub meaning_spec : {M : Type 1} → statement M
+unfolding meaning_of
+meaning_spec =
     tie.close
     (tie.spec
     (λ c. refl)
@@ -42,4 +42,4 @@ meaning-spec =
     (λ c. rw c.before.before.before.match.keys8 c.letters8.ensures)
     (λ c. rw c.before.before.before.match.keys9 c.letters9.ensures)
     (λ c. rw c.before.before.before.match.keys10 c.letters10.ensures)
-    (λ c. rw (others setUpRows [] _ _ c.before.before.match.rest) c.call-meaning.ensures))
+    (λ c. rw (others set_up_rows [] _ _ c.before.before.match.rest) c.call-meaning.ensures))

@@ -1,14 +1,14 @@
 -- `other_meaning` meets its contract: each arm stores the words that the rows have for its number. Assumes nothing.
 use mathlib.Core.Path.{refl}
 use mathlib.Core.List.{[]}
-use Rattle.meanings.specs.Meanings.{otherMeaning, otherRows}
+use Rattle.meanings.specs.Meanings.{other_meaning, other_rows}
 use Rattle.meanings.proofs.Words.{others}
 use Rattle.meanings.proofs.other_meaning.Statement.{statement}
 use Rattle.meanings.proofs.other_meaning.Tie as tie
 
-pub other-meaning-spec : {M : Type 1} → statement M
-unfolding otherMeaning
-other-meaning-spec =
+pub other_meaning_spec : {M : Type 1} → statement M
+unfolding other_meaning
+other_meaning_spec =
     tie.close
     (tie.spec
     (λ c. refl)
@@ -40,4 +40,4 @@ other-meaning-spec =
     (λ c. rw c.before.before.before.match.keys7 c.letters7.ensures)
     (λ c. rw c.before.before.before.match.keys8 c.letters8.ensures)
     (λ c. rw c.before.before.before.match.keys9 c.letters9.ensures)
-    (λ c. rw (others otherRows [] _ _ c.before.before.before.match.rest) c.letters10.ensures))
+    (λ c. rw (others other_rows [] _ _ c.before.before.before.match.rest) c.letters10.ensures))

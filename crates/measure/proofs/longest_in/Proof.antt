@@ -4,21 +4,21 @@ use mathlib.Core.Path.{◌≡◌, sym, ap, ◌∙◌}
 use native.Mathlib.Omega.{arith}
 use lib.ListN.{take}
 use borrow.Author.Rules.{rules}
-use Rattle.listing.specs.Turns.{answersIn}
-use Rattle.listing.proofs.TurnLaws.{reports-array}
-use Rattle.measure.specs.Measured.{longer, longestWait}
-use Rattle.measure.proofs.Waits.{longer-none, one_more}
+use Rattle.listing.specs.Turns.{answers_in}
+use Rattle.listing.proofs.TurnLaws.{reports_array}
+use Rattle.measure.specs.Measured.{longer, longest_wait}
+use Rattle.measure.proofs.Waits.{longer_none, one_more}
 use Rattle.measure.proofs.longest_in.Statement.{statement}
 use Rattle.measure.proofs.longest_in.Tie as tie
 
 abbrev invariant-loop : tie.invariant-loop
-invariant-loop before made reports longest₀ i₀ longest i = (i ≤ made) × (longest ≡ longer before (longestWait (answersIn (take i reports))))
+invariant-loop before made reports longest₀ i₀ longest i = (i ≤ made) × (longest ≡ longer before (longest_wait (answers_in (take i reports))))
 
 abbrev decreases-loop : tie.decreases-loop
 decreases-loop before made reports longest₀ i₀ longest i = made - i
 
 loop-holds : tie.Need-loop-init invariant-loop decreases-loop
-loop-holds c = (search rules, sym (longer-none _))
+loop-holds c = (search rules, sym (longer_none _))
 
 mul-report : tie.Need-overflow-mul-report invariant-loop decreases-loop
 mul-report c = search rules
@@ -43,7 +43,7 @@ loop-again c =
     let told = c.before in
     let turn = told.before.before.before.loop in
     let start = told.before.before.before.before.before in
-    let all = reports-array start.args.stretch _ start.well-formed.0 in (
+    let all = reports_array start.args.stretch _ start.well-formed.0 in (
       omega arith,
       c.longer.ensures
           ∙ ap (longer turn.longest) told.wait-told.ensures
@@ -57,8 +57,8 @@ returns c =
     let all : turn.i ≡ start.args.stretch.made = omega arith in
     rw all at turn.invariant.1
 
-pub longest-in-spec : {M : Type 1} → statement M
-longest-in-spec =
+pub longest_in_spec : {M : Type 1} → statement M
+longest_in_spec =
     tie.close
     (tie.spec
     invariant-loop

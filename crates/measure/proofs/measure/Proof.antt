@@ -1,6 +1,6 @@
 -- `measure` meets its contract: the scenario is read, and refused or played. Assumes nothing.
 use borrow.Author.Rules.{rules}
-use Rattle.measure.proofs.Finishing.{refused-measured, accepted-measured}
+use Rattle.measure.proofs.Finishing.{refused_measured, accepted-measured}
 use Rattle.measure.proofs.measure.Statement.{statement}
 use Rattle.measure.proofs.measure.Tie as tie
 
@@ -10,7 +10,7 @@ read-requires c κs = search rules
 returns : tie.Need-returns
 returns c =
     let reading = c.before.before in
-    refused-measured reading.before.before.args.input.now reading.read.result reading.read.ensures c.if1.true
+    refused_measured reading.before.before.args.input.now reading.read.result reading.read.ensures c.if1.true
 
 played-requires : tie.Need-played-requires
 played-requires c κs = search rules
@@ -27,5 +27,5 @@ returns-2 c =
     test.if1.false
     c.played.ensures
 
-pub measure-spec : {M : Type 1} → statement M
-measure-spec = tie.close (tie.spec read-requires returns played-requires returns-2)
+pub measure_spec : {M : Type 1} → statement M
+measure_spec = tie.close (tie.spec read-requires returns played-requires returns-2)

@@ -5,11 +5,11 @@ use mathlib.Core.Logic.{⊎_elim}
 use native.Mathlib.Omega.{arith}
 use lib.ListN.{length}
 use borrow.Author.Rules.{rules}
-use Rattle.bus.specs.Stretch.{stretchForm}
-use Rattle.listing.proofs.TurnLaws.{stretch-is, made-few, taken-few, taken-within}
+use Rattle.bus.specs.Stretch.{stretch_form}
+use Rattle.listing.proofs.TurnLaws.{stretch-is, made_few, taken_few, taken_within}
 use Rattle.sheet.specs.declared.Run.{Run}
 use Rattle.measure.specs.Parts.{Finishes}
-use Rattle.measure.proofs.Finishing.{playOf, stretchOn, one-stretch, turns-fall, Fit, totals-fit, runWith, at_last}
+use Rattle.measure.proofs.Finishing.{play_of, stretch_on, one-stretch, turns-fall, Fit, totals_fit, run_with, at_last}
 use Rattle.measure.proofs.played.Statement.{statement}
 use Rattle.measure.proofs.played.Tie as tie
 
@@ -24,12 +24,12 @@ decreases-loop input first most state₀ at₀ steps₀ longest₀ state at step
 is :
     (c : tie.After-play invariant-loop decreases-loop)
     → let at = c.before.before.before in
-    c.play.result ≡ stretchForm (stretchOn at.before.before.args.input.now at.loop.state at.loop.at at.loop.steps)
+    c.play.result ≡ stretch_form (stretch_on at.before.before.args.input.now at.loop.state at.loop.at at.loop.steps)
 is c =
     let at = c.before.before.before in
     stretch-is
     at.before.before.args.input.now
-    (playOf at.loop.state at.loop.at at.loop.steps)
+    (play_of at.loop.state at.loop.at at.loop.steps)
     c.before.gather.result
     c.play.result
     c.before.gather.ensures
@@ -46,9 +46,9 @@ next_fits c =
     ⊎_elim
     (λ h. omega arith)
     (λ h. omega arith)
-    (taken-within
+    (taken_within
     at.before.before.args.input.now
-    (playOf at.loop.state at.loop.at at.loop.steps)
+    (play_of at.loop.state at.loop.at at.loop.steps)
     c.play.result
     (is c))
 
@@ -64,16 +64,16 @@ play-requires c κs = search rules
 longest-in-requires : tie.Need-longest-in-requires invariant-loop decreases-loop
 longest-in-requires c κs =
     let at = c.before.before.before in
-    made-few at.before.before.args.input.now (playOf at.loop.state at.loop.at at.loop.steps) c.play.result (is c)
+    made_few at.before.before.args.input.now (play_of at.loop.state at.loop.at at.loop.steps) c.play.result (is c)
 
 mul_at : tie.Need-overflow-mul-at invariant-loop decreases-loop
 mul_at c =
     let played = c.before.before in
     let at = played.before.before.before in
     let few =
-    taken-few
+    taken_few
     at.before.before.args.input.now
-    (playOf at.loop.state at.loop.at at.loop.steps)
+    (play_of at.loop.state at.loop.at at.loop.steps)
     played.play.result
     (is played) in
     omega arith
@@ -116,7 +116,7 @@ closing-requires c κs = search rules
 
 -- the counts of the state fit
 fit : (c : tie.After-closing invariant-loop decreases-loop) → Fit c.closing.result
-fit c = subst Fit (sym c.closing.ensures) (totals-fit c.before.before.loop.state)
+fit c = subst Fit (sym c.closing.ensures) (totals_fit c.before.before.loop.state)
 
 cast-t14 : tie.Need-overflow-cast-t14 invariant-loop decreases-loop
 cast-t14 c = let h = fit c.before in omega (arith, h.admitted)
@@ -138,7 +138,7 @@ returns c =
     let closed = c.before.before.before.before.before in
     let at = closed.before.before in
     let input = at.before.before.args.input.now in
-    let run = runWith closed.closing.result at.loop.longest in
+    let run = run_with closed.closing.result at.loop.longest in
     let none : at.loop.steps ≡ 0 = omega (arith, closed.before.loop-test.false) in
     at.loop.invariant.1 run
     (subst
@@ -146,8 +146,8 @@ returns c =
     (sym none)
     (at_last input at.loop.state at.loop.at at.loop.longest closed.closing.result closed.closing.ensures))
 
-pub played-spec : {M : Type 1} → statement M
-played-spec =
+pub played_spec : {M : Type 1} → statement M
+played_spec =
     tie.close
     (tie.spec
     invariant-loop

@@ -21,5 +21,5 @@ returns-3 c =
     let step : report.arrival ≡ false = c.before.before.before.if1.false in
     rw (step, ne_eqb report.answer.event 2 c.if2.false) refl
 
-pub wait-told-spec : {M : Type 1} → statement M
-wait-told-spec = tie.close (tie.spec returns returns-2 returns-3)
+pub wait_told_spec : {M : Type 1} → statement M
+wait_told_spec = tie.close (tie.spec returns returns-2 returns-3)

@@ -6,17 +6,17 @@ use mathlib.Core.List.{[]}
 use native.Mathlib.Omega.{arith}
 use borrow.Author.Rules.{rules}
 use lib.ListN.{length, get_or, take, drop, length-take, drop_of_length-le}
-use Rattle.scenario.specs.Format.{arrivalKind}
-use Rattle.scenario.specs.Reading.{arrivalFrom}
-use Rattle.scenario.specs.Writing.{recordBytes, arrivalValues, endingBytes}
-use Rattle.packing.proofs.Sizes.{arrived-size}
-use Rattle.packing.proofs.Left.{Left, none-stored, left-all, left_less, left-last, next-left}
+use Rattle.scenario.specs.Format.{arrival_kind}
+use Rattle.scenario.specs.Reading.{arrival_from}
+use Rattle.scenario.specs.Writing.{record_bytes, arrival_values, ending_bytes}
+use Rattle.packing.proofs.Sizes.{arrived_size}
+use Rattle.packing.proofs.Left.{Left, none_stored, left_all, left_less, left-last, next-left}
 use Rattle.packing.proofs.ending.Statement.{statement}
 use Rattle.packing.proofs.ending.Tie as tie
 
 abbrev invariant-loop : tie.invariant-loop
 invariant-loop room₀ at count steps arrivals next₀ i₀ room next i =
-    (i ≤ count) × Left room₀ at (endingBytes (take count arrivals) steps) room next (endingBytes (drop i (take count arrivals)) steps)
+    (i ≤ count) × Left room₀ at (ending_bytes (take count arrivals) steps) room next (ending_bytes (drop i (take count arrivals)) steps)
 
 abbrev decreases-loop : tie.decreases-loop
 decreases-loop room₀ at count steps arrivals next₀ i₀ room next i = count - i
@@ -25,8 +25,8 @@ returns : tie.Need-returns invariant-loop decreases-loop
 returns c =
     let args = c.before.args in
     let full : length args.t3 ≡ 4096 = search rules in
-    let long = arrived-size args.t3 args.count args.steps in
-    none-stored args.room.now args.at (endingBytes (take args.count args.t3) args.steps) (omega arith)
+    let long = arrived_size args.t3 args.count args.steps in
+    none_stored args.room.now args.at (ending_bytes (take args.count args.t3) args.steps) (omega arith)
 
 mul-if2 : tie.Need-overflow-mul-if2 invariant-loop decreases-loop
 mul-if2 c = search rules
@@ -41,15 +41,15 @@ returns-2 : tie.Need-returns-2 invariant-loop decreases-loop
 returns-2 c =
     let args = c.before.before.args in
     let full : length args.t3 ≡ 4096 = search rules in
-    let long = arrived-size args.t3 args.count args.steps in
-    none-stored args.room.now args.at (endingBytes (take args.count args.t3) args.steps) (omega arith)
+    let long = arrived_size args.t3 args.count args.steps in
+    none_stored args.room.now args.at (ending_bytes (take args.count args.t3) args.steps) (omega arith)
 
 loop-holds : tie.Need-loop-init invariant-loop decreases-loop
 loop-holds c =
     let args = c.before.before.args in
     let full : length args.t3 ≡ 4096 = search rules in
-    let long = arrived-size args.t3 args.count args.steps in
-    (search rules, left-all args.room.now args.at (endingBytes (take args.count args.t3) args.steps) (omega arith))
+    let long = arrived_size args.t3 args.count args.steps in
+    (search rules, left_all args.room.now args.at (ending_bytes (take args.count args.t3) args.steps) (omega arith))
 
 mul-arrival : tie.Need-overflow-mul-arrival invariant-loop decreases-loop
 mul-arrival c = search rules
@@ -72,8 +72,8 @@ loop-again c =
     let args = turn.before.before.before.args in
     let full : length args.t3 ≡ 4096 = search rules in
     let few = length-take args.count args.t3 in
-    let one = next-left args.t3 args.count turn.loop.i (arrivalFrom []) (omega arith) in
-    let first = recordBytes arrivalKind (arrivalValues (get_or args.t3 turn.loop.i (arrivalFrom []))) in
+    let one = next-left args.t3 args.count turn.loop.i (arrival_from []) (omega arith) in
+    let first = record_bytes arrival_kind (arrival_values (get_or args.t3 turn.loop.i (arrival_from []))) in
     (search rules, left_less first _ (rw one at turn.loop.invariant.1) c.arrival.ensures)
 
 run-requires : tie.Need-run-requires invariant-loop decreases-loop
@@ -88,8 +88,8 @@ returns-3 c =
     let over = drop_of_length-le (take args.count args.t3) {i = turn.loop.i} (omega arith) in
     left-last (rw over at turn.loop.invariant.1) c.run.ensures
 
-pub ending-spec : {M : Type 1} → statement M
-ending-spec =
+pub ending_spec : {M : Type 1} → statement M
+ending_spec =
     tie.close
     (tie.spec
     invariant-loop

@@ -8,17 +8,17 @@ use lib.ListN.{length, get_or, take, drop, length-take, drop_of_length-le}
 use Rattle.state.specs.declared.Listed.{Listed}
 use Rattle.state.specs.State.{nobody}
 use Rattle.state.specs.SetUp.{asked_of}
-use Rattle.scenario.specs.Format.{stationKind}
-use Rattle.scenario.specs.Writing.{recordBytes, stationsBytes}
-use Rattle.packing.specs.Packing.{listedValues}
-use Rattle.packing.proofs.Sizes.{listed-size}
-use Rattle.packing.proofs.Left.{Left, none-stored, left-all, left_less, left-none, next-left}
+use Rattle.scenario.specs.Format.{station_kind}
+use Rattle.scenario.specs.Writing.{record_bytes, stations_bytes}
+use Rattle.packing.specs.Packing.{listed_values}
+use Rattle.packing.proofs.Sizes.{listed_size}
+use Rattle.packing.proofs.Left.{Left, none_stored, left_all, left_less, left_none, next-left}
 use Rattle.packing.proofs.stations.Statement.{statement}
 use Rattle.packing.proofs.stations.Tie as tie
 
 -- the records of stations in the code's row
 abbrev records : List Listed → List ℕ
-records row = stationsBytes (map asked_of row)
+records row = stations_bytes (map asked_of row)
 
 abbrev invariant-loop : tie.invariant-loop
 invariant-loop room₀ at n stations listed next₀ i₀ room next i =
@@ -41,16 +41,16 @@ returns c =
     let args = c.before.before.args in
     let text = records (take args.n args.t3) in
     let full : length args.t3 ≡ 64 = search rules in
-    let long = listed-size args.t3 args.n in
-    none-stored args.room.now args.at text (omega arith)
+    let long = listed_size args.t3 args.n in
+    none_stored args.room.now args.at text (omega arith)
 
 loop-holds : tie.Need-loop-init invariant-loop decreases-loop
 loop-holds c =
     let args = c.before.before.args in
     let text = records (take args.n args.t3) in
     let full : length args.t3 ≡ 64 = search rules in
-    let long = listed-size args.t3 args.n in
-    (search rules, left-all args.room.now args.at text (omega arith))
+    let long = listed_size args.t3 args.n in
+    (search rules, left_all args.room.now args.at text (omega arith))
 
 mul-station : tie.Need-overflow-mul-station invariant-loop decreases-loop
 mul-station c = search rules
@@ -74,7 +74,7 @@ loop-again c =
     let full : length args.t3 ≡ 64 = search rules in
     let long = length-take args.n args.t3 in
     let one = next-left args.t3 args.n turn.loop.i nobody (omega arith) in
-    let first = recordBytes stationKind (listedValues (get_or args.t3 turn.loop.i nobody)) in
+    let first = record_bytes station_kind (listed_values (get_or args.t3 turn.loop.i nobody)) in
     (search rules, left_less first _ (rw one at turn.loop.invariant.1) c.station.ensures)
 
 returns-2 : tie.Need-returns-2 invariant-loop decreases-loop
@@ -82,10 +82,10 @@ returns-2 c =
     let args = c.before.before.before.before.args in
     let full : length args.t3 ≡ 64 = search rules in
     let long = length-take args.n args.t3 in
-    left-none (rw (drop_of_length-le (take args.n args.t3) {i = c.before.loop.i} (omega arith)) at c.before.loop.invariant.1)
+    left_none (rw (drop_of_length-le (take args.n args.t3) {i = c.before.loop.i} (omega arith)) at c.before.loop.invariant.1)
 
-pub stations-spec : {M : Type 1} → statement M
-stations-spec =
+pub stations_spec : {M : Type 1} → statement M
+stations_spec =
     tie.close
     (tie.spec
     invariant-loop

@@ -16,5 +16,5 @@ returns : tie.Need-returns
 returns c =
     told-start (omega arith) (told-then c.before.before.sums.ensures c.highest.ensures)
 
-pub closing-spec : {M : Type 1} → statement M
-closing-spec = tie.close (tie.spec sums-requires highest-requires returns)
+pub closing_spec : {M : Type 1} → statement M
+closing_spec = tie.close (tie.spec sums-requires highest-requires returns)

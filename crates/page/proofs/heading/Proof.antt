@@ -12,5 +12,5 @@ returns : tie.Need-returns
 returns c =
     told-start (omega arith) c.heading.ensures
 
-pub heading-spec : {M : Type 1} → statement M
-heading-spec = tie.close (tie.spec heading-requires returns)
+pub heading_spec : {M : Type 1} → statement M
+heading_spec = tie.close (tie.spec heading-requires returns)

@@ -16,5 +16,5 @@ returns : tie.Need-returns
 returns c =
     told-start (omega arith) (told-then c.before.before.cells.ensures c.named.ensures)
 
-pub line-spec : {M : Type 1} → statement M
-line-spec = tie.close (tie.spec cells-requires named-requires returns)
+pub line_spec : {M : Type 1} → statement M
+line_spec = tie.close (tie.spec cells-requires named-requires returns)

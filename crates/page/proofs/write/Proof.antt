@@ -8,8 +8,8 @@ use lib.ListN.{take}
 use Rattle.text.specs.Parts.{Told}
 use Rattle.text.proofs.Stores.{told-then}
 use Rattle.sheet.specs.declared.Run.{Run}
-use Rattle.page.specs.Page.{rowsText}
-use Rattle.page.proofs.Told.{told-start, rows-within, rows-array}
+use Rattle.page.specs.Page.{rows_text}
+use Rattle.page.proofs.Told.{told-start, rows_within, rows_array}
 use Rattle.page.proofs.write.Statement.{statement}
 use Rattle.page.proofs.write.Tie as tie
 
@@ -35,8 +35,8 @@ returns c =
     let headed = listed.before.before.before in
     let start = headed.before.before.before in
     let s = start.args.sheet in
-    let full = rows-array s _ start.well-formed.0 in
-    let same = ap (λ (l : List Run). rowsText 0 l) (ap (λ n. take n s.rows) listed.before.at_most.ensures ∙ rows-within s.rows s.count full) in
+    let full = rows_array s _ start.well-formed.0 in
+    let same = ap (λ (l : List Run). rows_text 0 l) (ap (λ n. take n s.rows) listed.before.at_most.ensures ∙ rows_within s.rows s.count full) in
     let lines =
     subst
     (λ (text : List ℕ). Told headed.heading.new.0 listed.rows2.new.0 headed.heading.result listed.rows2.result text 38_144)

@@ -33,8 +33,8 @@ returns-4 c = rw c.enum-told3.given.1
 returns-5 : tie.Need-returns-5
 returns-5 c = rw c.enum-told4.given.1
 
-pub out-of-place-spec : {M : Type 1} → statement M
-out-of-place-spec =
+pub out_of_place_spec : {M : Type 1} → statement M
+out_of_place_spec =
     tie.close
     (tie.spec
     enum-known-found

@@ -7,17 +7,17 @@ use mathlib.Core.List.{[], ◌∷◌}
 use native.Mathlib.Omega.{arith}
 use lib.ListN.{length, drop}
 use borrow.Author.Rules.{rules}
-use Rattle.scenario.specs.Format.{Said, said, readRecord}
-use Rattle.scenario.specs.Reading.{arrival-bytes, arrivalsFrom, refusedEnding, withArrival}
-use Rattle.scenario.specs.Parts.{endingForm, endingAt}
+use Rattle.scenario.specs.Format.{Said, said, read_record}
+use Rattle.scenario.specs.Reading.{arrival_bytes, arrivals_from, refused_ending, with_arrival}
+use Rattle.scenario.specs.Parts.{ending_form, ending_at}
 use Rattle.scenario.specs.declared.Record.TheVariants as Is
-use Rattle.scenario.proofs.ReadingLaws.{other-kind, arrival-within, arrival-turn, arrivals-over}
+use Rattle.scenario.proofs.ReadingLaws.{other-kind, arrival_within, arrival-turn, arrivals-over}
 use Rattle.scenario.proofs.pass_arrivals.Statement.{statement}
 use Rattle.scenario.proofs.pass_arrivals.Tie as tie
 
 abbrev invariant-loop : tie.invariant-loop
 invariant-loop input from at₀ previous₀ at previous =
-    endingForm (endingAt input from) ≡ endingForm (arrivalsFrom (suc (length input)) previous.0 at (drop at input))
+    ending_form (ending_at input from) ≡ ending_form (arrivals_from (suc (length input)) previous.0 at (drop at input))
 
 abbrev decreases-loop : tie.decreases-loop
 decreases-loop input from at₀ previous₀ at previous = length input - at
@@ -26,14 +26,14 @@ decreases-loop input from at₀ previous₀ at previous = length input - at
 found_here :
     (c : tie.After-found invariant-loop decreases-loop)
     → let at = c.before.before.before in
-    said (Is.Arrival c.found.given.0.0) ≡ readRecord (drop at.loop.at at.before.before.args.input.now)
+    said (Is.Arrival c.found.given.0.0) ≡ read_record (drop at.loop.at at.before.before.args.input.now)
 found_here c = ap said (sym c.found.given.1) ∙ c.before.before.record-at.ensures
 
 -- and its bytes are within the input
 found_within :
     (c : tie.After-found invariant-loop decreases-loop)
     → let at = c.before.before.before in at.loop.at + 16 ≤ length at.before.before.args.input.now
-found_within c = let at = c.before.before.before in arrival-within at.before.before.args.input.now at.loop.at (ap (λ (y : Said). y.kind) (sym (found_here c)))
+found_within c = let at = c.before.before.before in arrival_within at.before.before.args.input.now at.loop.at (ap (λ (y : Said). y.kind) (sym (found_here c)))
 
 -- one turn
 turn :
@@ -42,20 +42,20 @@ turn :
     let at = found.before.before.before in
     let input = at.before.before.args.input.now in
     let a = found.found.given.0.0 in
-    endingForm (endingAt input at.before.before.args.from)
-    ≡ endingForm
+    ending_form (ending_at input at.before.before.args.from)
+    ≡ ending_form
     (cond
     t
-    (refusedEnding 21 at.loop.at)
-    (withArrival
+    (refused_ending 21 at.loop.at)
+    (with_arrival
     a
-    (arrivalsFrom (suc (length input)) a.time.0 (at.loop.at + arrival-bytes) (drop (at.loop.at + arrival-bytes) input))))
+    (arrivals_from (suc (length input)) a.time.0 (at.loop.at + arrival_bytes) (drop (at.loop.at + arrival_bytes) input))))
 turn c t told =
     let found = c.before.before.before in
     let at = found.before.before.before in
     at.loop.invariant
     ∙ ap
-    endingForm
+    ending_form
     (arrival-turn
     at.before.before.args.input.now
     at.loop.at
@@ -80,7 +80,7 @@ returns c =
     let input = at.before.before.args.input.now in
     at.loop.invariant
     ∙ ap
-    endingForm
+    ending_form
     (arrivals-over input (length input) at.loop.previous.0 at.loop.at
     (other-kind 3 (0 ∷ 1 ∷ 2 ∷ 4 ∷ []) c.before.record-at.result _ c.before.record-at.ensures refl c.match.keys2))
 
@@ -99,8 +99,8 @@ loop-less c = let h = found_within c.before.before.before.before in omega arith
 loop-again : tie.Need-loop-preserved invariant-loop decreases-loop
 loop-again c = turn c.before false c.if1.false
 
-pub pass-arrivals-spec : {M : Type 1} → statement M
-pass-arrivals-spec =
+pub pass_arrivals_spec : {M : Type 1} → statement M
+pass_arrivals_spec =
     tie.close
     (tie.spec
     invariant-loop

@@ -5,30 +5,30 @@ use mathlib.Core.List.{[], ◌∷◌}
 use lib.ListN.{length, drop}
 use borrow.Author.Rules.{rules}
 use borrow.Author.Tests.{lt-ltb, le-ltb, ne_eqb}
-use Rattle.state.specs.SetUp.{settingsRefusal}
-use Rattle.scenario.specs.Format.{said, outOfPlace, readRecord}
-use Rattle.scenario.specs.Reading.{most_bytes, set-up-bytes, settingsFrom, stationsFrom}
-use Rattle.scenario.specs.Reading.{refused, readStations, readSettings, readSetUp, reading, scenarioForm}
-use Rattle.scenario.proofs.ReadingLaws.{other-kind, refused-by, not-refused}
+use Rattle.state.specs.SetUp.{settings_refusal}
+use Rattle.scenario.specs.Format.{said, out_of_place, read_record}
+use Rattle.scenario.specs.Reading.{most_bytes, set_up_bytes, settings_from, stations_from}
+use Rattle.scenario.specs.Reading.{refused, read_stations, read_settings, read_set_up, reading, scenario_form}
+use Rattle.scenario.proofs.ReadingLaws.{other-kind, refused-by, not_refused}
 use Rattle.scenario.proofs.read.Statement.{statement}
 use Rattle.scenario.proofs.read.Tie as tie
 
 -- where the bytes are not too many, the first record decides
-after-length : (c : tie.Else1) → let input = c.before.before.args.input.now in reading input ≡ readSetUp (readRecord input) input
-after-length c =
+after_length : (c : tie.Else1) → let input = c.before.before.args.input.now in reading input ≡ read_set_up (read_record input) input
+after_length c =
     let input = c.before.before.args.input.now in
-    ap (λ t. cond t (refused 22 0) (readSetUp (readRecord input) input)) (le-ltb most_bytes (length input) c.if1.false)
+    ap (λ t. cond t (refused 22 0) (read_set_up (read_record input) input)) (le-ltb most_bytes (length input) c.if1.false)
 
 -- where that is a set-up, its settings decide
 after-found :
     (c : tie.After-found)
     → let input = c.before.before.before.before.before.args.input.now in
-    reading input ≡ readSettings c.found.given.0.0 input
+    reading input ≡ read_settings c.found.given.0.0 input
 after-found c =
     let record-there = c.before.before in
     let input = record-there.before.before.before.args.input.now in
-    after-length record-there.before
-    ∙ ap (λ x. readSetUp x input) (sym (ap said (sym c.found.given.1) ∙ record-there.record-at.ensures))
+    after_length record-there.before
+    ∙ ap (λ x. read_set_up x input) (sym (ap said (sym c.found.given.1) ∙ record-there.record-at.ensures))
 
 refused-requires : tie.Need-refused-requires
 refused-requires c κs = search rules
@@ -38,7 +38,7 @@ returns c =
     let input = c.before.before.before.args.input.now in
     c.refused.ensures
     ∙ ap
-    (λ t. scenarioForm (cond t (refused 22 0) (readSetUp (readRecord input) input)))
+    (λ t. scenario_form (cond t (refused 22 0) (read_set_up (read_record input) input)))
     (sym (lt-ltb most_bytes (length input) c.before.if1.true))
 
 record-at-requires : tie.Need-record-at-requires
@@ -58,15 +58,15 @@ returns-2 c =
     let place = c.before in
     let found = place.before.before in
     let input = found.before.before.before.args.input.now in
-    let x = readRecord input in
+    let x = read_record input in
     c.refused2.ensures
     ∙ ap
-    scenarioForm
-    (ap (λ n. refused n 0) (place.out-of-place.ensures ∙ ap outOfPlace found.record-at.ensures)
+    scenario_form
+    (ap (λ n. refused n 0) (place.out-of-place.ensures ∙ ap out_of_place found.record-at.ensures)
     ∙ sym
-    (after-length found.before
+    (after_length found.before
     ∙ ap
-    (λ t. cond t (readSettings (settingsFrom x.values) input) (refused (outOfPlace x) 0))
+    (λ t. cond t (read_settings (settings_from x.values) input) (refused (out_of_place x) 0))
     (ne_eqb x.kind 1
     (other-kind 1 (0 ∷ 2 ∷ 3 ∷ 4 ∷ []) found.record-at.result x found.record-at.ensures refl place.before.match.keys2))))
 
@@ -84,13 +84,13 @@ returns-3 c =
     let g = found.found.given.0.0 in
     c.refused3.ensures
     ∙ ap
-    scenarioForm
+    scenario_form
     (refused-by
-    (settingsRefusal g)
+    (settings_refusal g)
     tried.settings-refusal.result
     0
     0
-    (readStations g (stationsFrom g.n set-up-bytes (drop set-up-bytes input)) input)
+    (read_stations g (stations_from g.n set_up_bytes (drop set_up_bytes input)) input)
     tried.settings-refusal.ensures
     refl
     c.before.if2.true
@@ -107,14 +107,14 @@ returns-4 c =
     let g = found.found.given.0.0 in
     c.read-listed.ensures
     ∙ ap
-    scenarioForm
+    scenario_form
     (sym
     (after-found found
-    ∙ not-refused
-    (settingsRefusal g)
+    ∙ not_refused
+    (settings_refusal g)
     tried.settings-refusal.result
     0
-    (readStations g (stationsFrom g.n set-up-bytes (drop set-up-bytes input)) input)
+    (read_stations g (stations_from g.n set_up_bytes (drop set_up_bytes input)) input)
     tried.settings-refusal.ensures
     c.before.if2.false))
 

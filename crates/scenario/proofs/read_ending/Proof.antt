@@ -4,7 +4,7 @@ use mathlib.Core.Bool.{Bool, true, false, cond}
 use lib.Dec.{eqb}
 use borrow.Author.Rules.{rules}
 use borrow.Author.Tests.{eq-eqb, ne_eqb}
-use Rattle.scenario.specs.Parts.{endingForm, run_at, endingAt}
+use Rattle.scenario.specs.Parts.{ending_form, run_at, ending_at}
 use Rattle.scenario.proofs.read_ending.Statement.{statement}
 use Rattle.scenario.proofs.read_ending.Tie as tie
 
@@ -13,11 +13,11 @@ passed-by :
     (c : tie.After-pass-arrivals) (t : Bool) → eqb c.pass-arrivals.result.refusal 0 ≡ t
     → let args = c.before.before.args in
     let passed = c.pass-arrivals.result in
-    endingForm (endingAt args.input.now args.from)
-    ≡ cond t (endingForm (run_at args.input.now passed.at)) (record { refusal = passed.refusal; offset = passed.at; steps = 0 })
+    ending_form (ending_at args.input.now args.from)
+    ≡ cond t (ending_form (run_at args.input.now passed.at)) (record { refusal = passed.refusal; offset = passed.at; steps = 0 })
 passed-by c t e =
     let passed = c.pass-arrivals.result in
-    let run = endingForm (run_at c.before.before.args.input.now passed.at) in
+    let run = ending_form (run_at c.before.before.args.input.now passed.at) in
     c.pass-arrivals.ensures ∙ ap (λ b. cond b run (record { refusal = passed.refusal; offset = passed.at; steps = 0 })) e
 
 pass-arrivals-requires : tie.Need-pass-arrivals-requires
@@ -34,5 +34,5 @@ returns-2 c =
     let passed = c.before.before in
     c.read-run.ensures ∙ sym (passed-by passed true (eq-eqb passed.pass-arrivals.result.refusal 0 c.before.if1.false))
 
-pub read-ending-spec : {M : Type 1} → statement M
-read-ending-spec = tie.close (tie.spec pass-arrivals-requires returns read-run-requires returns-2)
+pub read_ending_spec : {M : Type 1} → statement M
+read_ending_spec = tie.close (tie.spec pass-arrivals-requires returns read-run-requires returns-2)

@@ -5,79 +5,79 @@ use native.Mathlib.Omega.{arith}
 use lib.ListN.{drop}
 use borrow.Author.Rules.{rules}
 use Rattle.rules.specs.declared.Verdict.{Verdict}
-use Rattle.rules.specs.SetUp.{Request, setUpVerdict}
+use Rattle.rules.specs.SetUp.{Request, set_up_verdict}
 use Rattle.state.specs.declared.State.{State}
 use Rattle.state.specs.declared.SetUp.{SetUp}
-use Rattle.state.specs.SetUp.{requestOf, requestWith, codedSetUp}
+use Rattle.state.specs.SetUp.{request_of, request_with, coded_set_up}
 use Rattle.scenario.specs.declared.Ending.{Ending}
-use Rattle.scenario.specs.Reading.{Scenario, StationsRead, set-up-bytes, stationsFrom, stationOffset}
-use Rattle.scenario.specs.Reading.{Reading, accepted, readEnding, readArrivals, readStations, scenarioForm}
-use Rattle.scenario.specs.Parts.{endingForm, endingAt}
-use Rattle.scenario.proofs.ReadingLaws.{few-stations, verdict-about, refused-by, not-refused}
+use Rattle.scenario.specs.Reading.{Scenario, StationsRead, set_up_bytes, stations_from, station_offset}
+use Rattle.scenario.specs.Reading.{Reading, accepted, read_ending, read_arrivals, read_stations, scenario_form}
+use Rattle.scenario.specs.Parts.{ending_form, ending_at}
+use Rattle.scenario.proofs.ReadingLaws.{few_stations, verdict_about, refused-by, not_refused}
 use Rattle.scenario.proofs.read_listed.Statement.{statement}
 use Rattle.scenario.proofs.read_listed.Tie as tie
 
 -- the stations that are in the bytes
 abbrev stations : tie.Start → StationsRead
 stations start =
-    stationsFrom start.args.settings.n set-up-bytes (drop set-up-bytes start.args.input.now)
+    stations_from start.args.settings.n set_up_bytes (drop set_up_bytes start.args.input.now)
 
 -- the reading that is asked for
 abbrev asked : tie.Start → Reading
-asked start = readStations start.args.settings (stations start) start.args.input.now
+asked start = read_stations start.args.settings (stations start) start.args.input.now
 
 -- the request that set-up is given
 abbrev given : tie.Else1 → Request
-given c = requestOf c.before.before.before.before.args.settings c.before.before.read-stations.result.row
+given c = request_of c.before.before.before.before.args.settings c.before.before.read-stations.result.row
 
 -- where the stations are not refused, the set-up and the arrivals decide
 after-stations :
     (c : tie.Else1)
-    → let start = c.before.before.before.before in asked start ≡ readArrivals (given c) start.args.input.now
+    → let start = c.before.before.before.before in asked start ≡ read_arrivals (given c) start.args.input.now
 after-stations c =
     let read = c.before.before in
     let start = read.before.before in
-    not-refused
+    not_refused
     (stations start).refusal
     read.read-stations.result.refusal
     (stations start).offset
-    (readArrivals (requestWith start.args.settings (stations start).asked) start.args.input.now)
+    (read_arrivals (request_with start.args.settings (stations start).asked) start.args.input.now)
     read.read-stations.ensures.0
     c.if1.false
-    ∙ ap (λ r. readArrivals r start.args.input.now) (sym (read.read-stations.ensures.1.1 c.if1.false start.args.settings))
+    ∙ ap (λ r. read_arrivals r start.args.input.now) (sym (read.read-stations.ensures.1.1 c.if1.false start.args.settings))
 
 -- what set-up answers
-verdict-is : (c : tie.After-set-up) → c.set-up.result.verdict ≡ setUpVerdict (given c.before.before)
-verdict-is c = ap (λ (s : SetUp). s.verdict) c.set-up.ensures
+verdict_is : (c : tie.After-set-up) → c.set_up_call.result.verdict ≡ set_up_verdict (given c.before.before)
+verdict_is c = ap (λ (s : SetUp). s.verdict) c.set_up_call.ensures
 
 -- where the set-up is not refused, the arrivals decide
-after-set-up :
+after_set_up :
     (c : tie.Else2)
     → let row = c.before.before.before.before in
     let start = row.before.before.before.before.before in
-    asked start ≡ readEnding (given row.before) (endingAt start.args.input.now (stationOffset start.args.settings.n))
-after-set-up c =
+    asked start ≡ read_ending (given row.before) (ending_at start.args.input.now (station_offset start.args.settings.n))
+after_set_up c =
     let set = c.before.before.before in
     let row = set.before in
     let start = row.before.before.before.before.before in
     let r = given row.before in
     after-stations row.before
-    ∙ not-refused
-    (setUpVerdict r).refusal
-    set.set-up.result.verdict.refusal
-    (stationOffset (setUpVerdict r).station)
-    (readEnding r (endingAt start.args.input.now (stationOffset start.args.settings.n)))
-    (ap (λ (v : Verdict). v.refusal) (verdict-is set))
+    ∙ not_refused
+    (set_up_verdict r).refusal
+    set.set_up_call.result.verdict.refusal
+    (station_offset (set_up_verdict r).station)
+    (read_ending r (ending_at start.args.input.now (station_offset start.args.settings.n)))
+    (ap (λ (v : Verdict). v.refusal) (verdict_is set))
     c.if2.false
 
 -- what the ending is
 ending-is :
     (c : tie.After-read-ending)
     → let start = c.before.before.before.before.before.before.before.before.before.before.before in
-    c.read_ending.result ≡ endingForm (endingAt start.args.input.now (stationOffset start.args.settings.n))
+    c.read_ending.result ≡ ending_form (ending_at start.args.input.now (station_offset start.args.settings.n))
 ending-is c =
     let start = c.before.before.before.before.before.before.before.before.before.before.before in
-    c.read_ending.ensures ∙ ap (λ at. endingForm (endingAt start.args.input.now at)) c.before.station-offset2.ensures
+    c.read_ending.ensures ∙ ap (λ at. ending_form (ending_at start.args.input.now at)) c.before.station-offset2.ensures
 
 -- an accepted scenario by its parts
 alike :
@@ -89,7 +89,7 @@ alike :
 alike s s' at at' steps steps' e f g = λ j. record { refusal = 0; offset = 0; state = e j; at = f j; steps = g j }
 
 read-stations-requires : tie.Need-read-stations-requires
-read-stations-requires c κs = few-stations c.before.args.settings c.before.requires
+read-stations-requires c κs = few_stations c.before.args.settings c.before.requires
 
 refused-requires : tie.Need-refused-requires
 refused-requires c κs = search rules
@@ -100,13 +100,13 @@ returns c =
     let start = read.before.before in
     c.refused.ensures
     ∙ ap
-    scenarioForm
+    scenario_form
     (refused-by
     (stations start).refusal
     read.read-stations.result.refusal
     (stations start).offset
     read.read-stations.result.offset
-    (readArrivals (requestWith start.args.settings (stations start).asked) start.args.input.now)
+    (read_arrivals (request_with start.args.settings (stations start).asked) start.args.input.now)
     read.read-stations.ensures.0
     read.read-stations.ensures.1.0
     c.before.if1.true)
@@ -119,9 +119,9 @@ station-offset-requires c κs =
     let set = c.before.before.before in
     let row = set.before in
     let start = row.before.before.before.before.before in
-    let few = few-stations start.args.settings start.requires in
-    let one = verdict-about (given row.before) in
-    let same = ap (λ (v : Verdict). v.station) (verdict-is set) in
+    let few = few_stations start.args.settings start.requires in
+    let one = verdict_about (given row.before) in
+    let same = ap (λ (v : Verdict). v.station) (verdict_is set) in
     omega arith
 
 refused-requires-2 : tie.Need-refused-requires-2
@@ -136,22 +136,22 @@ returns-2 c =
     let r = given row.before in
     c.refused2.ensures
     ∙ ap
-    scenarioForm
+    scenario_form
     (refused-by
-    (setUpVerdict r).refusal
-    set.set-up.result.verdict.refusal
-    (stationOffset (setUpVerdict r).station)
+    (set_up_verdict r).refusal
+    set.set_up_call.result.verdict.refusal
+    (station_offset (set_up_verdict r).station)
     offset.station-offset.result
-    (readEnding r (endingAt start.args.input.now (stationOffset start.args.settings.n)))
-    (ap (λ (v : Verdict). v.refusal) (verdict-is set))
-    (offset.station-offset.ensures ∙ ap (λ (v : Verdict). stationOffset v.station) (verdict-is set))
+    (read_ending r (ending_at start.args.input.now (station_offset start.args.settings.n)))
+    (ap (λ (v : Verdict). v.refusal) (verdict_is set))
+    (offset.station-offset.ensures ∙ ap (λ (v : Verdict). station_offset v.station) (verdict_is set))
     offset.before.if2.true
     ∙ sym (after-stations row.before))
 
 station-offset-requires-2 : tie.Need-station-offset-requires-2
 station-offset-requires-2 c κs =
     let start = c.before.before.before.before.before.before.before.before.before in
-    few-stations start.args.settings start.requires
+    few_stations start.args.settings start.requires
 
 read-ending-requires : tie.Need-read-ending-requires
 read-ending-requires c κs = search rules
@@ -165,10 +165,10 @@ returns-3 c =
     let fine = ending.before.before in
     let row = fine.before.before.before.before in
     let start = row.before.before.before.before.before in
-    let x = endingAt start.args.input.now (stationOffset start.args.settings.n) in
+    let x = ending_at start.args.input.now (station_offset start.args.settings.n) in
     c.refused3.ensures
     ∙ ap
-    scenarioForm
+    scenario_form
     (refused-by
     x.refusal
     ending.read_ending.result.refusal
@@ -178,7 +178,7 @@ returns-3 c =
     (ap (λ (e : Ending). e.refusal) (ending-is ending))
     (ap (λ (e : Ending). e.offset) (ending-is ending))
     c.before.if3.true
-    ∙ sym (after-set-up fine))
+    ∙ sym (after_set_up fine))
 
 returns-4 : tie.Need-returns-4
 returns-4 c =
@@ -187,23 +187,23 @@ returns-4 c =
     let set = fine.before.before.before in
     let row = set.before in
     let start = row.before.before.before.before.before in
-    let x = endingAt start.args.input.now (stationOffset start.args.settings.n) in
+    let x = ending_at start.args.input.now (station_offset start.args.settings.n) in
     let r = given row.before in
     alike
-    set.set-up.result.state
-    (codedSetUp r).1
+    set.set_up_call.result.state
+    (coded_set_up r).1
     ending.before.station-offset2.result
-    (stationOffset start.args.settings.n)
+    (station_offset start.args.settings.n)
     ending.read_ending.result.steps
     x.steps
-    (ap (λ (s : SetUp). s.state) set.set-up.ensures)
+    (ap (λ (s : SetUp). s.state) set.set_up_call.ensures)
     ending.before.station-offset2.ensures
     (ap (λ (e : Ending). e.steps) (ending-is ending))
     ∙ ap
-    scenarioForm
+    scenario_form
     (sym
-    (after-set-up fine
-    ∙ not-refused
+    (after_set_up fine
+    ∙ not_refused
     x.refusal
     ending.read_ending.result.refusal
     x.offset
@@ -211,8 +211,8 @@ returns-4 c =
     (ap (λ (e : Ending). e.refusal) (ending-is ending))
     c.before.if3.false))
 
-pub read-listed-spec : {M : Type 1} → statement M
-read-listed-spec =
+pub read_listed_spec : {M : Type 1} → statement M
+read_listed_spec =
     tie.close
     (tie.spec
     read-stations-requires

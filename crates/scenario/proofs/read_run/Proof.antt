@@ -8,8 +8,8 @@ use lib.ListN.{length, drop}
 use borrow.Author.Rules.{rules}
 use borrow.Author.Tests.{lt-ltb, le-ltb}
 use Rattle.scenario.specs.declared.Record.TheVariants as Is
-use Rattle.scenario.specs.Format.{Said, said, outOfPlace, readRecord}
-use Rattle.scenario.specs.Parts.{endingForm}
+use Rattle.scenario.specs.Format.{Said, said, out_of_place, read_record}
+use Rattle.scenario.specs.Parts.{ending_form}
 use Rattle.scenario.proofs.ReadingLaws.{other-kind, record-within, run-other, run-here}
 use Rattle.scenario.proofs.read_run.Statement.{statement}
 use Rattle.scenario.proofs.read_run.Tie as tie
@@ -17,7 +17,7 @@ use Rattle.scenario.proofs.read_run.Tie as tie
 -- the record is the run that was found
 found_here :
     (c : tie.After-found)
-    → let args = c.before.before.before.before.args in said (Is.Run c.found.given.0.0) ≡ readRecord (drop args.at args.input.now)
+    → let args = c.before.before.before.before.args in said (Is.Run c.found.given.0.0) ≡ read_record (drop args.at args.input.now)
 found_here c = ap said (sym c.found.given.1) ∙ c.before.before.record-at.ensures
 
 record-at-requires : tie.Need-record-at-requires
@@ -35,10 +35,10 @@ returns c =
     let args = found.before.before.args in
     ap
     (λ n. record { refusal = n; offset = args.at; steps = 0 })
-    (c.out-of-place.ensures ∙ ap outOfPlace found.record-at.ensures)
+    (c.out-of-place.ensures ∙ ap out_of_place found.record-at.ensures)
     ∙ sym
     (ap
-    endingForm
+    ending_form
     (run-other args.input.now args.at
     (other-kind 4 (0 ∷ 1 ∷ 2 ∷ 3 ∷ []) found.record-at.result _ found.record-at.ensures refl c.before.match.keys2)))
 
@@ -53,16 +53,16 @@ returns-2 : tie.Need-returns-2
 returns-2 c =
     let found = c.before.before in
     let args = found.before.before.before.before.args in
-    sym (ap endingForm (run-here args.input.now args.at _ true (found_here found) (sym (lt-ltb _ _ c.if1.true))))
+    sym (ap ending_form (run-here args.input.now args.at _ true (found_here found) (sym (lt-ltb _ _ c.if1.true))))
 
 returns-3 : tie.Need-returns-3
 returns-3 c =
     let found = c.before.before in
     let args = found.before.before.before.before.args in
-    sym (ap endingForm (run-here args.input.now args.at _ false (found_here found) (sym (le-ltb _ _ c.if1.false))))
+    sym (ap ending_form (run-here args.input.now args.at _ false (found_here found) (sym (le-ltb _ _ c.if1.false))))
 
-pub read-run-spec : {M : Type 1} → statement M
-read-run-spec =
+pub read_run_spec : {M : Type 1} → statement M
+read_run_spec =
     tie.close
     (tie.spec
     record-at-requires

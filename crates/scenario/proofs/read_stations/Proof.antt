@@ -7,16 +7,16 @@ use native.Mathlib.Nat.{sub-zero}
 use native.Mathlib.Omega.{arith}
 use lib.ListN.{length, drop, length-set}
 use borrow.Author.Rules.{rules}
-use Rattle.state.specs.SetUp.{requestWith}
-use Rattle.scenario.specs.Format.{said, outOfPlace, readRecord}
-use Rattle.scenario.specs.Reading.{StationsRead, set-up-bytes, stationOffset, stationsFrom}
-use Rattle.scenario.proofs.ReadingLaws.{other-kind, stationsAfter, station-turn, station-other, stations-end}
+use Rattle.state.specs.SetUp.{request_with}
+use Rattle.scenario.specs.Format.{said, out_of_place, read_record}
+use Rattle.scenario.specs.Reading.{StationsRead, set_up_bytes, station_offset, stations_from}
+use Rattle.scenario.proofs.ReadingLaws.{other-kind, stations_after, station-turn, station-other, stations-end}
 use Rattle.scenario.proofs.read_stations.Statement.{statement}
 use Rattle.scenario.proofs.read_stations.Tie as tie
 
 abbrev invariant-loop : tie.invariant-loop
 invariant-loop input n stations₀ i₀ stations i =
-    (i ≤ n) × (length stations ≡ 64) × (stationsFrom n set-up-bytes (drop set-up-bytes input) ≡ stationsAfter input stations n i)
+    (i ≤ n) × (length stations ≡ 64) × (stations_from n set_up_bytes (drop set_up_bytes input) ≡ stations_after input stations n i)
 
 abbrev decreases-loop : tie.decreases-loop
 decreases-loop input n stations₀ i₀ stations i = n - i
@@ -25,15 +25,15 @@ decreases-loop input n stations₀ i₀ stations i = n - i
 found_here :
     (c : tie.After-record-at invariant-loop decreases-loop)
     → let at = c.before.before.before in
-    said c.record-at.result ≡ readRecord (drop (stationOffset at.loop.i) at.before.before.args.input.now)
+    said c.record-at.result ≡ read_record (drop (station_offset at.loop.i) at.before.before.args.input.now)
 found_here c =
     let at = c.before.before.before in
-    c.record-at.ensures ∙ ap (λ o. readRecord (drop o at.before.before.args.input.now)) c.before.station-offset.ensures
+    c.record-at.ensures ∙ ap (λ o. read_record (drop o at.before.before.args.input.now)) c.before.station-offset.ensures
 
 loop-holds : tie.Need-loop-init invariant-loop decreases-loop
 loop-holds c =
-    let rest = drop set-up-bytes c.before.args.input.now in
-    (search rules, refl, ap (λ k. stationsFrom k set-up-bytes rest) (sym (sub-zero c.before.args.n)))
+    let rest = drop set_up_bytes c.before.args.input.now in
+    (search rules, refl, ap (λ k. stations_from k set_up_bytes rest) (sym (sub-zero c.before.args.n)))
 
 station-offset-requires : tie.Need-station-offset-requires invariant-loop decreases-loop
 station-offset-requires c κs = search rules
@@ -56,10 +56,10 @@ returns c =
     at.loop.invariant.2
     ∙ station-other start.args.input.now at.loop.stations start.args.n at.loop.i found.before.before.loop-test.true
     (other-kind 2 (0 ∷ 1 ∷ 3 ∷ 4 ∷ []) found.record-at.result _ (found_here found) refl c.before.match.keys2) in (
-      c.out-of-place.ensures ∙ ap outOfPlace (found_here found) ∙ ap (λ (x : StationsRead). x.refusal) (sym all),
+      c.out-of-place.ensures ∙ ap out_of_place (found_here found) ∙ ap (λ (x : StationsRead). x.refusal) (sym all),
       (
         found.before.station-offset.ensures ∙ ap (λ (x : StationsRead). x.offset) (sym all),
-        λ e settings. ap (λ (x : StationsRead). requestWith settings x.asked) (sym all),
+        λ e settings. ap (λ (x : StationsRead). request_with settings x.asked) (sym all),
       ),
     )
 
@@ -98,12 +98,12 @@ returns-2 c =
       ap (λ (x : StationsRead). x.refusal) (sym all),
       (
         ap (λ (x : StationsRead). x.offset) (sym all),
-        λ e settings. ap (λ (x : StationsRead). requestWith settings x.asked) (sym all),
+        λ e settings. ap (λ (x : StationsRead). request_with settings x.asked) (sym all),
       ),
     )
 
-pub read-stations-spec : {M : Type 1} → statement M
-read-stations-spec =
+pub read_stations_spec : {M : Type 1} → statement M
+read_stations_spec =
     tie.close
     (tie.spec
     invariant-loop

@@ -5,7 +5,7 @@ use native.Mathlib.Omega.{arith}
 use borrow.Author.Rules.{rules}
 use lib.ListN.{length, drop_of_length-le}
 use borrow.Author.Rules.{part_to_end}
-use Rattle.scenario.specs.Format.{readRecord}
+use Rattle.scenario.specs.Format.{read_record}
 use Rattle.scenario.proofs.record_at.Statement.{statement}
 use Rattle.scenario.proofs.record_at.Tie as tie
 
@@ -24,15 +24,15 @@ read-record-requires c κs = search rules
 returns : tie.Need-returns
 returns c =
     c.read-record.ensures
-    ∙ ap readRecord (part_to_end c.before.before.before.before.args.input.now c.before.before.before.before.args.at)
+    ∙ ap read_record (part_to_end c.before.before.before.before.args.input.now c.before.before.before.before.args.at)
 
 returns-2 : tie.Need-returns-2
 returns-2 c =
     let h : length c.before.before.args.input.now ≤ c.before.before.args.at = omega arith in
-    ap readRecord (sym (drop_of_length-le _ h))
+    ap read_record (sym (drop_of_length-le _ h))
 
-pub record-at-spec : {M : Type 1} → statement M
-record-at-spec =
+pub record_at_spec : {M : Type 1} → statement M
+record_at_spec =
     tie.close
     (tie.spec
     sub-read-record

@@ -11,5 +11,5 @@ returns : tie.Need-returns
 returns c =
     ap (λ s. record { refusal = c.before.args.refusal; offset = c.before.args.offset; state = s; at = 0; steps = 0 }) c.all-zero.ensures
 
-pub refused-spec : {M : Type 1} → statement M
-refused-spec = tie.close (tie.spec all-zero-requires returns)
+pub refused_spec : {M : Type 1} → statement M
+refused_spec = tie.close (tie.spec all-zero-requires returns)

@@ -3,8 +3,8 @@ use mathlib.Core.Path.{◌≡◌, sym, ◌∙◌}
 use native.Mathlib.Omega.{arith}
 use borrow.Author.Rules.{rules}
 use lib.ListN.{length}
-use Rattle.sheet.proofs.Refusals.{drawn-many}
-use Rattle.sheet.proofs.Loops.{drawn-24, drawn-sheet}
+use Rattle.sheet.proofs.Refusals.{drawn_many}
+use Rattle.sheet.proofs.Loops.{drawn_24, drawn-sheet}
 use Rattle.sheet.proofs.draw.Statement.{statement}
 use Rattle.sheet.proofs.draw.Tie as tie
 
@@ -13,7 +13,7 @@ refused-requires c κs = search rules
 
 returns : tie.Need-returns
 returns c =
-    let args = c.before.before.args in c.refused.ensures ∙ sym (drawn-many args.runs args.count (search rules))
+    let args = c.before.before.args in c.refused.ensures ∙ sym (drawn_many args.runs args.count (search rules))
 
 unbalanced-requires : tie.Need-unbalanced-requires
 unbalanced-requires c κs = search rules
@@ -26,7 +26,7 @@ returns-2 c =
     let found = c.before.before in
     let args = found.before.before.args in
     let full : length args.runs ≡ 256 = search rules in
-    c.refused2.ensures ∙ drawn-24 args.runs args.count (omega arith) full found.unbalanced.result found.unbalanced.ensures (omega arith)
+    c.refused2.ensures ∙ drawn_24 args.runs args.count (omega arith) full found.unbalanced.result found.unbalanced.ensures (omega arith)
 
 highest-requires : tie.Need-highest-requires
 highest-requires c κs = search rules
@@ -55,8 +55,8 @@ returns-3 c =
     c.sums.ensures
     highest.highest.ensures
 
-pub draw-spec : {M : Type 1} → statement M
-draw-spec =
+pub draw_spec : {M : Type 1} → statement M
+draw_spec =
     tie.close
     (tie.spec
     refused-requires

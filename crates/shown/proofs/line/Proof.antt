@@ -5,7 +5,7 @@ use native.Mathlib.Omega.{arith}
 use lib.ListN.{length, drop}
 use borrow.Author.Rules.{rules}
 use Rattle.scenario.specs.declared.Record.{Record}
-use Rattle.scenario.specs.Format.{Said, said, readRecord}
+use Rattle.scenario.specs.Format.{Said, said, read_record}
 use Rattle.scenario.proofs.ReadingLaws.{size_of, record-within}
 use Rattle.text.proofs.Stores.{told_none}
 use Rattle.shown.proofs.Storing.{line-said}
@@ -15,7 +15,7 @@ use Rattle.shown.proofs.line.Tie as tie
 -- the record here says what was found
 here :
     (c : tie.After-record-at) {found : Record} → c.record-at.result ≡ found
-    → let args = c.before.before.args in said found ≡ readRecord (drop args.at args.input.now)
+    → let args = c.before.before.args in said found ≡ read_record (drop args.at args.input.now)
 here c e = ap said (sym e) ∙ c.record-at.ensures
 
 -- and its bytes are within the input
@@ -104,8 +104,8 @@ returns-5 c =
     let args = found.before.before.before.before.args in
     line-said args.settings args.at (here found.before.before found.found4.given.1) (record { next = refl; told = c.run.ensures })
 
-pub line-spec : {M : Type 1} → statement M
-line-spec =
+pub line_spec : {M : Type 1} → statement M
+line_spec =
     tie.close
     (tie.spec
     record-at-requires

@@ -33,6 +33,6 @@ returns-2 c =
     (first-set-up args.input.now args.at first.first.given.0.0 (ap said (sym first.first.given.1) ∙ first.before.before.record-at.ensures)
     c.line.ensures)
 
-pub show-spec : {M : Type 1} → statement M
-show-spec =
+pub show_spec : {M : Type 1} → statement M
+show_spec =
     tie.close (tie.spec record-at-requires enum-known-first returns line-requires returns-2)

@@ -5,9 +5,9 @@ use mathlib.Core.List.{map}
 use lib.ListN.{take}
 use borrow.Author.Tests.{eq-eqb, ne_eqb}
 use Rattle.rules.specs.declared.Verdict.{Verdict}
-use Rattle.state.specs.SetUp.{asked_of, requestOf}
-use Rattle.state.specs.Parts.{freshState}
-use Rattle.state.proofs.SettingUp.{set-up-answer, set-up-pass, fresh-form}
+use Rattle.state.specs.SetUp.{asked_of, request_of}
+use Rattle.state.specs.Parts.{fresh_state}
+use Rattle.state.proofs.SettingUp.{set-up-answer, set_up_pass, fresh-form}
 use borrow.Author.Rules.{rules}
 use Rattle.state.proofs.set_up.Statement.{statement}
 use Rattle.state.proofs.set_up.Tie as tie
@@ -23,7 +23,7 @@ returns c =
     let one = c.before in
     let start = one.before.before.before.before in
     set-up-answer
-    (requestOf start.args.settings start.args.row)
+    (request_of start.args.settings start.args.row)
     _
     _
     false
@@ -35,7 +35,7 @@ up-to-requires : tie.Need-up-to-requires
 up-to-requires c κs =
     let start = c.before.before.before.before in
     let row = start.args.row in
-    (set-up-pass
+    (set_up_pass
     start.args.settings
     (map asked_of (take row.length row.stations))
     (ap (λ (v : Verdict). v.refusal) (sym c.before.before.verdict.ensures) ∙ c.if1.false)
@@ -52,22 +52,22 @@ returns-2 c =
     let row = start.args.row in
     let e = one.before.before.verdict.ensures in
     set-up-answer
-    (requestOf g row)
+    (request_of g row)
     _
     _
     true
     e
     (eq-eqb _ _ one.if1.false)
     (c.fresh.ensures
-    ∙ ap (freshState g) c.before.up_to.ensures
+    ∙ ap (fresh_state g) c.before.up_to.ensures
     ∙ sym
     (fresh-form
     g
     row.stations
     row.length
-    (set-up-pass g (map asked_of (take row.length row.stations)) (ap (λ (v : Verdict). v.refusal) (sym e) ∙ one.if1.false))))
+    (set_up_pass g (map asked_of (take row.length row.stations)) (ap (λ (v : Verdict). v.refusal) (sym e) ∙ one.if1.false))))
 
-pub set-up-spec : {M : Type 1} → statement M
-set-up-spec =
+pub set_up_spec : {M : Type 1} → statement M
+set_up_spec =
     tie.close
     (tie.spec verdict-requires all-zero-requires returns up-to-requires fresh-requires returns-2)

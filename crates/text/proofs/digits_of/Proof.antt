@@ -7,7 +7,7 @@ use native.Mathlib.Nat.{pow-suc, one-le-pow}
 use native.Mathlib.Numerals.{add-one}
 use native.Mathlib.Omega.{arith}
 use borrow.Author.Rules.{rules}
-use Rattle.text.proofs.Decimals.{power-length}
+use Rattle.text.proofs.Decimals.{power_length}
 use Rattle.text.proofs.digits_of.Statement.{statement}
 use Rattle.text.proofs.digits_of.Tie as tie
 
@@ -38,8 +38,8 @@ loop-again c =
 returns : tie.Need-returns invariant-loop decreases-loop
 returns c =
     let inv = c.before.loop.invariant in
-    inv.2 ∙ sym (power-length _ _ (inv.0, inv.1, omega arith, inv.4))
+    inv.2 ∙ sym (power_length _ _ (inv.0, inv.1, omega arith, inv.4))
 
-pub digits-of-spec : {M : Type 1} → statement M
-digits-of-spec =
+pub digits_of_spec : {M : Type 1} → statement M
+digits_of_spec =
     tie.close (tie.spec invariant-loop decreases-loop loop-holds mul_power add-size loop-less loop-again returns)

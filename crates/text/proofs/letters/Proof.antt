@@ -68,8 +68,8 @@ returns-2 c =
     let all : turn.i ≡ length word = omega arith in
     answer-fits args.room.now args.at word turn.invariant.0 (omega arith) (rw (all, take-length word) at turn.invariant.2)
 
-pub letters-spec : {M : Type 1} → statement M
-letters-spec =
+pub letters_spec : {M : Type 1} → statement M
+letters_spec =
     tie.close
     (tie.spec
     invariant-loop

@@ -9,8 +9,8 @@ use lib.ListN.{length, set}
 use lib.Seq.{sets}
 use Rattle.text.specs.Text.{digit, decimal}
 use Rattle.text.specs.Parts.{roomy}
-use Rattle.text.proofs.Decimals.{digits, digits_last, decimal-places}
-use Rattle.text.proofs.Stores.{sets-before, answer-not, answer-fits, has_room}
+use Rattle.text.proofs.Decimals.{digits, digits_last, decimal_places}
+use Rattle.text.proofs.Stores.{sets_before, answer-not, answer-fits, has_room}
 use Rattle.text.proofs.number.Statement.{statement}
 use Rattle.text.proofs.number.Tie as tie
 
@@ -21,9 +21,9 @@ record Stored (n : ℕ) (a b : List ℕ) (at k rest : ℕ) : Type 0 where
   room : b ≡ sets a (at + k) text
 
 -- no digit
-none-stored : (n at : ℕ) (a : List ℕ) → Stored n a a at (length (decimal n)) n
-none-stored n at a =
-    record { text = []; whole = append-nil (digits (length (decimal n)) n) ∙ sym (decimal-places n); room = refl }
+none_stored : (n at : ℕ) (a : List ℕ) → Stored n a a at (length (decimal n)) n
+none_stored n at a =
+    record { text = []; whole = append-nil (digits (length (decimal n)) n) ∙ sym (decimal_places n); room = refl }
 
 -- one digit more
 one_more :
@@ -41,12 +41,12 @@ one_more n a b at (suc k) rest d h e s =
           ∙ ap (λ (l : List ℕ). l ++ s.text) (digits_last k rest)
           ∙ s.whole;
       room = ap (λ (l : List ℕ). set l (at + k) d) (s.room ∙ ap (λ m. sets a m s.text) up)
-          ∙ sets-before a s.text (at + k) (suc (at + k)) d (omega arith);
+          ∙ sets_before a s.text (at + k) (suc (at + k)) d (omega arith);
     })
 
 -- all digits, where no place is left
-all-stored : (n : ℕ) (a b : List ℕ) (at rest : ℕ) → Stored n a b at 0 rest → b ≡ sets a at (decimal n)
-all-stored n a b at rest s = s.room ∙ ap₂ (λ m (l : List ℕ). sets a m l) (omega arith) s.whole
+all_stored : (n : ℕ) (a b : List ℕ) (at rest : ℕ) → Stored n a b at 0 rest → b ≡ sets a at (decimal n)
+all_stored n a b at rest s = s.room ∙ ap₂ (λ m (l : List ℕ). sets a m l) (omega arith) s.whole
 
 abbrev invariant-loop : tie.invariant-loop
 invariant-loop room₀ at n size k₀ rest₀ room k rest = roomy at size × (k ≤ size) × Stored n room₀ room at k rest
@@ -79,7 +79,7 @@ loop-holds c =
     let args = size.before.args in (
       has_room args.at size.digits_of.result c.before.has_room.ensures c.if1.false,
       omega arith,
-      rw size.digits_of.ensures (none-stored args.n args.at args.room.now),
+      rw size.digits_of.ensures (none_stored args.n args.at args.room.now),
     )
 
 sub-k : tie.Need-overflow-sub-k invariant-loop decreases-loop
@@ -131,10 +131,10 @@ returns-2 c =
     (decimal args.n)
     (omega (arith, size.digits_of.ensures, turn.invariant.0))
     (ap (λ m. args.at + m) size.digits_of.ensures)
-    (all-stored args.n args.room.now turn.room args.at turn.rest (rw none at turn.invariant.2))
+    (all_stored args.n args.room.now turn.room args.at turn.rest (rw none at turn.invariant.2))
 
-pub number-spec : {M : Type 1} → statement M
-number-spec =
+pub number_spec : {M : Type 1} → statement M
+number_spec =
     tie.close
     (tie.spec
     invariant-loop

@@ -3,14 +3,14 @@ use mathlib.Core.Path.{refl, sym}
 use mathlib.Core.List.{[], ◌∷◌}
 use native.Mathlib.Omega.{arith}
 use borrow.Author.Rules.{rules}
-use Rattle.text.proofs.Stores.{past-not, stored-not, answer-fits}
+use Rattle.text.proofs.Stores.{past_not, stored_not, answer-fits}
 use Rattle.text.proofs.put.Statement.{statement}
 use Rattle.text.proofs.put.Tie as tie
 
 returns : tie.Need-returns
 returns c =
     let args = c.before.args in
-    (sym (past-not args.at (args.byte ∷ []) (omega arith)), sym (stored-not args.room.now args.at (args.byte ∷ []) (omega arith)))
+    (sym (past_not args.at (args.byte ∷ []) (omega arith)), sym (stored_not args.room.now args.at (args.byte ∷ []) (omega arith)))
 
 element-write-room : tie.Need-element-write-room
 element-write-room c = search rules

@@ -78,8 +78,8 @@ returns-2 c =
     (omega arith)
     (rw all at turn.invariant.2)
 
-pub spaces-spec : {M : Type 1} → statement M
-spaces-spec =
+pub spaces_spec : {M : Type 1} → statement M
+spaces_spec =
     tie.close
     (tie.spec
     invariant-loop

@@ -2,13 +2,13 @@
 use mathlib.Core.Path.{refl, sym, ap}
 use borrow.Author.Rules.{rules}
 use lib.Count.{count_leading_zeros, leading_le}
-use Rattle.window.specs.Splitting.{exponentOf}
+use Rattle.window.specs.Splitting.{exponent_of}
 use Rattle.window.proofs.exponent.Statement.{statement}
 use Rattle.window.proofs.exponent.Tie as tie
 
 returns : tie.Need-returns
-unfolding exponentOf count_leading_zeros
-returns c = ap exponentOf (sym c.if1.true)
+unfolding exponent_of count_leading_zeros
+returns c = ap exponent_of (sym c.if1.true)
 
 sub-result : tie.Need-overflow-sub-result
 sub-result c = search rules
@@ -17,8 +17,8 @@ sub-result-2 : tie.Need-overflow-sub-result-2
 sub-result-2 c = leading_le 32 _
 
 returns-2 : tie.Need-returns-2
-unfolding exponentOf
+unfolding exponent_of
 returns-2 c = refl
 
-pub exponent-spec : {M : Type 1} → statement M
-exponent-spec = tie.close (tie.spec returns sub-result sub-result-2 returns-2)
+pub exponent_spec : {M : Type 1} → statement M
+exponent_spec = tie.close (tie.spec returns sub-result sub-result-2 returns-2)

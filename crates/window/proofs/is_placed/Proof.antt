@@ -11,27 +11,27 @@ use lib.Pow.{pow_pos}
 use Rattle.window.specs.declared.Side.{Side}
 use Rattle.window.specs.declared.Side.TheVariants.{Left, Right}
 use Rattle.window.specs.declared.Window.{Window}
-use Rattle.window.specs.Splitting.{firstWindow, isPower, sideAt, sameSide, placed}
-use Rattle.window.proofs.Facts.{power-level}
+use Rattle.window.specs.Splitting.{first_window, is_power, side_at, same_side, placed}
+use Rattle.window.proofs.Facts.{power_level}
 use Rattle.window.proofs.is_placed.Statement.{statement}
 use Rattle.window.proofs.is_placed.Tie as tie
 
 -- What `is_power` accepts is not 0, so it may divide.
-divides : (accepts : Bool) (n : ℕ) → accepts ≡ isPower n → not accepts ≡ false → 0 < n
+divides : (accepts : Bool) (n : ℕ) → accepts ≡ is_power n → not accepts ≡ false → 0 < n
 divides accepts n e p =
-    let k = power-level n (sym e ∙ not-false accepts p) in
+    let k = power_level n (sym e ∙ not-false accepts p) in
     omega (arith, k.1, pow_pos k.0)
 
 -- What is not right is left.
-not_right : (side : Side) → not (sameSide side Right) ≡ sameSide side Left
+not_right : (side : Side) → not (same_side side Right) ≡ same_side side Left
 not_right Left = refl
 not_right Right = refl
 
 -- Where the first four tests pass, what is left is to compare the sides.
 passed :
-    (space : ℕ) (w first : Window) → first ≡ firstWindow space → (accepts : Bool) → accepts ≡ isPower w.size → not accepts ≡ false
+    (space : ℕ) (w first : Window) → first ≡ first_window space → (accepts : Bool) → accepts ≡ is_power w.size → not accepts ≡ false
     → w.size ≤ first.size → w.start < first.size → w.start % w.size ≡ 0
-    → (side : Side) → cond (eqb w.size first.size) Right (sideAt (w.start / w.size)) ≡ side → sameSide w.side side ≡ placed space w
+    → (side : Side) → cond (eqb w.size first.size) Right (side_at (w.start / w.size)) ≡ side → same_side w.side side ≡ placed space w
 passed space w first f accepts e p a b z side s =
     rw (← ap (λ (v : Window). v.size) f, ← s) (simp (sym e ∙ not-false accepts p, le-leb _ _ a, lt-ltb _ _ b, eq-eqb _ _ z))
 
@@ -105,8 +105,8 @@ returns-7 c =
     ∙ passed given.before.args.space given.before.args.w _ given.first-window.ensures _ one.before.is-power.ensures one.if1.false
     four.before.before.if2.false four.before.if3.false four.if4.false Right (simp (ne_eqb _ _ c.before.before.if5.false, ne_eqb _ _ c.before.if6.false))
 
-pub is-placed-spec : {M : Type 1} → statement M
-is-placed-spec =
+pub is_placed_spec : {M : Type 1} → statement M
+is_placed_spec =
     tie.close
     (tie.spec
     first-window-requires

@@ -24,5 +24,5 @@ returns-2 c =
     let none : 2 ^ 64 ≤ w.start + w.size = omega arith in
     simp (le-ltb _ _ none)
 
-pub move-right-spec : {M : Type 1} → statement M
-move-right-spec = tie.close (tie.spec sub-if1 add-next returns returns-2)
+pub move_right_spec : {M : Type 1} → statement M
+move_right_spec = tie.close (tie.spec sub-if1 add-next returns returns-2)

@@ -22,5 +22,5 @@ returns-2 c =
     shl_exact 1 c.before.args.place 64 (omega arith) (omega arith) ∙ one-mul (2 ^ c.before.args.place)
     ∙ sym (ap (λ (t : Bool). cond t (2 ^ c.before.args.place) 0) (lt-ltb c.before.args.place bits (omega arith)))
 
-pub alone-spec : {M : Type 1} → statement M
-alone-spec = tie.close (tie.spec returns shl-result returns-2)
+pub alone_spec : {M : Type 1} → statement M
+alone_spec = tie.close (tie.spec returns shl-result returns-2)

@@ -5,7 +5,7 @@ use native.Mathlib.Omega.{arith}
 use borrow.Author.Rules.{rules}
 use lib.Bits.{bit_and}
 use Rattle.word.specs.Word.{bits}
-use Rattle.word.proofs.Laws.{clear-mask}
+use Rattle.word.proofs.Laws.{clear_mask}
 use Rattle.word.proofs.clear.Statement.{statement}
 use Rattle.word.proofs.clear.Tie as tie
 
@@ -15,7 +15,7 @@ alone-requires c κs = search rules
 returns : tie.Need-returns
 returns c =
     ap (λ (n : ℕ). bit_and c.before.args.word (2 ^ bits - 1 - n)) c.alone.ensures
-    ∙ clear-mask bits c.before.args.word c.before.args.place (omega arith)
+    ∙ clear_mask bits c.before.args.word c.before.args.place (omega arith)
 
 pub clear_spec : {M : Type 1} → statement M
 clear_spec = tie.close (tie.spec alone-requires returns)

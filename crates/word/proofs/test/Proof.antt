@@ -7,7 +7,7 @@ use borrow.Author.Rules.{rules}
 use lib.Bits.{bit_and}
 use lib.Dec.{eqb}
 use Rattle.word.specs.Word.{bits}
-use Rattle.word.proofs.Laws.{test-mask}
+use Rattle.word.proofs.Laws.{test_mask}
 use Rattle.word.proofs.test.Statement.{statement}
 use Rattle.word.proofs.test.Tie as tie
 
@@ -17,7 +17,7 @@ alone-requires c κs = search rules
 returns : tie.Need-returns
 returns c =
     ap (λ (n : ℕ). not (eqb (bit_and c.before.args.word n) 0)) c.alone.ensures
-    ∙ test-mask bits c.before.args.word c.before.args.place (omega arith)
+    ∙ test_mask bits c.before.args.word c.before.args.place (omega arith)
 
-pub test-spec : {M : Type 1} → statement M
-test-spec = tie.close (tie.spec alone-requires returns)
+pub test_spec : {M : Type 1} → statement M
+test_spec = tie.close (tie.spec alone-requires returns)

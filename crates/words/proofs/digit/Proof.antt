@@ -72,8 +72,8 @@ returns-4 c =
       sym c.before.within3.ensures ∙ c.if3.false,
     )
 
-pub digit-spec : {M : Type 1} → statement M
-digit-spec =
+pub digit_spec : {M : Type 1} → statement M
+digit_spec =
     tie.close
     (tie.spec
     within-requires

@@ -5,13 +5,13 @@ use native.Mathlib.Nat.{mul-le-mul_left}
 use native.Mathlib.Omega.{arith}
 use borrow.Author.Rules.{rules}
 use lib.ListN.{length, drop, drop_of_length-le}
-use Rattle.words.specs.Words.{number-end, numberFrom, numberForm}
-use Rattle.words.proofs.Numbers.{no_digit, too_large, one-digit}
+use Rattle.words.specs.Words.{number_end, number_from, number_form}
+use Rattle.words.proofs.Numbers.{no_digit, too_large, one_digit}
 use Rattle.words.proofs.digits.Statement.{statement}
 use Rattle.words.proofs.digits.Tie as tie
 
 abbrev invariant-loop : tie.invariant-loop
-invariant-loop word from base n₀ i₀ n i = (n < number-end) × (numberFrom base 0 (drop from word) ≡ numberFrom base n (drop i word))
+invariant-loop word from base n₀ i₀ n i = (n < number_end) × (number_from base 0 (drop from word) ≡ number_from base n (drop i word))
 
 abbrev decreases-loop : tie.decreases-loop
 decreases-loop word from base n₀ i₀ n i = length word - i
@@ -30,7 +30,7 @@ returns c =
     let turn = c.before.before.before.before in
     let args = turn.before.before.args in
     sym
-    (ap numberForm
+    (ap number_form
     (turn.loop.invariant.1 ∙ no_digit args.base turn.loop.n turn.loop.i _ args.word.now (omega arith) c.before.digit.ensures (omega arith)))
 
 mul-n : tie.Need-overflow-mul-n invariant-loop decreases-loop
@@ -49,7 +49,7 @@ returns-2 c =
     let turn = digit.before.before.before.before in
     let args = turn.before.before.args in
     sym
-    (ap numberForm
+    (ap number_form
     (turn.loop.invariant.1
     ∙ too_large args.base turn.loop.n turn.loop.i _ args.word.now (omega arith) digit.before.digit.ensures (omega arith) (omega arith)))
 
@@ -66,7 +66,7 @@ loop-again c =
     let args = turn.before.before.args in (
       omega arith,
       turn.loop.invariant.1
-          ∙ one-digit
+          ∙ one_digit
           args.base
           turn.loop.n
           turn.loop.i
@@ -86,10 +86,10 @@ returns-3 c =
     let args = c.before.before.before.args in
     let turn = c.before.loop in
     let over : length args.word.now ≤ turn.i = omega arith in
-    sym (ap numberForm (turn.invariant.1 ∙ ap (numberFrom args.base turn.n) (drop_of_length-le args.word.now over)))
+    sym (ap number_form (turn.invariant.1 ∙ ap (number_from args.base turn.n) (drop_of_length-le args.word.now over)))
 
-pub digits-spec : {M : Type 1} → statement M
-digits-spec =
+pub digits_spec : {M : Type 1} → statement M
+digits_spec =
     tie.close
     (tie.spec
     invariant-loop

@@ -19,5 +19,5 @@ returns-2 c =
     let no = c.match.rest.1 in
     simp (ne_eqb _ 9 (λ e. no (inl e)), ne_eqb _ 13 (λ e. no (inr (inl e))), ne_eqb _ 32 (λ e. no (inr (inr e))))
 
-pub is-blank-spec : {M : Type 1} → statement M
-is-blank-spec = tie.close (tie.spec returns returns-2)
+pub is_blank_spec : {M : Type 1} → statement M
+is_blank_spec = tie.close (tie.spec returns returns-2)

@@ -34,8 +34,8 @@ returns-4 c =
     let blank = not-false _ c.if1.false in
     rw (c.before.before.enum-told3.given.1, sym c.before.is-blank2.ensures ∙ blank, blank)
 
-pub is-in-spec : {M : Type 1} → statement M
-is-in-spec =
+pub is_in_spec : {M : Type 1} → statement M
+is_in_spec =
     tie.close
     (tie.spec
     enum_told

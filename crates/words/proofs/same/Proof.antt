@@ -6,7 +6,7 @@ use borrow.Author.Rules.{rules}
 use borrow.Author.Tests.{eq-eqb, ne_eqb}
 use lib.ListN.{length, drop}
 use Rattle.words.specs.Words.{same as same_words}
-use Rattle.words.proofs.Comparing.{same-lengths, same_here, same_over}
+use Rattle.words.proofs.Comparing.{same_lengths, same_here, same_over}
 use Rattle.words.proofs.same.Statement.{statement}
 use Rattle.words.proofs.same.Tie as tie
 
@@ -17,7 +17,7 @@ abbrev decreases-loop : tie.decreases-loop
 decreases-loop word other i₀ i = length word - i
 
 returns : tie.Need-returns invariant-loop decreases-loop
-returns c = let args = c.before.args in sym (same-lengths args.word.now args.other.now (λ e. omega arith))
+returns c = let args = c.before.args in sym (same_lengths args.word.now args.other.now (λ e. omega arith))
 
 loop-holds : tie.Need-loop-init invariant-loop decreases-loop
 loop-holds c = (omega arith, refl)

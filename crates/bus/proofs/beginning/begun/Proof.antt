@@ -3,8 +3,8 @@ use Prim.Native.Nat.{◌+◌}
 use mathlib.Core.Path.{ap₂}
 use borrow.Author.Rules.{rules}
 use Rattle.bus.specs.Types.{Contention, Segment}
-use Rattle.state.specs.State.{recordedIn}
-use Rattle.bus.specs.Parts.{segmentCounting}
+use Rattle.state.specs.State.{recorded_in}
+use Rattle.bus.specs.Parts.{segment_counting}
 use Rattle.bus.proofs.beginning.begun.Statement.{statement}
 use Rattle.bus.proofs.beginning.begun.Tie as tie
 
@@ -21,9 +21,9 @@ returns : tie.Need-returns
 returns c =
     let args = c.before.before.before.before.args in
     ap₂
-    (λ (k : Contention) (g : Segment). segmentCounting g g.admitted (args.g.lost + args.drops) k (recordedIn g))
+    (λ (k : Contention) (g : Segment). segment_counting g g.admitted (args.g.lost + args.drops) k (recorded_in g))
     c.before.before.opening.ensures
     c.before.offers-of.ensures
 
-pub begun-spec : {M : Type 1} → statement M
-begun-spec = tie.close (tie.spec opening-requires offers-of-requires add-next returns)
+pub begun_spec : {M : Type 1} → statement M
+begun_spec = tie.close (tie.spec opening-requires offers-of-requires add-next returns)

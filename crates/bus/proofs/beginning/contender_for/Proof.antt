@@ -23,7 +23,7 @@ returns-2 c =
     let found = not-false chosen.result.found c.before.before.if1.false in
     rw (contender-on, ← chosen.ensures, found, start.requires.1.1.1, ← c.parameter.ensures)
 
-pub contender-for-spec : {M : Type 1} → statement M
-contender-for-spec =
+pub contender_for_spec : {M : Type 1} → statement M
+contender_for_spec =
     tie.close
     (tie.spec chosen-requires returns parameter-requires returns-2)

@@ -14,23 +14,23 @@ use lib.Seq.{get_or-set_same, get_or-set_other}
 use Rattle.word.specs.Word.{bit_at}
 use Rattle.bus.specs.Types.{Address, Listed}
 use Rattle.state.specs.State.{nobody}
-use Rattle.state.proofs.Rows.{row-ext}
+use Rattle.state.proofs.Rows.{row_ext}
 use Rattle.bus.proofs.beginning.contending.Statement.{statement}
 use Rattle.bus.proofs.beginning.contending.Tie as tie
 
-abbrev zero-address : Address
-zero-address = record { 0 = 0 }
+abbrev zero_address : Address
+zero_address = record { 0 = 0 }
 
 -- what stands at a place
 abbrev shown : ℕ → List Listed → ℕ → Address
-shown contenders listed i = cond (bit_at contenders i) (get_or listed i nobody).address zero-address
+shown contenders listed i = cond (bit_at contenders i) (get_or listed i nobody).address zero_address
 
 -- the addresses before place i are written, and the others are zero
 abbrev Written : ℕ → List Listed → List Address → ℕ → Type 0
 Written contenders listed addresses i =
     (length addresses ≡ 64)
-    × ((j : ℕ) → j < i → get_or addresses j zero-address ≡ shown contenders listed j)
-    × ((j : ℕ) → i ≤ j → j < 64 → get_or addresses j zero-address ≡ zero-address)
+    × ((j : ℕ) → j < i → get_or addresses j zero_address ≡ shown contenders listed j)
+    × ((j : ℕ) → i ≤ j → j < 64 → get_or addresses j zero_address ≡ zero_address)
 
 -- a contender more
 written :
@@ -39,23 +39,23 @@ written :
 written contenders listed addresses i room w bit =
     (length-set addresses i (get_or listed i nobody).address ∙ w.0, before, after)
   where
-    before : (j : ℕ) → j < i + 1 → get_or (set addresses i (get_or listed i nobody).address) j zero-address ≡ shown contenders listed j
+    before : (j : ℕ) → j < i + 1 → get_or (set addresses i (get_or listed i nobody).address) j zero_address ≡ shown contenders listed j
     before j h = go (eqb j i) refl
       where
-        go : (t : Bool) → eqb j i ≡ t → get_or (set addresses i (get_or listed i nobody).address) j zero-address ≡ shown contenders listed j
+        go : (t : Bool) → eqb j i ≡ t → get_or (set addresses i (get_or listed i nobody).address) j zero_address ≡ shown contenders listed j
         go true s =
             let here : j ≡ i = eqb-true j i s in
-            ap (λ (k : ℕ). get_or (set addresses i (get_or listed i nobody).address) k zero-address) here
-            ∙ get_or-set_same addresses i (get_or listed i nobody).address zero-address (omega (arith, w.0))
-            ∙ ap (λ (t : Bool). cond t (get_or listed i nobody).address zero-address) (sym bit)
+            ap (λ (k : ℕ). get_or (set addresses i (get_or listed i nobody).address) k zero_address) here
+            ∙ get_or-set_same addresses i (get_or listed i nobody).address zero_address (omega (arith, w.0))
+            ∙ ap (λ (t : Bool). cond t (get_or listed i nobody).address zero_address) (sym bit)
             ∙ ap (shown contenders listed) (sym here)
         go false s =
             let other = eqb-false j i s in
-            get_or-set_other addresses i j (get_or listed i nobody).address zero-address other ∙ w.1 j (omega arith)
+            get_or-set_other addresses i j (get_or listed i nobody).address zero_address other ∙ w.1 j (omega arith)
 
-    after : (j : ℕ) → i + 1 ≤ j → j < 64 → get_or (set addresses i (get_or listed i nobody).address) j zero-address ≡ zero-address
+    after : (j : ℕ) → i + 1 ≤ j → j < 64 → get_or (set addresses i (get_or listed i nobody).address) j zero_address ≡ zero_address
     after j h l =
-        get_or-set_other addresses i j (get_or listed i nobody).address zero-address (λ (e : j ≡ i). omega arith) ∙ w.2 j (omega arith) l
+        get_or-set_other addresses i j (get_or listed i nobody).address zero_address (λ (e : j ≡ i). omega arith) ∙ w.2 j (omega arith) l
 
 -- a station that does not contend
 passed_over :
@@ -63,15 +63,15 @@ passed_over :
     → bit_at contenders i ≡ false → Written contenders listed addresses (i + 1)
 passed_over contenders listed addresses i room w bit = (w.0, before, λ j h l. w.2 j (omega arith) l)
   where
-    before : (j : ℕ) → j < i + 1 → get_or addresses j zero-address ≡ shown contenders listed j
+    before : (j : ℕ) → j < i + 1 → get_or addresses j zero_address ≡ shown contenders listed j
     before j h = go (eqb j i) refl
       where
-        go : (t : Bool) → eqb j i ≡ t → get_or addresses j zero-address ≡ shown contenders listed j
+        go : (t : Bool) → eqb j i ≡ t → get_or addresses j zero_address ≡ shown contenders listed j
         go true s =
             let here : j ≡ i = eqb-true j i s in
-            ap (λ (k : ℕ). get_or addresses k zero-address) here
+            ap (λ (k : ℕ). get_or addresses k zero_address) here
             ∙ w.2 i (omega arith) room
-            ∙ ap (λ (t : Bool). cond t (get_or listed i nobody).address zero-address) (sym bit)
+            ∙ ap (λ (t : Bool). cond t (get_or listed i nobody).address zero_address) (sym bit)
             ∙ ap (shown contenders listed) (sym here)
         go false s = let other = eqb-false j i s in w.1 j (omega arith)
 
@@ -82,7 +82,7 @@ abbrev decreases-loop : tie.decreases-loop
 decreases-loop contenders listed addresses₀ i₀ addresses i = 64 - i
 
 loop-holds : tie.Need-loop-init invariant-loop decreases-loop
-loop-holds c = (omega arith, (refl, (λ j h. absurd (omega arith)), λ j h l. get_or-replicate 64 j zero-address zero-address l))
+loop-holds c = (omega arith, (refl, (λ j h. absurd (omega arith)), λ j h l. get_or-replicate 64 j zero_address zero_address l))
 
 test-requires : tie.Need-test-requires invariant-loop decreases-loop
 test-requires c κs = search rules
@@ -133,11 +133,11 @@ returns : tie.Need-returns invariant-loop decreases-loop
 returns c =
     let at = c.before in
     let start = at.before in
-    row-ext 64 (shown start.args.contenders start.args.t2) at.loop.addresses zero-address at.loop.invariant.1.0
+    row_ext 64 (shown start.args.contenders start.args.t2) at.loop.addresses zero_address at.loop.invariant.1.0
     (λ i h. at.loop.invariant.1.1 i (omega arith))
 
-pub contending-spec : {M : Type 1} → statement M
-contending-spec =
+pub contending_spec : {M : Type 1} → statement M
+contending_spec =
     tie.close
     (tie.spec
     invariant-loop

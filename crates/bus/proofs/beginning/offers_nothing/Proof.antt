@@ -11,7 +11,7 @@ sits-out-requires : tie.Need-sits-out-requires
 sits-out-requires c κs = search rules
 
 returns-2 : tie.Need-returns-2
-returns-2 c = rw (ne_eqb _ _ c.before.if1.false) c.sits-out.ensures
+returns-2 c = rw (ne_eqb _ _ c.before.if1.false) c.sits_out.ensures
 
-pub offers-nothing-spec : {M : Type 1} → statement M
-offers-nothing-spec = tie.close (tie.spec returns sits-out-requires returns-2)
+pub offers_nothing_spec : {M : Type 1} → statement M
+offers_nothing_spec = tie.close (tie.spec returns sits-out-requires returns-2)

@@ -10,17 +10,17 @@ use lib.Seq.{paste, length-take-le}
 use borrow.Author.Tests.{eqb-false}
 use Rattle.rules.proofs.Laws.{or-false}
 use Rattle.bus.specs.Types.{Segment}
-use Rattle.bus.specs.Parts.{segmentCounting}
-use Rattle.state.specs.State.{Recorded, nobody, places_at, queueAt}
-use Rattle.state.proofs.Contenders.{none-recorded}
-use Rattle.state.proofs.Places.{queues-arrays, places_count, taken-one, taken-all}
-use Rattle.bus.proofs.BeginningLaws.{nothing-offered, placeFor, placesTo, places-none, places-more, places_same, offered-contends}
+use Rattle.bus.specs.Parts.{segment_counting}
+use Rattle.state.specs.State.{Recorded, nobody, places_at, queue_at}
+use Rattle.state.proofs.Contenders.{none_recorded}
+use Rattle.state.proofs.Places.{queues_arrays, places_count, taken-one, taken-all}
+use Rattle.bus.proofs.BeginningLaws.{nothing-offered, place_for, places_to, places_none, places_more, places_same, offered-contends}
 use Rattle.bus.proofs.beginning.offers_of.Statement.{statement}
 use Rattle.bus.proofs.beginning.offers_of.Tie as tie
 
 -- the segment with these contenders
-abbrev offeringWith : Segment → Recorded → Segment
-offeringWith g r = segmentCounting g g.admitted g.lost g.contention r
+abbrev offering_with : Segment → Recorded → Segment
+offering_with g r = segment_counting g g.admitted g.lost g.contention r
 
 abbrev invariant-loop2 : tie.invariant-loop2
 invariant-loop2 g queues settings listed round n next i l length places₀ first j₀ places j =
@@ -31,13 +31,13 @@ decreases-loop2 g queues settings listed round n next i l length places₀ first
 
 abbrev invariant-loop : tie.invariant-loop
 invariant-loop g queues settings listed round n next₀ i₀ next i =
-    (i ≤ n) × (next ≡ offeringWith g (placesTo (placeFor g queues) i))
+    (i ≤ n) × (next ≡ offering_with g (places_to (place_for g queues) i))
 
 abbrev decreases-loop : tie.decreases-loop
 decreases-loop g queues settings listed round n next₀ i₀ next i = n - i
 
 loop-holds : tie.Need-loop-init invariant-loop2 decreases-loop2 invariant-loop decreases-loop
-loop-holds c = let start = c.before.before.before in (omega arith, ap (offeringWith start.args.g) (none-recorded ∙ places-none (placeFor start.args.g start.args.t2)))
+loop-holds c = let start = c.before.before.before in (omega arith, ap (offering_with start.args.g) (none_recorded ∙ places_none (place_for start.args.g start.args.t2)))
 
 mul-l : tie.Need-overflow-mul-l invariant-loop2 decreases-loop2 invariant-loop decreases-loop
 mul-l c = search rules
@@ -67,7 +67,7 @@ loop-again c =
     let g = start.args.g in
     let qs = start.args.t2 in
     let still = nothing-offered g qs at.loop.i (sym c.before.offers-nothing.ensures ∙ c.if1.true) in
-    (omega arith, at.loop.invariant.1 ∙ ap (offeringWith g) (places_same (placeFor g qs) at.loop.i still))
+    (omega arith, at.loop.invariant.1 ∙ ap (offering_with g) (places_same (place_for g qs) at.loop.i still))
 
 mul-first : tie.Need-overflow-mul-first invariant-loop2 decreases-loop2 invariant-loop decreases-loop
 mul-first c = search rules
@@ -102,7 +102,7 @@ loop2-again c =
     let at = turn.before.before.before.before.before.before in
     let start = at.before.before.before.before in
     let qs = start.args.t2 in
-    let row = (queues-arrays qs _ start.well-formed.1.0).1 in
+    let row = (queues_arrays qs _ start.well-formed.1.0).1 in
     (search rules, taken-one qs at.loop.i turn.loop2.j (omega arith) row (omega arith) turn.loop2.invariant.1)
 
 contender-for-requires : tie.Need-contender-for-requires invariant-loop2 decreases-loop2 invariant-loop decreases-loop
@@ -163,24 +163,24 @@ loop-again-2 c =
     let qs = start.args.t2 in
     let i = at.loop.i in
     let here : i < 64 = omega (arith, start.requires.0) in
-    let row = (queues-arrays qs _ start.well-formed.1.0).1 in
+    let row = (queues_arrays qs _ start.well-formed.1.0).1 in
     let all = taken-all qs i inner.loop2.j (omega arith) row (omega arith) inner.loop2.invariant.1 in
     let none = eqb (get_or qs.lengths i 0) 0 in
     let told = or-false none _ (sym tested.before.offers-nothing.ensures ∙ tested.if1.false) in
     let waits = eqb-false (get_or qs.lengths i 0) 0 told.0 in
     let held = length-take-le (get_or qs.lengths i 0) (places_at qs i) (omega (arith, places_count qs i here row, start.requires.1.0 i (omega arith))) in
-    let contends = offered-contends g.settings g.clock g.round (get_or g.listed i nobody) (queueAt qs i) (λ e. waits (sym held ∙ e)) told.1 in
-    (omega arith, rw (c.set.ensures, at.loop.invariant.1, c.before.before.before.contender-for.ensures, all) (ap (offeringWith g) (places-more (placeFor g qs) i here contends)))
+    let contends = offered-contends g.settings g.clock g.round (get_or g.listed i nobody) (queue_at qs i) (λ e. waits (sym held ∙ e)) told.1 in
+    (omega arith, rw (c.set.ensures, at.loop.invariant.1, c.before.before.before.contender-for.ensures, all) (ap (offering_with g) (places_more (place_for g qs) i here contends)))
 
 returns : tie.Need-returns invariant-loop2 decreases-loop2 invariant-loop decreases-loop
 returns c =
     let start = c.before.before.before.before.before in
     let turn = c.before.loop in
     let all : turn.i ≡ start.args.g.settings.n = omega arith in
-    turn.invariant.1 ∙ ap (λ k. offeringWith start.args.g (placesTo (placeFor start.args.g start.args.t2) k)) all
+    turn.invariant.1 ∙ ap (λ k. offering_with start.args.g (places_to (place_for start.args.g start.args.t2) k)) all
 
-pub offers-of-spec : {M : Type 1} → statement M
-offers-of-spec =
+pub offers_of_spec : {M : Type 1} → statement M
+offers_of_spec =
     tie.close
     (tie.spec
     invariant-loop2

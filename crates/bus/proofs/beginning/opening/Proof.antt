@@ -9,5 +9,5 @@ first-window-requires c κs = search rules
 returns : tie.Need-returns
 returns c = rw c.first-window.ensures
 
-pub opening-spec : {M : Type 1} → statement M
-opening-spec = tie.close (tie.spec first-window-requires returns)
+pub opening_spec : {M : Type 1} → statement M
+opening_spec = tie.close (tie.spec first-window-requires returns)

@@ -9,5 +9,5 @@ contending-requires c κs = search rules
 returns : tie.Need-returns
 returns c = cc c.before.before.contending.ensures
 
-pub shown-spec : {M : Type 1} → statement M
-shown-spec = tie.close (tie.spec contending-requires returns)
+pub shown_spec : {M : Type 1} → statement M
+shown_spec = tie.close (tie.spec contending-requires returns)

@@ -11,16 +11,16 @@ use lib.ListN.{get_or}
 use borrow.Author.Rules.{rules}
 use Rattle.bus.specs.Types.{Address, Listed}
 use Rattle.state.specs.State.{nobody}
-use Rattle.bus.specs.Parts.{firstPlace}
-use Rattle.bus.proofs.FirstPlace.{first-place-turn, first-place-end}
+use Rattle.bus.specs.Parts.{first_place}
+use Rattle.bus.proofs.FirstPlace.{first-place-turn, first_place_end}
 use Rattle.bus.proofs.joining.station_of.Statement.{statement}
 use Rattle.bus.proofs.joining.station_of.Tie as tie
 
-abbrev has-it : Address → List Listed → ℕ → Bool
-has-it address listed j = eqb address.0 (get_or listed j nobody).address.0
+abbrev has_it : Address → List Listed → ℕ → Bool
+has_it address listed j = eqb address.0 (get_or listed j nobody).address.0
 
 abbrev invariant-loop : tie.invariant-loop
-invariant-loop n address listed i₀ i = (i ≤ n) × (firstPlace (has-it address listed) 0 n ≡ firstPlace (has-it address listed) i (n - i))
+invariant-loop n address listed i₀ i = (i ≤ n) × (first_place (has_it address listed) 0 n ≡ first_place (has_it address listed) i (n - i))
 
 abbrev decreases-loop : tie.decreases-loop
 decreases-loop n address listed i₀ i = n - i
@@ -28,7 +28,7 @@ decreases-loop n address listed i₀ i = n - i
 loop-holds : tie.Need-loop-init invariant-loop decreases-loop
 loop-holds c =
     let e : c.args.n ≡ c.args.n - 0 = omega arith in
-    (search rules, ap (firstPlace (has-it c.args.address c.args.t1) 0) e)
+    (search rules, ap (first_place (has_it c.args.address c.args.t1) 0) e)
 
 mul-s : tie.Need-overflow-mul-s invariant-loop decreases-loop
 mul-s c = search rules
@@ -45,11 +45,11 @@ returns c =
     let start = at.before in
     let i = at.loop.i in
     let n = start.args.n in
-    let test = has-it start.args.address start.args.t1 in
+    let test = has_it start.args.address start.args.t1 in
     sym
     (at.loop.invariant.1
     ∙ first-place-turn test i n (omega arith)
-    ∙ ap (λ t. cond t i (firstPlace test (suc i) (n - suc i))) (sym c.before.same_address.ensures ∙ c.if1.true))
+    ∙ ap (λ t. cond t i (first_place test (suc i) (n - suc i))) (sym c.before.same_address.ensures ∙ c.if1.true))
 
 add-i : tie.Need-overflow-add-i invariant-loop decreases-loop
 add-i c = search rules
@@ -63,12 +63,12 @@ loop-again c =
     let start = at.before in
     let i = at.loop.i in
     let n = start.args.n in
-    let test = has-it start.args.address start.args.t1 in (
+    let test = has_it start.args.address start.args.t1 in (
       search rules,
       at.loop.invariant.1
           ∙ first-place-turn test i n (omega arith)
-          ∙ ap (λ t. cond t i (firstPlace test (suc i) (n - suc i))) (sym c.before.same_address.ensures ∙ c.if1.false)
-          ∙ ap (λ k. firstPlace test k (n - k)) (sym (add-one i)),
+          ∙ ap (λ t. cond t i (first_place test (suc i) (n - suc i))) (sym c.before.same_address.ensures ∙ c.if1.false)
+          ∙ ap (λ k. first_place test k (n - k)) (sym (add-one i)),
     )
 
 returns-2 : tie.Need-returns-2 invariant-loop decreases-loop
@@ -78,10 +78,10 @@ returns-2 c =
     let i = at.loop.i in
     let n = start.args.n in
     let e : n ≡ i = omega arith in
-    e ∙ sym (at.loop.invariant.1 ∙ first-place-end (has-it start.args.address start.args.t1) i n (omega arith))
+    e ∙ sym (at.loop.invariant.1 ∙ first_place_end (has_it start.args.address start.args.t1) i n (omega arith))
 
-pub station-of-spec : {M : Type 1} → statement M
-station-of-spec =
+pub station_of_spec : {M : Type 1} → statement M
+station_of_spec =
     tie.close
     (tie.spec
     invariant-loop

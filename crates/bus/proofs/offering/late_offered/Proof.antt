@@ -12,5 +12,5 @@ late-requires c κs = search rules
 returns-2 : tie.Need-returns-2
 returns-2 c = rw (c.before.if1.false, c.late.ensures)
 
-pub late-offered-spec : {M : Type 1} → statement M
-late-offered-spec = tie.close (tie.spec returns late-requires returns-2)
+pub late_offered_spec : {M : Type 1} → statement M
+late_offered_spec = tie.close (tie.spec returns late-requires returns-2)

@@ -23,5 +23,5 @@ returns-2 : tie.Need-returns-2
 returns-2 c =
     rw (← c.before.before.slots-until.ensures) (sym (min-eq_left (omega arith)))
 
-pub laxity-spec : {M : Type 1} → statement M
-laxity-spec = tie.close (tie.spec sub-most slots-until-requires div-steps returns returns-2)
+pub laxity_spec : {M : Type 1} → statement M
+laxity_spec = tie.close (tie.spec sub-most slots-until-requires div-steps returns returns-2)

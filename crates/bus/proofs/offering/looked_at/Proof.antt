@@ -15,5 +15,5 @@ returns-2 c =
     let args = c.before.args in
     sym (ap (λ t. cond t args.length 1) (le-ltb args.discipline 2 c.if1.false))
 
-pub looked-at-spec : {M : Type 1} → statement M
-looked-at-spec = tie.close (tie.spec returns returns-2)
+pub looked_at_spec : {M : Type 1} → statement M
+looked_at_spec = tie.close (tie.spec returns returns-2)

@@ -2,7 +2,7 @@
 use mathlib.Core.Path.{◌∙◌}
 use native.Mathlib.Omega.{arith}
 use borrow.Author.Rules.{rules}
-use Rattle.sorts.proofs.DisciplineCases.{is-rtdg, is-rtvc}
+use Rattle.sorts.proofs.DisciplineCases.{is_rtdg, is_rtvc}
 use Rattle.bus.proofs.offering.parameter.Statement.{statement}
 use Rattle.bus.proofs.offering.parameter.Tie as tie
 
@@ -19,16 +19,16 @@ wide-requires-2 : tie.Need-wide-requires-2
 wide-requires-2 c κs = search rules
 
 returns-2 : tie.Need-returns-2
-returns-2 c = rw (is-rtdg c.before.before.if2.true) (c.wide2.ensures ∙ c.before.laxity.ensures)
+returns-2 c = rw (is_rtdg c.before.before.if2.true) (c.wide2.ensures ∙ c.before.laxity.ensures)
 
 capability-number-requires : tie.Need-capability-number-requires
 capability-number-requires c κs = search rules
 
 returns-3 : tie.Need-returns-3
-returns-3 c = rw (is-rtvc c.before.before.before.args.settings.discipline (omega arith)) c.capability-number.ensures
+returns-3 c = rw (is_rtvc c.before.before.before.args.settings.discipline (omega arith)) c.capability-number.ensures
 
-pub parameter-spec : {M : Type 1} → statement M
-parameter-spec =
+pub parameter_spec : {M : Type 1} → statement M
+parameter_spec =
     tie.close
     (tie.spec
     wide-requires

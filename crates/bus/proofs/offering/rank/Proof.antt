@@ -21,5 +21,5 @@ returns c =
     let fits : p.number < 2 ^ 32 = omega arith in
     ap (λ (n : ℕ). bit_or n p.number) (mod-eq_of_lt room) ∙ or_shifted p.value 32 p.number fits
 
-pub rank-spec : {M : Type 1} → statement M
-rank-spec = tie.close (tie.spec cast-result cast-result-2 returns)
+pub rank_spec : {M : Type 1} → statement M
+rank_spec = tie.close (tie.spec cast-result cast-result-2 returns)

@@ -17,5 +17,5 @@ returns-3 c =
     let args = c.before.before.before.before.before.before.before.before.args in
     simp (le-ltb args.p.value args.o.value (omega arith), eq-eqb args.p.value args.o.value (omega arith))
 
-pub smaller-spec : {M : Type 1} → statement M
-smaller-spec = tie.close (tie.spec returns returns-2 returns-3)
+pub smaller_spec : {M : Type 1} → statement M
+smaller_spec = tie.close (tie.spec returns returns-2 returns-3)

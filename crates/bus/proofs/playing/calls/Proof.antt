@@ -10,33 +10,33 @@ use lib.Dec.{eqb, ltb}
 use borrow.Author.Rules.{rules}
 use borrow.Author.Tests.{eq-eqb, ne_eqb}
 use lib.ListN.{length, get_or, set}
-use Rattle.word.specs.Word.{count_of, lowestOf}
+use Rattle.word.specs.Word.{count_of, lowest_of}
 use Rattle.rules.specs.Lists.{keep}
-use Rattle.rules.specs.Bus.{last-slot, late}
-use Rattle.rules.specs.Begin.{dropsOf, sits-out}
+use Rattle.rules.specs.Bus.{last_slot, late}
+use Rattle.rules.specs.Begin.{drops_of, sits_out}
 use Rattle.rules.specs.Probe.{success}
 use Rattle.rules.proofs.Laws.{or-false}
-use Rattle.rules.proofs.Standing.{set-up-stands}
+use Rattle.rules.proofs.Standing.{set_up_stands}
 use Rattle.bus.specs.Types.{Packet, Settings, Contention, Segment, Queues, State, Arrival, Slot}
-use Rattle.state.specs.State.{Recorded, recordedIn, nobody, noPacket, meaning, queueAt, last_of, waitingIn}
-use Rattle.bus.specs.Coded.{Answer, Admission, Stepped, admissionResult, stepResult, codedAdmit, codedStep, stateTurned}
-use Rattle.bus.specs.Stretch.{in_row, mayBeMore, Arrivals, Report, noArrival, asks, due, arrivalReport, stepReport}
-use Rattle.bus.specs.Parts.{openingOf, transmittersOf, transmittersIn, addressesOf, movedBy, begunWith, segmentCounting, segmentWith, stays, Sent, queueForm, progressOf, Sole, sole_of, heardIn}
+use Rattle.state.specs.State.{Recorded, recorded_in, nobody, no_packet, meaning, queue_at, last_of, waiting_in}
+use Rattle.bus.specs.Coded.{Answer, Admission, Stepped, admission_result, step_result, coded_admit, coded_step, state_turned}
+use Rattle.bus.specs.Stretch.{in_row, may_be_more, Arrivals, Report, no_arrival, asks, due, arrival_report, step_report}
+use Rattle.bus.specs.Parts.{opening_of, transmitters_of, transmitters_in, addresses_of, moved_by, begun_with, segment_counting, segment_with, stays, Sent, queue_form, progress_of, Sole, sole_of, heard_in}
 use Rattle.state.proofs.Contenders.{zeroed}
-use Rattle.state.proofs.Places.{queues-arrays}
+use Rattle.state.proofs.Places.{queues_arrays}
 use Rattle.state.proofs.Tested.{denied, granted}
-use Rattle.state.proofs.Stands.{Lent, lent, few-packets}
-use Rattle.state.proofs.StandingParts.{state-held}
-use Rattle.bus.proofs.ClosingUp.{ClosedUp, closed_none, closed-leaves, closed-stays, closed_all}
-use Rattle.bus.proofs.Admitting.{joinedAt}
-use Rattle.bus.proofs.BeginningLaws.{all-formed, room-left, late-counted, lost-counted}
-use Rattle.bus.proofs.OffersInPlace.{offeringTo, InTimeTo, Best, offering-none, in-time-none, none-leaves, offering-same, in-time-same, offering-more, in-time-offered, best-first, best-better, best-stays, best-offered, looked-some}
-use Rattle.bus.proofs.HeardLaws.{sole-short, sole-counted, lowest-there, counted!, sole-taken, sole-left}
-use Rattle.bus.proofs.Stretched.{on, at_last, arrivals-array, row-few, row-full}
-use Rattle.bus.proofs.InPlace.{whole, Sound, sound-of, Taken, asked-away, asked_in, step-away, step-on, Opened, was-open, opened-as, begun-open, offered-open, still-on, ends-unheard, winner-in, ends-won, Going, at-outset, with-arrival, with-step}
+use Rattle.state.proofs.Stands.{Lent, lent, few_packets}
+use Rattle.state.proofs.StandingParts.{state_held}
+use Rattle.bus.proofs.ClosingUp.{ClosedUp, closed_none, closed_leaves, closed-stays, closed_all}
+use Rattle.bus.proofs.Admitting.{joined_at}
+use Rattle.bus.proofs.BeginningLaws.{all_formed, room_left, late-counted, lost_counted}
+use Rattle.bus.proofs.OffersInPlace.{offering_to, InTimeTo, Best, offering_none, in_time_none, none_leaves, offering_same, in_time_same, offering-more, in-time-offered, best_first, best_better, best_stays, best_offered, looked_some}
+use Rattle.bus.proofs.HeardLaws.{sole_short, sole_counted, lowest_there, counted!, sole_taken, sole_left}
+use Rattle.bus.proofs.Stretched.{on, at_last, arrivals_array, row_few, row_full}
+use Rattle.bus.proofs.InPlace.{whole, Sound, sound_of, Taken, asked-away, asked_in, step-away, step-on, Opened, was_open, opened-as, begun-open, offered-open, still_on, ends-unheard, winner_in, ends-won, Going, at_outset, with-arrival, with-step}
 use Rattle.bus.proofs.playing.calls.Statement.{statement}
 use Rattle.bus.proofs.playing.calls.Tie as tie
-use Rattle.bus.proofs.QueueLaws.{withQueue}
+use Rattle.bus.proofs.QueueLaws.{with_queue}
 
 -- the search for the offer of a station
 abbrev invariant-loop3 : tie.invariant-loop3
@@ -50,7 +50,7 @@ decreases-loop3 stands steps arrivals g queues addresses reports made taken left
 -- the offers of the stations before i are recorded, and unless one is late all their packets are in time
 abbrev invariant-loop2 : tie.invariant-loop2
 invariant-loop2 stands steps arrivals g₀ queues addresses reports made taken left settings clock refusal drops n round late₀ i₀ g late i =
-    (i ≤ n) × (g ≡ offeringTo (whole g₀ queues) i) × (late ≡ false → InTimeTo (whole g₀ queues) i)
+    (i ≤ n) × (g ≡ offering_to (whole g₀ queues) i) × (late ≡ false → InTimeTo (whole g₀ queues) i)
 
 abbrev decreases-loop2 : tie.decreases-loop2
 decreases-loop2 stands steps arrivals g₀ queues addresses reports made taken left settings clock refusal drops n round late₀ i₀ g late i = n - i
@@ -89,7 +89,7 @@ module _ (t : tie.Then1 invariant-loop3 decreases-loop3 invariant-loop2 decrease
   x = start.args.t3
 
   abbrev a : Arrival
-  a = get_or x.row at-loop.loop.taken noArrival
+  a = get_or x.row at-loop.loop.taken no_arrival
 
   sound! : Sound start.args.stands s
   sound! = at-loop.loop.inv.0.sound
@@ -100,26 +100,26 @@ module _ (t : tie.Then1 invariant-loop3 decreases-loop3 invariant-loop2 decrease
   -- a call is made
   by-arrival :
       (ltb at-loop.loop.taken x.length && due s.segment.clock.0 a) ≡ true → (admission : Admission)
-      → admission ≡ admissionResult (codedAdmit s (asks a)) → (r : Report) → r ≡ arrivalReport s a admission.answer
+      → admission ≡ admission_result (coded_admit s (asks a)) → (r : Report) → r ≡ arrival_report s a admission.answer
       → Going start.args.stands start.args.s x start.args.steps admission.state.segment admission.state.queues
       (set at-loop.loop.reports at-loop.loop.made r)
       (at-loop.loop.made + 1)
       (at-loop.loop.taken + 1)
       at-loop.loop.left
   by-arrival =
-      with-arrival start.args.stands x (arrivals-array x _ start.good.1.1.0) start.args.s start.args.steps at-loop.loop.g
+      with-arrival start.args.stands x (arrivals_array x _ start.good.1.1.0) start.args.s start.args.steps at-loop.loop.g
       at-loop.loop.queues at-loop.loop.reports at-loop.loop.made at-loop.loop.taken at-loop.loop.left at-loop.loop.inv.0 turned.0 turned.1 turned.2
 
-  by-step :
-      (ltb at-loop.loop.taken x.length && due s.segment.clock.0 a) ≡ false → (o : Stepped) → o ≡ stepResult (codedStep s)
-      → (r : Report) → r ≡ stepReport s o.answer
+  by_step :
+      (ltb at-loop.loop.taken x.length && due s.segment.clock.0 a) ≡ false → (o : Stepped) → o ≡ step_result (coded_step s)
+      → (r : Report) → r ≡ step_report s o.answer
       → Going start.args.stands start.args.s x start.args.steps o.state.segment o.state.queues
       (set at-loop.loop.reports at-loop.loop.made r)
       (at-loop.loop.made + 1)
       at-loop.loop.taken
       (at-loop.loop.left - 1)
-  by-step =
-      with-step start.args.stands x (arrivals-array x _ start.good.1.1.0) start.args.s start.args.steps at-loop.loop.g
+  by_step =
+      with-step start.args.stands x (arrivals_array x _ start.good.1.1.0) start.args.s start.args.steps at-loop.loop.g
       at-loop.loop.queues at-loop.loop.reports at-loop.loop.made at-loop.loop.taken at-loop.loop.left at-loop.loop.inv.0 turned.0 turned.1 turned.2
 
 addresses-of-requires : tie.Need-addresses-of-requires invariant-loop3 decreases-loop3 invariant-loop2 decreases-loop2 invariant-loop4 decreases-loop4 invariant-loop decreases-loop
@@ -129,8 +129,8 @@ loop-holds : tie.Need-loop-init invariant-loop3 decreases-loop3 invariant-loop2 
 loop-holds c =
     let start = c.before.before.before.before in
     let s = start.args.s in (
-      at-outset start.args.stands s start.args.t3 start.args.steps
-          (sound-of s start.args.stands (state-held s _ start.well-formed.0) (lent s _ start.well-formed.0) start.requires),
+      at_outset start.args.stands s start.args.t3 start.args.steps
+          (sound_of s start.args.stands (state_held s _ start.well-formed.0) (lent s _ start.well-formed.0) start.requires),
       refl,
     )
 
@@ -172,8 +172,8 @@ module _ (c : tie.After-asked invariant-loop3 decreases-loop3 invariant-loop2 de
   abbrev the-turn : tie.Then1 invariant-loop3 decreases-loop3 invariant-loop2 decreases-loop2 invariant-loop4 decreases-loop4 invariant-loop decreases-loop
   the-turn = c.before.before.before.before.before.before.before.before
 
-  came-due : (ltb (at-loop the-turn).loop.taken (x the-turn).length && due (s the-turn).segment.clock.0 (a the-turn)) ≡ true
-  came-due = sym c.before.before.before.before.is-due.ensures ∙ c.before.before.before.if2.true
+  came_due : (ltb (at-loop the-turn).loop.taken (x the-turn).length && due (s the-turn).segment.clock.0 (a the-turn)) ≡ true
+  came_due = sym c.before.before.before.before.is-due.ensures ∙ c.before.before.before.if2.true
 
 turned-after-requires : tie.Need-turned-after-requires invariant-loop3 decreases-loop3 invariant-loop2 decreases-loop2 invariant-loop4 decreases-loop4 invariant-loop decreases-loop
 turned-after-requires c κs = search rules
@@ -185,7 +185,7 @@ loop-again : tie.Need-loop-preserved invariant-loop3 decreases-loop3 invariant-l
 loop-again c =
     let told = c.before.before.before.before.before in
     let t = the-turn told in (
-      by-arrival t (came-due told) (record { answer = told.asked.result.answer; state = stateTurned (s t) c.turned-after.result })
+      by-arrival t (came_due told) (record { answer = told.asked.result.answer; state = state_turned (s t) c.turned-after.result })
           (asked-away (s t) (a t).address (a t).value (a t).length (start t).args.stands (sound! t) told.asked.result told.asked.ensures c.before.if3.true
           c.turned-after.result
           c.turned-after.ensures)
@@ -205,31 +205,31 @@ module _ (c : tie.Else3 invariant-loop3 decreases-loop3 invariant-loop2 decrease
       asked_in (s t) (a t).address (a t).value (a t).length (start t).args.stands (sound! t) asking.asked.result asking.asked.ensures c.if3.false
 
 mul-length : tie.Need-overflow-mul-length invariant-loop3 decreases-loop3 invariant-loop2 decreases-loop2 invariant-loop4 decreases-loop4 invariant-loop decreases-loop
-mul-length c = let h = (taken! c).in-row in search rules
+mul-length c = let h = (taken! c).within_row in search rules
 
 array-read-length : tie.Need-array-read-length invariant-loop3 decreases-loop3 invariant-loop2 decreases-loop2 invariant-loop4 decreases-loop4 invariant-loop decreases-loop
-array-read-length c = (taken! c).in-row
+array-read-length c = (taken! c).within_row
 
 mul_at : tie.Need-overflow-mul-at invariant-loop3 decreases-loop3 invariant-loop2 decreases-loop2 invariant-loop4 decreases-loop4 invariant-loop decreases-loop
-mul_at c = let h = (taken! c).in-row in search rules
+mul_at c = let h = (taken! c).within_row in search rules
 
 add_at : tie.Need-overflow-add-at invariant-loop3 decreases-loop3 invariant-loop2 decreases-loop2 invariant-loop4 decreases-loop4 invariant-loop decreases-loop
-add_at c = let h = (taken! c).in-row in let k = (taken! c).room in search rules
+add_at c = let h = (taken! c).within_row in let k = (taken! c).room in search rules
 
 mul-packet : tie.Need-overflow-mul-packet invariant-loop3 decreases-loop3 invariant-loop2 decreases-loop2 invariant-loop4 decreases-loop4 invariant-loop decreases-loop
-mul-packet c = let h = (taken! c).in-row in let k = (taken! c).room in search rules
+mul-packet c = let h = (taken! c).within_row in let k = (taken! c).room in search rules
 
 element-set-from-packet : tie.Need-element-set-from-packet invariant-loop3 decreases-loop3 invariant-loop2 decreases-loop2 invariant-loop4 decreases-loop4 invariant-loop decreases-loop
-element-set-from-packet c = let h = (taken! c).in-row in let k = (taken! c).room in search rules
+element-set-from-packet c = let h = (taken! c).within_row in let k = (taken! c).room in search rules
 
 add-queues : tie.Need-overflow-add-queues invariant-loop3 decreases-loop3 invariant-loop2 decreases-loop2 invariant-loop4 decreases-loop4 invariant-loop decreases-loop
-add-queues c = let h = (taken! c).in-row in let k = (taken! c).room in search rules
+add-queues c = let h = (taken! c).within_row in let k = (taken! c).room in search rules
 
 mul-queues : tie.Need-overflow-mul-queues invariant-loop3 decreases-loop3 invariant-loop2 decreases-loop2 invariant-loop4 decreases-loop4 invariant-loop decreases-loop
-mul-queues c = let h = (taken! c).in-row in search rules
+mul-queues c = let h = (taken! c).within_row in search rules
 
 element-write-queues : tie.Need-element-write-queues invariant-loop3 decreases-loop3 invariant-loop2 decreases-loop2 invariant-loop4 decreases-loop4 invariant-loop decreases-loop
-element-write-queues c = (taken! c).in-row
+element-write-queues c = (taken! c).within_row
 
 cast-g : tie.Need-overflow-cast-g invariant-loop3 decreases-loop3 invariant-loop2 decreases-loop2 invariant-loop4 decreases-loop4 invariant-loop decreases-loop
 cast-g c = search rules
@@ -242,7 +242,7 @@ loop-again-2 c =
     let told = c.before.before.before.before.before in
     let t = the-turn told in
     let o = told.asked.result in (
-      by-arrival t (came-due told) (record { answer = o.answer; state = joinedAt (s t) o.place o.answer.number (a t).value (a t).length }) (taken! c.before).is
+      by-arrival t (came_due told) (record { answer = o.answer; state = joined_at (s t) o.place o.answer.number (a t).value (a t).length }) (taken! c.before).is
           c.before.before.before.of-arrival.result
           c.before.before.before.of-arrival.ensures,
       (at-loop t).loop.inv.1,
@@ -278,11 +278,11 @@ loop-again-3 : tie.Need-loop-preserved-3 invariant-loop3 decreases-loop3 invaria
 loop-again-3 c =
     let tested = c.before.before.before in
     let t = c.before.before.before.before.before.before.before.before.before in (
-      by-step t (sym tested.before.before.is-due.ensures ∙ tested.before.if2.false) (record { answer = c.before.refused.result; state = s t })
+      by_step t (sym tested.before.before.is-due.ensures ∙ tested.before.if2.false) (record { answer = c.before.refused.result; state = s t })
           (ap (λ (answer : Answer). record { answer = answer; state = s t }) c.before.refused.ensures
           ∙ step-away (start t).args.stands (s t) (sound! t) tested.step-refusal.result tested.step-refusal.ensures c.before.before.if4.true)
-          c.of-step.result
-          c.of-step.ensures,
+          c.of_step.result
+          c.of_step.ensures,
       (at-loop t).loop.invariant.1,
     )
 
@@ -294,7 +294,7 @@ module _ (c : tie.Else4 invariant-loop3 decreases-loop3 invariant-loop2 decrease
   abbrev found : State
   found = s its-turn
 
-  ready : (Lent found) × (ltb last-slot found.segment.clock.0 ≡ false)
+  ready : (Lent found) × (ltb last_slot found.segment.clock.0 ≡ false)
   ready = step-on (start its-turn).args.stands found (sound! its-turn) c.before.step-refusal.result c.before.step-refusal.ensures c.if4.false
 
 -- ---- a contention begins: each station's offer is recorded
@@ -303,7 +303,7 @@ loop2-holds : tie.Need-loop2-init invariant-loop3 decreases-loop3 invariant-loop
 loop2-holds c =
     let on = c.before.before.before.before in
     let between = denied refl c.before.if5.true in
-    (omega arith, offering-none (found on) (ready on).0 between, λ e. in-time-none (found on) (ready on).0)
+    (omega arith, offering_none (found on) (ready on).0 between, λ e. in_time_none (found on) (ready on).0)
 
 mul-l : tie.Need-overflow-mul-l invariant-loop3 decreases-loop3 invariant-loop2 decreases-loop2 invariant-loop4 decreases-loop4 invariant-loop decreases-loop
 mul-l c = let h = (ready c.before.before.before.before.before.before).0.few in search rules
@@ -347,13 +347,13 @@ module _ (c : tie.After-offers-nothing invariant-loop3 decreases-loop3 invariant
   told! :
       c.offers-nothing.result
       ≡ (eqb (get_or st.queues.lengths i 0) 0
-      || sits-out (meaning st).discipline (last_of st.segment.round) (get_or st.segment.listed i nobody).capability.0)
+      || sits_out (meaning st).discipline (last_of st.segment.round) (get_or st.segment.listed i nobody).capability.0)
   told! =
       c.offers-nothing.ensures
       ∙ ap
       (λ (g : Segment).
       eqb (get_or st.queues.lengths i 0) 0
-      || sits-out (meaning st).discipline (last_of st.segment.round) (get_or g.listed i nobody).capability.0)
+      || sits_out (meaning st).discipline (last_of st.segment.round) (get_or g.listed i nobody).capability.0)
       stations.loop2.inv.1
 
 loop2-again : tie.Need-loop2-preserved invariant-loop3 decreases-loop3 invariant-loop2 decreases-loop2 invariant-loop4 decreases-loop4 invariant-loop decreases-loop
@@ -362,8 +362,8 @@ loop2-again c =
     let r = (ready (going_on told)).0 in
     let nothing = sym (told! told) ∙ c.if6.true in (
       omega (arith, here! told),
-      (stations told).loop2.invariant.1 ∙ offering-same (st told) r (i told) (here! told) nothing,
-      λ e. in-time-same (st told) r (i told) (here! told) nothing ((stations told).loop2.invariant.2 e),
+      (stations told).loop2.invariant.1 ∙ offering_same (st told) r (i told) (here! told) nothing,
+      λ e. in_time_same (st told) r (i told) (here! told) nothing ((stations told).loop2.invariant.2 e),
     )
 
 -- the station offers a packet
@@ -373,30 +373,30 @@ module _ (c : tie.Else6 invariant-loop3 decreases-loop3 invariant-loop2 decrease
 
   offers! :
       (eqb (get_or (st asked_of).queues.lengths (i asked_of) 0) 0
-      || sits-out (meaning (st asked_of)).discipline (last_of (st asked_of).segment.round) (get_or (st asked_of).segment.listed (i asked_of) nobody).capability.0)
+      || sits_out (meaning (st asked_of)).discipline (last_of (st asked_of).segment.round) (get_or (st asked_of).segment.listed (i asked_of) nobody).capability.0)
       ≡ false
   offers! = sym (told! asked_of) ∙ c.if6.false
 
-  lent-now : Lent (st asked_of)
-  lent-now = (ready (going_on asked_of)).0
+  lent_now : Lent (st asked_of)
+  lent_now = (ready (going_on asked_of)).0
 
-  in-row! : i asked_of < 64
-  in-row! = omega (arith, here! asked_of, lent-now.few)
+  within_row! : i asked_of < 64
+  within_row! = omega (arith, here! asked_of, lent_now.few)
 
   room! : get_or (st asked_of).queues.lengths (i asked_of) 0 ≤ 16
-  room! = few-packets (st asked_of) lent-now (i asked_of) in-row!
+  room! = few_packets (st asked_of) lent_now (i asked_of) within_row!
 
 mul-first : tie.Need-overflow-mul-first invariant-loop3 decreases-loop3 invariant-loop2 decreases-loop2 invariant-loop4 decreases-loop4 invariant-loop decreases-loop
-mul-first c = let h = in-row! c in search rules
+mul-first c = let h = within_row! c in search rules
 
 looked-at-requires : tie.Need-looked-at-requires invariant-loop3 decreases-loop3 invariant-loop2 decreases-loop2 invariant-loop4 decreases-loop4 invariant-loop decreases-loop
 looked-at-requires c κs = search rules
 
 mul-rank : tie.Need-overflow-mul-rank invariant-loop3 decreases-loop3 invariant-loop2 decreases-loop2 invariant-loop4 decreases-loop4 invariant-loop decreases-loop
-mul-rank c = let h = in-row! c.before in search rules
+mul-rank c = let h = within_row! c.before in search rules
 
 element-copy-out-rank : tie.Need-element-copy-out-rank invariant-loop3 decreases-loop3 invariant-loop2 decreases-loop2 invariant-loop4 decreases-loop4 invariant-loop decreases-loop
-element-copy-out-rank c = let h = in-row! c.before in search rules
+element-copy-out-rank c = let h = within_row! c.before in search rules
 
 rank-requires : tie.Need-rank-requires invariant-loop3 decreases-loop3 invariant-loop2 decreases-loop2 invariant-loop4 decreases-loop4 invariant-loop decreases-loop
 rank-requires c κs = search rules
@@ -405,7 +405,7 @@ loop3-holds : tie.Need-loop3-init invariant-loop3 decreases-loop3 invariant-loop
 loop3-holds c =
     let on = c.before.before.before in
     let told = asked_of on in
-    best-first (st told) (lent-now on) (i told) (here! told) (offers! on) c.before.before.looked-at.result c.before.before.looked-at.ensures c.rank.ensures
+    best_first (st told) (lent_now on) (i told) (here! told) (offers! on) c.before.before.looked-at.result c.before.before.looked-at.ensures c.rank.ensures
 
 -- no more packets are looked at than there are
 looked-few :
@@ -414,12 +414,12 @@ looked-few :
 looked-few c =
     let on = c.before in
     let told = asked_of on in
-    (looked-some (st told) (lent-now on) (i told) (here! told) (offers! on) c.looked-at.result c.looked-at.ensures).1
+    (looked_some (st told) (lent_now on) (i told) (here! told) (offers! on) c.looked-at.result c.looked-at.ensures).1
 
 add-at-2 : tie.Need-overflow-add-at-2 invariant-loop3 decreases-loop3 invariant-loop2 decreases-loop2 invariant-loop4 decreases-loop4 invariant-loop decreases-loop
 add-at-2 c =
     let on = c.before.before.before.before.before in
-    let h = in-row! on in
+    let h = within_row! on in
     let m = room! on in
     let k = looked-few c.before.before.before.before in
     search rules
@@ -427,7 +427,7 @@ add-at-2 c =
 mul-rank-2 : tie.Need-overflow-mul-rank-2 invariant-loop3 decreases-loop3 invariant-loop2 decreases-loop2 invariant-loop4 decreases-loop4 invariant-loop decreases-loop
 mul-rank-2 c =
     let on = c.before.before.before.before.before in
-    let h = in-row! on in
+    let h = within_row! on in
     let m = room! on in
     let k = looked-few c.before.before.before.before in
     search rules
@@ -435,7 +435,7 @@ mul-rank-2 c =
 element-copy-out-rank-2 : tie.Need-element-copy-out-rank-2 invariant-loop3 decreases-loop3 invariant-loop2 decreases-loop2 invariant-loop4 decreases-loop4 invariant-loop decreases-loop
 element-copy-out-rank-2 c =
     let on = c.before.before.before.before.before in
-    let h = in-row! on in
+    let h = within_row! on in
     let m = room! on in
     let k = looked-few c.before.before.before.before in
     search rules
@@ -446,7 +446,7 @@ rank-requires-2 c κs = search rules
 add-j : tie.Need-overflow-add-j invariant-loop3 decreases-loop3 invariant-loop2 decreases-loop2 invariant-loop4 decreases-loop4 invariant-loop decreases-loop
 add-j c =
     let on = c.before.before.before.before.before.before.before.before in
-    let h = in-row! on in
+    let h = within_row! on in
     let m = room! on in
     let k = looked-few c.before.before.before.before.before.before.before in
     search rules
@@ -467,17 +467,17 @@ loop3-again c =
     (λ w.
     subst (λ (k : ℕ). Best discipline (st told).queues (i told) la.result c.if7.place k (at.j + 1)) (sym w.2)
     (subst (λ (k : ℕ). Best discipline (st told).queues (i told) la.result k rank.result (at.j + 1)) (sym w.1)
-    (best-better (st told) (lent-now on) (i told) (here! told) (offers! on) la.result la.ensures at.place at.least at.j at.invariant more rank.ensures w.0.taken)))
+    (best_better (st told) (lent_now on) (i told) (here! told) (offers! on) la.result la.ensures at.place at.least at.j at.invariant more rank.ensures w.0.taken)))
     (λ w.
     subst (λ (k : ℕ). Best discipline (st told).queues (i told) la.result c.if7.place k (at.j + 1)) (sym w.2)
     (subst (λ (k : ℕ). Best discipline (st told).queues (i told) la.result k at.least (at.j + 1)) (sym w.1)
-    (best-stays (st told) (lent-now on) (i told) (here! told) (offers! on) la.result la.ensures at.place at.least at.j at.invariant more rank.ensures w.0.left)))
+    (best_stays (st told) (lent_now on) (i told) (here! told) (offers! on) la.result la.ensures at.place at.least at.j at.invariant more rank.ensures w.0.left)))
     c.if7.branch
 
 mul-packet-2 : tie.Need-overflow-mul-packet-2 invariant-loop3 decreases-loop3 invariant-loop2 decreases-loop2 invariant-loop4 decreases-loop4 invariant-loop decreases-loop
 mul-packet-2 c =
     let on = c.before.before.before.before.before in
-    let h = in-row! on in
+    let h = within_row! on in
     let m = room! on in
     let k = c.before.loop3.invariant.1 in
     search rules
@@ -485,7 +485,7 @@ mul-packet-2 c =
 element-copy-out-packet : tie.Need-element-copy-out-packet invariant-loop3 decreases-loop3 invariant-loop2 decreases-loop2 invariant-loop4 decreases-loop4 invariant-loop decreases-loop
 element-copy-out-packet c =
     let on = c.before.before.before.before.before in
-    let h = in-row! on in
+    let h = within_row! on in
     let m = room! on in
     let k = c.before.loop3.invariant.1 in
     search rules
@@ -499,41 +499,41 @@ set-requires c κs = search rules
 parameter-requires : tie.Need-parameter-requires invariant-loop3 decreases-loop3 invariant-loop2 decreases-loop2 invariant-loop4 decreases-loop4 invariant-loop decreases-loop
 parameter-requires c κs =
     let on = c.before.before.before.before.before.before.before.before.before in
-    let spaces = set-up-stands (meaning (st (asked_of on))) (lent-now on).stands in
-    (spaces.q-least, omega (arith, spaces.D-least))
+    let spaces = set_up_stands (meaning (st (asked_of on))) (lent_now on).stands in
+    (spaces.q_least, omega (arith, spaces.d_least))
 
 mul-g : tie.Need-overflow-mul-g invariant-loop3 decreases-loop3 invariant-loop2 decreases-loop2 invariant-loop4 decreases-loop4 invariant-loop decreases-loop
-mul-g c = let h = in-row! c.before.before.before.before.before.before.before.before.before.before in search rules
+mul-g c = let h = within_row! c.before.before.before.before.before.before.before.before.before.before in search rules
 
 element-write-g : tie.Need-element-write-g invariant-loop3 decreases-loop3 invariant-loop2 decreases-loop2 invariant-loop4 decreases-loop4 invariant-loop decreases-loop
-element-write-g c = let h = in-row! c.before.before.before.before.before.before.before.before.before.before in search rules
+element-write-g c = let h = within_row! c.before.before.before.before.before.before.before.before.before.before in search rules
 
 mul-g-2 : tie.Need-overflow-mul-g-2 invariant-loop3 decreases-loop3 invariant-loop2 decreases-loop2 invariant-loop4 decreases-loop4 invariant-loop decreases-loop
-mul-g-2 c = let h = in-row! c.before.before.before.before.before.before.before.before.before.before in search rules
+mul-g-2 c = let h = within_row! c.before.before.before.before.before.before.before.before.before.before in search rules
 
 element-write-g-2 : tie.Need-element-write-g-2 invariant-loop3 decreases-loop3 invariant-loop2 decreases-loop2 invariant-loop4 decreases-loop4 invariant-loop decreases-loop
-element-write-g-2 c = let h = in-row! c.before.before.before.before.before.before.before.before.before.before in search rules
+element-write-g-2 c = let h = within_row! c.before.before.before.before.before.before.before.before.before.before in search rules
 
 mul-g-3 : tie.Need-overflow-mul-g-3 invariant-loop3 decreases-loop3 invariant-loop2 decreases-loop2 invariant-loop4 decreases-loop4 invariant-loop decreases-loop
-mul-g-3 c = let h = in-row! c.before.before.before.before.before.before.before.before.before.before in search rules
+mul-g-3 c = let h = within_row! c.before.before.before.before.before.before.before.before.before.before in search rules
 
 element-write-g-3 : tie.Need-element-write-g-3 invariant-loop3 decreases-loop3 invariant-loop2 decreases-loop2 invariant-loop4 decreases-loop4 invariant-loop decreases-loop
-element-write-g-3 c = let h = in-row! c.before.before.before.before.before.before.before.before.before.before in search rules
+element-write-g-3 c = let h = within_row! c.before.before.before.before.before.before.before.before.before.before in search rules
 
 mul-g-4 : tie.Need-overflow-mul-g-4 invariant-loop3 decreases-loop3 invariant-loop2 decreases-loop2 invariant-loop4 decreases-loop4 invariant-loop decreases-loop
-mul-g-4 c = let h = in-row! c.before.before.before.before.before.before.before.before.before.before in search rules
+mul-g-4 c = let h = within_row! c.before.before.before.before.before.before.before.before.before.before in search rules
 
 element-write-g-4 : tie.Need-element-write-g-4 invariant-loop3 decreases-loop3 invariant-loop2 decreases-loop2 invariant-loop4 decreases-loop4 invariant-loop decreases-loop
-element-write-g-4 c = let h = in-row! c.before.before.before.before.before.before.before.before.before.before in search rules
+element-write-g-4 c = let h = within_row! c.before.before.before.before.before.before.before.before.before.before in search rules
 
 mul-admission : tie.Need-overflow-mul-admission invariant-loop3 decreases-loop3 invariant-loop2 decreases-loop2 invariant-loop4 decreases-loop4 invariant-loop decreases-loop
-mul-admission c = let h = in-row! c.before.before.before.before.before.before.before.before.before.before in search rules
+mul-admission c = let h = within_row! c.before.before.before.before.before.before.before.before.before.before in search rules
 
 element-set-from-admission : tie.Need-element-set-from-admission invariant-loop3 decreases-loop3 invariant-loop2 decreases-loop2 invariant-loop4 decreases-loop4 invariant-loop decreases-loop
-element-set-from-admission c = let h = in-row! c.before.before.before.before.before.before.before.before.before.before in search rules
+element-set-from-admission c = let h = within_row! c.before.before.before.before.before.before.before.before.before.before in search rules
 
 add-i-2 : tie.Need-overflow-add-i-2 invariant-loop3 decreases-loop3 invariant-loop2 decreases-loop2 invariant-loop4 decreases-loop4 invariant-loop decreases-loop
-add-i-2 c = let h = in-row! c.before.before.before.before.before.before.before.before.before.before in search rules
+add-i-2 c = let h = within_row! c.before.before.before.before.before.before.before.before.before.before in search rules
 
 loop2-less-2 : tie.Need-loop2-smaller-2 invariant-loop3 decreases-loop3 invariant-loop2 decreases-loop2 invariant-loop4 decreases-loop4 invariant-loop decreases-loop
 loop2-less-2 c = search rules
@@ -542,14 +542,14 @@ loop2-again-2 : tie.Need-loop2-preserved-2 invariant-loop3 decreases-loop3 invar
 loop2-again-2 c =
     let on = c.before.before.before.before.before.before.before.before.before.before in
     let told = asked_of on in
-    let r = lent-now on in
+    let r = lent_now on in
     let s = st told in
     let k = i told in
     let at = c.before.before.before.before.before.before.loop3 in
     let la = c.before.before.before.before.before.before.before.before.before.looked-at in
-    let p = get_or s.queues.packets at.place noPacket in
+    let p = get_or s.queues.packets at.place no_packet in
     let done = c.before.before.before.before.before.loop3-test.false in
-    let offered = best-offered s r k (here! told) (offers! on) la.result la.ensures at.place at.least at.j at.invariant (omega arith) in
+    let offered = best_offered s r k (here! told) (offers! on) la.result la.ensures at.place at.least at.j at.invariant (omega arith) in
     let flag = c.before.before.late-offered.ensures in (
       omega (arith, here! told),
       rw (c.before.set.ensures, c.parameter.ensures, (stations told).loop2.inv.1)
@@ -565,7 +565,7 @@ without-requires : tie.Need-without-requires invariant-loop3 decreases-loop3 inv
 without-requires c κs =
     let on = c.before.before.before.before.before.before.before.before in
     let r = (ready on).0 in
-    (r.few, (all-formed (found on) r, few-packets (found on) r))
+    (r.few, (all_formed (found on) r, few_packets (found on) r))
 
 module _ (c : tie.After-without invariant-loop3 decreases-loop3 invariant-loop2 decreases-loop2 invariant-loop4 decreases-loop4 invariant-loop decreases-loop) where
   abbrev began : tie.Else4 invariant-loop3 decreases-loop3 invariant-loop2 decreases-loop2 invariant-loop4 decreases-loop4 invariant-loop decreases-loop
@@ -573,9 +573,9 @@ module _ (c : tie.After-without invariant-loop3 decreases-loop3 invariant-loop2 
 
   -- those waiting before are those waiting after and those dropped
   fewer :
-      waitingIn (found began).queues.lengths (found began).segment.settings.n
-      ≡ waitingIn c.without.result.lengths (found began).segment.settings.n + dropsOf (meaning (found began))
-  fewer = late-counted (found began) (ready began).0 c.without.result c.without.ensures (queues-arrays c.without.result _ c.without.type-inv).0
+      waiting_in (found began).queues.lengths (found began).segment.settings.n
+      ≡ waiting_in c.without.result.lengths (found began).segment.settings.n + drops_of (meaning (found began))
+  fewer = late-counted (found began) (ready began).0 c.without.result c.without.ensures (queues_arrays c.without.result _ c.without.type-inv).0
 
 dropped-requires : tie.Need-dropped-requires invariant-loop3 decreases-loop3 invariant-loop2 decreases-loop2 invariant-loop4 decreases-loop4 invariant-loop decreases-loop
 dropped-requires c κs = omega (arith, fewer c.before)
@@ -586,14 +586,14 @@ begun-requires c κs =
     let on = began past in
     let r = (ready on).0 in
     let g! = c.before.before.before.before.before.before.loop2.invariant.1 in
-    let spaces = set-up-stands (meaning (found on)) r.stands in
-    let count = lost-counted (found on) r in
+    let spaces = set_up_stands (meaning (found on)) r.stands in
+    let count = lost_counted (found on) r in
     let n = fewer past in
     rw g! (
       r.few,
       (
-        room-left (found on) r past.without.result past.without.ensures,
-        (spaces.q-least, (omega (arith, spaces.D-least), omega (arith, c.dropped.ensures))),
+        room_left (found on) r past.without.result past.without.ensures,
+        (spaces.q_least, (omega (arith, spaces.d_least), omega (arith, c.dropped.ensures))),
       ),
     )
 
@@ -605,35 +605,35 @@ module _ (c : tie.Joined5 invariant-loop3 decreases-loop3 invariant-loop2 decrea
   abbrev ongoing : tie.Else4 invariant-loop3 decreases-loop3 invariant-loop2 decreases-loop2 invariant-loop4 decreases-loop4 invariant-loop decreases-loop
   ongoing = c.before.before.before
 
-  now-opened : Opened (found ongoing) c.if5.g c.if5.queues c.if5.drops
-  now-opened =
+  now_opened : Opened (found ongoing) c.if5.g c.if5.queues c.if5.drops
+  now_opened =
       let s = found ongoing in
       let r = (ready ongoing).0 in
       ⊎_elim
       (λ w.
-      let n = queues-arrays w.6.result _ w.6.ok in
+      let n = queues_arrays w.6.result _ w.6.ok in
       let counted = late-counted s r w.6.result w.6.ensures n.0 in
-      let drops! : w.8.result ≡ dropsOf (meaning s) = omega (arith, w.8.ensures) in
+      let drops! : w.8.result ≡ drops_of (meaning s) = omega (arith, w.8.ensures) in
       opened-as w.10 w.11 w.12
       (begun-open s r (denied refl w.0.taken) w.6.result w.6.ensures n.0 n.1 w.8.result drops! w.9.result
-      (w.9.ensures ∙ ap (λ (g : Segment). begunWith g w.6.result w.8.result) w.2.inv.1)))
+      (w.9.ensures ∙ ap (λ (g : Segment). begun_with g w.6.result w.8.result) w.2.inv.1)))
       (λ v.
       ⊎_elim
       (λ w.
       let all : w.2.i ≡ s.segment.settings.n = omega (arith, w.2.inv.0, w.3.left) in
-      let in-time = subst (InTimeTo s) all (w.2.inv.2 w.4.left) in
-      let g! = w.2.inv.1 ∙ ap (offeringTo s) all in
+      let on_time = subst (InTimeTo s) all (w.2.inv.2 w.4.left) in
+      let g! = w.2.inv.1 ∙ ap (offering_to s) all in
       opened-as w.6 w.7 w.8
-      (offered-open s r (denied refl w.0.taken) (none-leaves s r in-time) _
-      (ap₂ (λ (k : Contention) (g : Segment). segmentCounting g g.admitted g.lost k (recordedIn g)) w.5.ensures g!
-      ∙ ap (λ (m : ℕ). segmentCounting s.segment s.segment.admitted m (openingOf s.segment.settings.d) (recordedIn (offeringTo s s.segment.settings.n))) (sym (add-zero s.segment.lost)))))
-      (λ w. opened-as w.1 w.2 w.3 (was-open s r (granted refl w.0.left)))
+      (offered-open s r (denied refl w.0.taken) (none_leaves s r on_time) _
+      (ap₂ (λ (k : Contention) (g : Segment). segment_counting g g.admitted g.lost k (recorded_in g)) w.5.ensures g!
+      ∙ ap (λ (m : ℕ). segment_counting s.segment s.segment.admitted m (opening_of s.segment.settings.d) (recorded_in (offering_to s s.segment.settings.n))) (sym (add-zero s.segment.lost)))))
+      (λ w. opened-as w.1 w.2 w.3 (was_open s r (granted refl w.0.left)))
       v)
       c.if5.branch
 
   -- the stations are listed as at the outset
-  listed-still : c.if5.g.listed ≡ (start (its-turn ongoing)).args.s.segment.listed
-  listed-still = now-opened.listed ∙ (at-loop (its-turn ongoing)).loop.inv.1
+  listed_still : c.if5.g.listed ≡ (start (its-turn ongoing)).args.s.segment.listed
+  listed_still = now_opened.listed ∙ (at-loop (its-turn ongoing)).loop.inv.1
 
 -- ---- who transmits
 
@@ -654,24 +654,24 @@ module _ (c : tie.After-count invariant-loop3 decreases-loop3 invariant-loop2 de
   abbrev here : State
   here = whole probing joined.if5.queues
 
-  addresses! : (its-turn (ongoing joined)).before.before.before.addresses-of.result ≡ addressesOf probing.listed
+  addresses! : (its-turn (ongoing joined)).before.before.before.addresses-of.result ≡ addresses_of probing.listed
   addresses! =
-      (its-turn (ongoing joined)).before.before.before.addresses-of.ensures ∙ ap addressesOf (sym (listed-still joined))
+      (its-turn (ongoing joined)).before.before.before.addresses-of.ensures ∙ ap addresses_of (sym (listed_still joined))
 
-  word! : c.before.transmitters.result ≡ transmittersIn probing
+  word! : c.before.transmitters.result ≡ transmitters_in probing
   word! =
       c.before.transmitters.ensures
       ∙ ap₂
       (λ (k : Slot) (addresses : List ℕ).
-      transmittersOf (found (ongoing joined)).segment.settings.discipline k probing.contention probing.contenders probing.parameters probing.values addresses)
-      (sym (now-opened joined).clock)
+      transmitters_of (found (ongoing joined)).segment.settings.discipline k probing.contention probing.contenders probing.parameters probing.values addresses)
+      (sym (now_opened joined).clock)
       addresses!
       ∙ ap
       (λ (g : Settings).
-      transmittersOf g.discipline probing.clock probing.contention probing.contenders probing.parameters probing.values (addressesOf probing.listed))
-      (sym (now-opened joined).settings)
+      transmitters_of g.discipline probing.clock probing.contention probing.contenders probing.parameters probing.values (addresses_of probing.listed))
+      (sym (now_opened joined).settings)
 
-  count! : c.count.result ≡ count_of (transmittersIn probing)
+  count! : c.count.result ≡ count_of (transmitters_in probing)
   count! = counted! probing c.before.transmitters.result c.count.result word! c.count.ensures
 
 lowest-requires : tie.Need-lowest-requires invariant-loop3 decreases-loop3 invariant-loop2 decreases-loop2 invariant-loop4 decreases-loop4 invariant-loop decreases-loop
@@ -680,9 +680,9 @@ lowest-requires c κs = search rules
 in_rows : (c : tie.After-lowest invariant-loop3 decreases-loop3 invariant-loop2 decreases-loop2 invariant-loop4 decreases-loop4 invariant-loop decreases-loop) → c.lowest.result < 64
 in_rows c =
     let told = c.before.before in
-    let o = now-opened (joined told) in
-    let one : count_of (transmittersIn (probing told)) ≡ 1 = sym (count! told) ∙ c.before.if9.true in
-    omega (arith, c.lowest.ensures, ap lowestOf (word! told), lowest-there (here told) o.ready o.begun one)
+    let o = now_opened (joined told) in
+    let one : count_of (transmitters_in (probing told)) ≡ 1 = sym (count! told) ∙ c.before.if9.true in
+    omega (arith, c.lowest.ensures, ap lowest_of (word! told), lowest_there (here told) o.ready o.begun one)
 
 mul-listed : tie.Need-overflow-mul-listed invariant-loop3 decreases-loop3 invariant-loop2 decreases-loop2 invariant-loop4 decreases-loop4 invariant-loop decreases-loop
 mul-listed c = let h = in_rows c in search rules
@@ -719,7 +719,7 @@ module _ (c : tie.Joined9 invariant-loop3 decreases-loop3 invariant-loop2 decrea
   abbrev sole : Sole
   sole = record { place = c.if9.place; listed = c.if9.listed; packet = c.if9.packet }
 
-  sole! : sole ≡ sole_of (probing c.before) (heardIn (probing c.before))
+  sole! : sole ≡ sole_of (probing c.before) (heard_in (probing c.before))
   sole! =
       let told = c.before in
       let g = probing told in
@@ -727,20 +727,20 @@ module _ (c : tie.Joined9 invariant-loop3 decreases-loop3 invariant-loop2 decrea
       ⊎_elim
       (λ w.
       (λ i. record { place = w.7 i; listed = w.8 i; packet = w.9 i })
-      ∙ sole-taken g word told.count.result (word! told) told.count.ensures w.0.taken w.1.result w.1.ensures)
+      ∙ sole_taken g word told.count.result (word! told) told.count.ensures w.0.taken w.1.result w.1.ensures)
       (λ w.
       (λ i. record { place = w.1 i; listed = w.2 i; packet = w.3 i })
-      ∙ sole-left g word told.count.result (word! told) told.count.ensures w.0.left)
+      ∙ sole_left g word told.count.result (word! told) told.count.ensures w.0.left)
       c.if9.branch
 
 moved-requires : tie.Need-moved-requires invariant-loop3 decreases-loop3 invariant-loop2 decreases-loop2 invariant-loop4 decreases-loop4 invariant-loop decreases-loop
 moved-requires c κs =
     let told = c.before in
-    let o = now-opened (joined told) in (
-      omega (arith, ap (λ (k : Slot). k.0) o.clock, o.ready.stands.clock-in),
+    let o = now_opened (joined told) in (
+      omega (arith, ap (λ (k : Slot). k.0) o.clock, o.ready.stands.clock_in),
       (
-        omega (arith, ap (λ (x : Sole). x.packet.length) (sole! c), sole-short (here told) o.ready o.begun),
-        λ one. sole-counted (here told) o.ready o.begun (sym (count! told) ∙ one),
+        omega (arith, ap (λ (x : Sole). x.packet.length) (sole! c), sole_short (here told) o.ready o.begun),
+        λ one. sole_counted (here told) o.ready o.begun (sym (count! told) ∙ one),
       ),
     )
 
@@ -759,78 +759,78 @@ module _ (c : tie.After-moved invariant-loop3 decreases-loop3 invariant-loop2 de
   abbrev winner : Sole
   winner = sole c.before
 
-  not-due : (ltb (at-loop turn-of).loop.taken (x turn-of).length && due (s turn-of).segment.clock.0 (a turn-of)) ≡ false
-  not-due = sym (ongoing opening-now).before.before.before.is-due.ensures ∙ (ongoing opening-now).before.before.if2.left
+  not_due : (ltb (at-loop turn-of).loop.taken (x turn-of).length && due (s turn-of).segment.clock.0 (a turn-of)) ≡ false
+  not_due = sym (ongoing opening-now).before.before.before.is-due.ensures ∙ (ongoing opening-now).before.before.if2.left
 
-  in-time : ltb last-slot (s turn-of).segment.clock.0 ≡ false
-  in-time = (ready (ongoing opening-now)).1
+  on_time : ltb last_slot (s turn-of).segment.clock.0 ≡ false
+  on_time = (ready (ongoing opening-now)).1
 
   lent! : Lent (s turn-of)
   lent! = (ready (ongoing opening-now)).0
 
   moved! :
       c.moved.result
-      ≡ movedBy (probing counted).settings (progressOf (probing counted)) opening-now.if5.drops (count_of (transmittersIn (probing counted))) winner.listed winner.packet
+      ≡ moved_by (probing counted).settings (progress_of (probing counted)) opening-now.if5.drops (count_of (transmitters_in (probing counted))) winner.listed winner.packet
   moved! =
       c.moved.ensures
       ∙ ap₂
       (λ (k : Slot) (m : ℕ).
-      movedBy
+      moved_by
       (s turn-of).segment.settings
       (record { clock = k; sent = (probing counted).sent; round = (probing counted).round; contention = (probing counted).contention })
       opening-now.if5.drops
       m
       winner.listed
       winner.packet)
-      (sym (now-opened opening-now).clock)
+      (sym (now_opened opening-now).clock)
       (count! counted)
       ∙ ap
-      (λ (g : Settings). movedBy g (progressOf (probing counted)) opening-now.if5.drops (count_of (transmittersIn (probing counted))) winner.listed winner.packet)
-      (sym (now-opened opening-now).settings)
+      (λ (g : Settings). moved_by g (progress_of (probing counted)) opening-now.if5.drops (count_of (transmitters_in (probing counted))) winner.listed winner.packet)
+      (sym (now_opened opening-now).settings)
 
   -- what is said of the probe, whatever becomes of the contenders and the queues
-  abbrev probed-as : Recorded → Queues → Stepped
-  probed-as contenders queues =
+  abbrev probed_as : Recorded → Queues → Stepped
+  probed_as contenders queues =
       let p = c.moved.result.progress in
       record {
         answer = c.moved.result.answer;
-        state = whole (segmentWith (probing counted) p.clock.0 p.sent p.round p.contention contenders) queues;
+        state = whole (segment_with (probing counted) p.clock.0 p.sent p.round p.contention contenders) queues;
       }
 
   -- it is what the step of the rules makes of the state, and is reported with the clock before it
   reported :
-      (contenders : Recorded) (queues : Queues) → probed-as contenders queues ≡ stepResult (codedStep (s turn-of)) → (r : Report)
-      → r ≡ stepReport (s turn-of) c.moved.result.answer
-      → Going (start turn-of).args.stands (start turn-of).args.s (x turn-of) (start turn-of).args.steps (probed-as contenders queues).state.segment queues
+      (contenders : Recorded) (queues : Queues) → probed_as contenders queues ≡ step_result (coded_step (s turn-of)) → (r : Report)
+      → r ≡ step_report (s turn-of) c.moved.result.answer
+      → Going (start turn-of).args.stands (start turn-of).args.s (x turn-of) (start turn-of).args.steps (probed_as contenders queues).state.segment queues
       (set (at-loop turn-of).loop.reports (at-loop turn-of).loop.made r)
       ((at-loop turn-of).loop.made + 1)
       (at-loop turn-of).loop.taken
       ((at-loop turn-of).loop.left - 1)
       × ((probing counted).listed ≡ (start turn-of).args.s.segment.listed)
-  reported contenders queues e r f = (by-step turn-of not-due (probed-as contenders queues) e r f, listed-still opening-now)
+  reported contenders queues e r f = (by_step turn-of not_due (probed_as contenders queues) e r f, listed_still opening-now)
 
-  goes-on! : c.moved.result.answer.ended ≡ false → probed-as (recordedIn (probing counted)) opening-now.if5.queues ≡ stepResult (codedStep (s turn-of))
+  goes-on! : c.moved.result.answer.ended ≡ false → probed_as (recorded_in (probing counted)) opening-now.if5.queues ≡ step_result (coded_step (s turn-of))
   goes-on! =
-      still-on (s turn-of) lent! in-time (probing counted) opening-now.if5.queues opening-now.if5.drops (now-opened opening-now) winner (sole! c.before) c.moved.result moved!
+      still_on (s turn-of) lent! on_time (probing counted) opening-now.if5.queues opening-now.if5.drops (now_opened opening-now) winner (sole! c.before) c.moved.result moved!
 
   idle! :
       c.moved.result.answer.ended ≡ true → ¬ (c.moved.result.answer.event ≡ success)
-      → probed-as zeroed opening-now.if5.queues ≡ stepResult (codedStep (s turn-of))
+      → probed_as zeroed opening-now.if5.queues ≡ step_result (coded_step (s turn-of))
   idle! =
-      ends-unheard (s turn-of) lent! in-time (probing counted) opening-now.if5.queues opening-now.if5.drops (now-opened opening-now) winner (sole! c.before) c.moved.result moved!
+      ends-unheard (s turn-of) lent! on_time (probing counted) opening-now.if5.queues opening-now.if5.drops (now_opened opening-now) winner (sole! c.before) c.moved.result moved!
 
   won! :
       c.moved.result.answer.ended ≡ true → c.moved.result.answer.event ≡ success → (rest : Queues)
       → rest
-      ≡ withQueue opening-now.if5.queues winner.place
-      (queueForm (keep (stays (Sent c.moved.result.answer.number)) (queueAt opening-now.if5.queues winner.place)))
-      → probed-as zeroed rest ≡ stepResult (codedStep (s turn-of))
+      ≡ with_queue opening-now.if5.queues winner.place
+      (queue_form (keep (stays (Sent c.moved.result.answer.number)) (queue_at opening-now.if5.queues winner.place)))
+      → probed_as zeroed rest ≡ step_result (coded_step (s turn-of))
   won! =
-      ends-won (s turn-of) lent! in-time (probing counted) opening-now.if5.queues opening-now.if5.drops (now-opened opening-now) winner (sole! c.before) c.moved.result moved!
+      ends-won (s turn-of) lent! on_time (probing counted) opening-now.if5.queues opening-now.if5.drops (now_opened opening-now) winner (sole! c.before) c.moved.result moved!
 
   winner! : c.moved.result.answer.event ≡ success → winner.place < 64
   winner! =
-      winner-in (s turn-of) lent! in-time (probing counted) opening-now.if5.queues opening-now.if5.drops (now-opened opening-now) winner (sole! c.before) c.moved.result moved!
+      winner_in (s turn-of) lent! on_time (probing counted) opening-now.if5.queues opening-now.if5.drops (now_opened opening-now) winner (sole! c.before) c.moved.result moved!
 
 of-step-requires-2 : tie.Need-of-step-requires-2 invariant-loop3 decreases-loop3 invariant-loop2 decreases-loop2 invariant-loop4 decreases-loop4 invariant-loop decreases-loop
 of-step-requires-2 c κs = search rules
@@ -854,7 +854,7 @@ loop-again-4 : tie.Need-loop-preserved-4 invariant-loop3 decreases-loop3 invaria
 loop-again-4 c =
     let probed = c.before.before.before.before.before.before.before.before in
     let told = c.before.before.before.before.before.before.of-step2 in
-    reported probed (recordedIn (probing (counted probed))) (opening-now probed).if5.queues (goes-on! probed (denied refl c.if10.true)) told.result told.ensures
+    reported probed (recorded_in (probing (counted probed))) (opening-now probed).if5.queues (goes-on! probed (denied refl c.if10.true)) told.result told.ensures
 
 loop-less-5 : tie.Need-loop-smaller-5 invariant-loop3 decreases-loop3 invariant-loop2 decreases-loop2 invariant-loop4 decreases-loop4 invariant-loop decreases-loop
 loop-less-5 c = let h = (turned c.before.before.before.before.before.before.before.before.before.before.before.before.before.before.before.before.before.before.before.before.before.before.before.before.before.before.before.before.before.before).0 in search rules
@@ -882,13 +882,13 @@ module _ (c : tie.Else11 invariant-loop3 decreases-loop3 invariant-loop2 decreas
   f = stays (Sent probed.moved.result.answer.number)
 
   ready! : Lent (whole (probing (counted probed)) queues)
-  ready! = (now-opened (opening-now probed)).ready
+  ready! = (now_opened (opening-now probed)).ready
 
   place! : place < 64
   place! = winner! probed c.if11.false
 
   few! : get_or queues.lengths place 0 ≤ 16
-  few! = few-packets (whole (probing (counted probed)) queues) ready! place place!
+  few! = few_packets (whole (probing (counted probed)) queues) ready! place place!
 
 mul-length-3 : tie.Need-overflow-mul-length-3 invariant-loop3 decreases-loop3 invariant-loop2 decreases-loop2 invariant-loop4 decreases-loop4 invariant-loop decreases-loop
 mul-length-3 c = let h = place! c.before in search rules
@@ -905,8 +905,8 @@ loop4-holds c =
     (few! won, omega arith, omega arith, refl, closed_none (f won) (queues won).packets (16 * place won))
 
 -- the place of a packet in the row, and one packet more
-in-places : (place held j size : ℕ) → place < 64 → held ≤ 16 → j < held → size ≡ 1024 → 16 * place + j < size
-in-places place held j size a b c e = omega arith
+in_places : (place held j size : ℕ) → place < 64 → held ≤ 16 → j < held → size ≡ 1024 → 16 * place + j < size
+in_places place held j size a b c e = omega arith
 
 one_more : (held j filled next : ℕ) → j < held → filled ≤ j → next ≡ filled + 1 → (j + 1 ≤ held) × (next ≤ j + 1)
 one_more held j filled next a b e = (omega arith, omega arith)
@@ -954,10 +954,10 @@ loop4-again c =
     let more = c.before.before.before.before.loop4-test.true in
     let full = (ready! won).held.packets in
     let number = (probed won).moved.result.answer.number in
-    let p = get_or turn.queues.packets (16 * place won + turn.j) noPacket in
+    let p = get_or turn.queues.packets (16 * place won + turn.j) no_packet in
     let held = get_or (queues won).lengths (place won) 0 in
     let closed = turn.invariant.4 in
-    let within = in-places (place won) held turn.j (length (queues won).packets) (place! won) turn.invariant.0 more full in
+    let within = in_places (place won) held turn.j (length (queues won).packets) (place! won) turn.invariant.0 more full in
     ⊎_elim
     (λ w.
     let next = one_more held turn.j turn.filled c.if12.filled more turn.invariant.2 w.2 in (
@@ -975,7 +975,7 @@ loop4-again c =
       next.1,
       ap (λ (qs : Queues). qs.lengths) w.1 ∙ turn.invariant.3,
       rw (w.1, w.2)
-          (closed-leaves (f won) (queues won).packets (16 * place won) turn.j within turn.queues.packets turn.filled closed (ap not (eq-eqb number p.number w.0.left))),
+          (closed_leaves (f won) (queues won).packets (16 * place won) turn.j within turn.queues.packets turn.filled closed (ap not (eq-eqb number p.number w.0.left))),
     ))
     c.if12.branch
 
@@ -997,7 +997,7 @@ loop-again-6 c =
     let rest : Queues = record { lengths = set inner.queues.lengths i inner.filled; packets = inner.queues.packets } in
     let all : inner.j ≡ get_or (queues won).lengths i 0 = omega arith in
     let closed = subst (λ j. ClosedUp (f won) (queues won).packets (16 * i) j inner.queues.packets inner.filled) all inner.invariant.4 in
-    let form = all-formed (whole (probing (counted (probed won))) (queues won)) (ready! won) i (place! won) in
+    let form = all_formed (whole (probing (counted (probed won))) (queues won)) (ready! won) i (place! won) in
     let rest! = closed_all (f won) (queues won) rest i inner.filled (place! won) (ready! won).held.packets form closed (ap (λ (ls : List ℕ). set ls i inner.filled) inner.invariant.3) in
     reported (probed won) zeroed rest
     (won! (probed won) (granted refl won.before.before.if10.false) won.if11.false rest rest!)
@@ -1009,10 +1009,10 @@ returns c =
     let turn = c.before.before.loop in
     let start = c.before.before.before.before.before.before.before in
     let x = start.args.t3 in
-    let places = arrivals-array x _ start.well-formed.1.1.0 in
-    at_last start.args.s (in_row x) (mayBeMore x) start.args.steps (whole turn.g turn.queues) turn.reports turn.made turn.taken
+    let places = arrivals_array x _ start.well-formed.1.1.0 in
+    at_last start.args.s (in_row x) (may_be_more x) start.args.steps (whole turn.g turn.queues) turn.reports turn.made turn.taken
     turn.left
-    turn.invariant.0.so_far (row-few x places) (row-full x places turn.taken turn.invariant.0.here) (sym c.before.goes_on.ensures ∙ c.if1.false)
+    turn.invariant.0.so_far (row_few x places) (row_full x places turn.taken turn.invariant.0.here) (sym c.before.goes_on.ensures ∙ c.if1.false)
 
 pub calls_spec : {M : Type 1} → statement M
 calls_spec =

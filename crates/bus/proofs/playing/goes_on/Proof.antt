@@ -12,5 +12,5 @@ returns-2 c = rw (lt-ltb _ _ c.before.if1.false, le-ltb _ _ c.if2.true)
 returns-3 : tie.Need-returns-3
 returns-3 c = rw (lt-ltb _ _ c.before.if1.false, lt-ltb _ _ c.if2.false)
 
-pub goes-on-spec : {M : Type 1} → statement M
-goes-on-spec = tie.close (tie.spec returns returns-2 returns-3)
+pub goes_on_spec : {M : Type 1} → statement M
+goes_on_spec = tie.close (tie.spec returns returns-2 returns-3)

@@ -21,5 +21,5 @@ returns-2 c =
     ∙ not-before args.time.0 args.clock.0
     ∙ sym (ap (λ (t : Bool). t && leb args.time.0 args.clock.0) (lt-ltb _ _ c.before.if1.false))
 
-pub is-due-spec : {M : Type 1} → statement M
-is-due-spec = tie.close (tie.spec returns before-requires returns-2)
+pub is_due_spec : {M : Type 1} → statement M
+is_due_spec = tie.close (tie.spec returns before-requires returns-2)

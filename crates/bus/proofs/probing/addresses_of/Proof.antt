@@ -11,7 +11,7 @@ use lib.ListN.{length, get_or, set, length-set}
 use lib.Seq.{get_or-set_same, get_or-set_other}
 use Rattle.bus.specs.Types.{Listed}
 use Rattle.state.specs.State.{nobody}
-use Rattle.state.proofs.Rows.{row-ext}
+use Rattle.state.proofs.Rows.{row_ext}
 use Rattle.bus.proofs.probing.addresses_of.Statement.{statement}
 use Rattle.bus.proofs.probing.addresses_of.Tie as tie
 
@@ -75,11 +75,11 @@ returns : tie.Need-returns invariant-loop decreases-loop
 returns c =
     let at = c.before in
     let start = at.before in
-    row-ext 64 (λ i. (get_or start.args.t1 i nobody).address.0) at.loop.addresses 0 at.loop.invariant.0
+    row_ext 64 (λ i. (get_or start.args.t1 i nobody).address.0) at.loop.addresses 0 at.loop.invariant.0
     (λ i h. at.loop.invariant.2 i (omega arith))
 
-pub addresses-of-spec : {M : Type 1} → statement M
-addresses-of-spec =
+pub addresses_of_spec : {M : Type 1} → statement M
+addresses_of_spec =
     tie.close
     (tie.spec
     invariant-loop

@@ -8,5 +8,5 @@ returns c = simp c.if1.true
 returns-2 : tie.Need-returns-2
 returns-2 c = simp c.if1.false
 
-pub answer-to-spec : {M : Type 1} → statement M
-answer-to-spec = tie.close (tie.spec returns returns-2)
+pub answer_to_spec : {M : Type 1} → statement M
+answer_to_spec = tie.close (tie.spec returns returns-2)

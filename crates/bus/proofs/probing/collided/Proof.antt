@@ -15,5 +15,5 @@ unsent-requires c κs = search rules
 returns : tie.Need-returns
 returns c = cc
 
-pub collided-spec : {M : Type 1} → statement M
-collided-spec = tie.close (tie.spec split-requires went-on-requires unsent-requires returns)
+pub collided_spec : {M : Type 1} → statement M
+collided_spec = tie.close (tie.spec split-requires went-on-requires unsent-requires returns)

@@ -4,10 +4,10 @@ use mathlib.Core.Path.{◌≡◌, sym, ap, ◌∙◌}
 use mathlib.Core.Logic.{⊎_elim}
 use native.Mathlib.Omega.{arith}
 use borrow.Author.Rules.{rules}
-use Rattle.word.specs.Word.{count_of, lowestOf}
+use Rattle.word.specs.Word.{count_of, lowest_of}
 use Rattle.bus.specs.Types.{Segment}
-use Rattle.bus.specs.Parts.{transmittersOf, transmittersIn, movedBy, withMoved, progressOf, Sole, sole_of, heardIn, movedIn}
-use Rattle.bus.proofs.HeardLaws.{lowest-in, counted!, sole-taken, sole-left}
+use Rattle.bus.specs.Parts.{transmitters_of, transmitters_in, moved_by, with_moved, progress_of, Sole, sole_of, heard_in, moved_in}
+use Rattle.bus.proofs.HeardLaws.{lowest_in, counted!, sole_taken, sole_left}
 use Rattle.bus.proofs.probing.heard_in.Statement.{statement}
 use Rattle.bus.proofs.probing.heard_in.Tie as tie
 
@@ -30,14 +30,14 @@ module _ (c : tie.After-count) where
   abbrev g : Segment
   g = start.args.t1
 
-  word! : c.before.transmitters.result ≡ transmittersIn g
+  word! : c.before.transmitters.result ≡ transmitters_in g
   word! =
       c.before.transmitters.ensures
       ∙ ap
-      (transmittersOf g.settings.discipline g.clock g.contention g.contenders g.parameters g.values)
+      (transmitters_of g.settings.discipline g.clock g.contention g.contenders g.parameters g.values)
       c.before.before.before.before.before.before.addresses-of.ensures
 
-  count! : c.count.result ≡ count_of (transmittersIn g)
+  count! : c.count.result ≡ count_of (transmitters_in g)
   count! = counted! g c.before.transmitters.result c.count.result word! c.count.ensures
 
 lowest-requires : tie.Need-lowest-requires
@@ -46,8 +46,8 @@ lowest-requires c κs = search rules
 in_rows : (c : tie.After-lowest) → c.lowest.result < 64
 in_rows c =
     let told = c.before.before in
-    let one : count_of (transmittersIn (g told)) ≡ 1 = sym (count! told) ∙ c.before.if1.true in
-    omega (arith, c.lowest.ensures, ap lowestOf (word! told), lowest-in (transmittersIn (g told)) one)
+    let one : count_of (transmitters_in (g told)) ≡ 1 = sym (count! told) ∙ c.before.if1.true in
+    omega (arith, c.lowest.ensures, ap lowest_of (word! told), lowest_in (transmitters_in (g told)) one)
 
 mul-listed : tie.Need-overflow-mul-listed
 mul-listed c = let h = in_rows c in search rules
@@ -84,17 +84,17 @@ module _ (c : tie.Joined1) where
   abbrev sole : Sole
   sole = record { place = c.if1.place; listed = c.if1.listed; packet = c.if1.packet }
 
-  sole! : sole ≡ sole_of (g c.before) (heardIn (g c.before))
+  sole! : sole ≡ sole_of (g c.before) (heard_in (g c.before))
   sole! =
       let told = c.before in
       let word = told.before.transmitters.result in
       ⊎_elim
       (λ w.
       (λ i. record { place = w.7 i; listed = w.8 i; packet = w.9 i })
-      ∙ sole-taken (g told) word told.count.result (word! told) told.count.ensures w.0.taken w.1.result w.1.ensures)
+      ∙ sole_taken (g told) word told.count.result (word! told) told.count.ensures w.0.taken w.1.result w.1.ensures)
       (λ w.
       (λ i. record { place = w.1 i; listed = w.2 i; packet = w.3 i })
-      ∙ sole-left (g told) word told.count.result (word! told) told.count.ensures w.0.left)
+      ∙ sole_left (g told) word told.count.result (word! told) told.count.ensures w.0.left)
       c.if1.branch
 
 moved-requires : tie.Need-moved-requires
@@ -113,15 +113,15 @@ returns c =
     let told = joined.before in
     let g = g told in
     let drops = (start told).args.drops in
-    let m! : moved.moved.result ≡ movedIn g drops =
+    let m! : moved.moved.result ≡ moved_in g drops =
     moved.moved.ensures
-    ∙ ap (λ (k : ℕ). movedBy g.settings (progressOf g) drops k joined.if1.listed joined.if1.packet) (count! told)
-    ∙ ap (λ (x : Sole). movedBy g.settings (progressOf g) drops (count_of (transmittersIn g)) x.listed x.packet) (sole! joined) in
-    let segment! = c.with-moved.ensures ∙ ap (withMoved g) m! in
+    ∙ ap (λ (k : ℕ). moved_by g.settings (progress_of g) drops k joined.if1.listed joined.if1.packet) (count! told)
+    ∙ ap (λ (x : Sole). moved_by g.settings (progress_of g) drops (count_of (transmitters_in g)) x.listed x.packet) (sole! joined) in
+    let segment! = c.with-moved.ensures ∙ ap (with_moved g) m! in
     λ i. record { answer = (m! i).answer; place = (sole! joined i).place; segment = segment! i }
 
-pub heard-in-spec : {M : Type 1} → statement M
-heard-in-spec =
+pub heard_in_spec : {M : Type 1} → statement M
+heard_in_spec =
     tie.close
     (tie.spec
     addresses-of-requires

@@ -10,7 +10,7 @@ use lib.Dec.{ltb}
 use lib.ListN.{get_or}
 use Rattle.bus.specs.Types.{Slot}
 use Rattle.word.specs.Word.{word_of}
-use Rattle.bus.proofs.Transmitting.{word-start, word_set, word-left}
+use Rattle.bus.proofs.Transmitting.{word_start, word_set, word_left}
 use Rattle.bus.proofs.probing.in_time.Statement.{statement}
 use Rattle.bus.proofs.probing.in_time.Tie as tie
 
@@ -24,7 +24,7 @@ abbrev decreases-loop : tie.decreases-loop
 decreases-loop slot values found₀ i₀ found i = 64 - i
 
 loop-holds : tie.Need-loop-init invariant-loop decreases-loop
-loop-holds c = (omega arith, word-start (timely c.args.slot c.args.values.now))
+loop-holds c = (omega arith, word_start (timely c.args.slot c.args.values.now))
 
 mul-t6 : tie.Need-overflow-mul-t6 invariant-loop decreases-loop
 mul-t6 c = search rules
@@ -54,7 +54,7 @@ loop-again c =
       omega arith,
       ⊎_elim
           (λ w. word_set test turn.i turn.found c.if1.found (omega arith) turn.invariant.1 (told ∙ w.0.taken) (w.2 ∙ w.1.ensures))
-          (λ w. word-left test turn.i turn.found c.if1.found turn.invariant.1 (told ∙ w.0.left) w.1)
+          (λ w. word_left test turn.i turn.found c.if1.found turn.invariant.1 (told ∙ w.0.left) w.1)
           c.if1.branch,
     )
 
@@ -65,8 +65,8 @@ returns c =
     let end : at.loop.i ≡ 64 = omega arith in
     at.loop.invariant.1 ∙ ap (word_of (timely start.args.slot start.args.values.now)) end
 
-pub in-time-spec : {M : Type 1} → statement M
-in-time-spec =
+pub in_time_spec : {M : Type 1} → statement M
+in_time_spec =
     tie.close
     (tie.spec
     invariant-loop

@@ -7,15 +7,15 @@ use mathlib.Core.Logic.{⊎_elim}
 use native.Mathlib.Omega.{arith}
 use borrow.Author.Rules.{rules}
 use lib.ListN.{get_or}
-use Rattle.window.specs.Splitting.{inWindow}
+use Rattle.window.specs.Splitting.{in_window}
 use Rattle.window.specs.declared.Window.{Window}
 use Rattle.word.specs.Word.{word_of}
-use Rattle.bus.proofs.Transmitting.{word-start, word_set, word-left}
+use Rattle.bus.proofs.Transmitting.{word_start, word_set, word_left}
 use Rattle.bus.proofs.probing.lying_in.Statement.{statement}
 use Rattle.bus.proofs.probing.lying_in.Tie as tie
 
 abbrev lies : Window → List ℕ → ℕ → Bool
-lies w numbers i = inWindow w (get_or numbers i 0)
+lies w numbers i = in_window w (get_or numbers i 0)
 
 abbrev invariant-loop : tie.invariant-loop
 invariant-loop w row found₀ i₀ found i = (i ≤ 64) × (found ≡ word_of (lies w row) i)
@@ -24,7 +24,7 @@ abbrev decreases-loop : tie.decreases-loop
 decreases-loop w row found₀ i₀ found i = 64 - i
 
 loop-holds : tie.Need-loop-init invariant-loop decreases-loop
-loop-holds c = (omega arith, word-start (lies c.args.w c.args.row.now))
+loop-holds c = (omega arith, word_start (lies c.args.w c.args.row.now))
 
 mul-in-window : tie.Need-overflow-mul-in-window invariant-loop decreases-loop
 mul-in-window c = search rules
@@ -50,11 +50,11 @@ loop-again c =
     let start = at.before in
     let turn = at.loop in
     let test = lies start.args.w start.args.row.now in
-    let told = sym c.before.in_window.ensures in (
+    let told = sym c.before.in_window_bounds.ensures in (
       omega arith,
       ⊎_elim
           (λ w. word_set test turn.i turn.found c.if1.found (omega arith) turn.invariant.1 (told ∙ w.0.taken) (w.2 ∙ w.1.ensures))
-          (λ w. word-left test turn.i turn.found c.if1.found turn.invariant.1 (told ∙ w.0.left) w.1)
+          (λ w. word_left test turn.i turn.found c.if1.found turn.invariant.1 (told ∙ w.0.left) w.1)
           c.if1.branch,
     )
 
@@ -65,8 +65,8 @@ returns c =
     let end : at.loop.i ≡ 64 = omega arith in
     at.loop.invariant.1 ∙ ap (word_of (lies start.args.w start.args.row.now)) end
 
-pub lying-in-spec : {M : Type 1} → statement M
-lying-in-spec =
+pub lying_in_spec : {M : Type 1} → statement M
+lying_in_spec =
     tie.close
     (tie.spec
     invariant-loop

@@ -6,9 +6,9 @@ use native.Mathlib.Omega.{arith}
 use lib.Dec.{eqb}
 use borrow.Author.Rules.{rules}
 use borrow.Author.Tests.{eq-eqb, ne_eqb}
-use Rattle.rules.specs.SetUp.{disciplineOf}
+use Rattle.rules.specs.SetUp.{discipline_of}
 use Rattle.bus.specs.Types.{Settings, Listed, Packet}
-use Rattle.bus.specs.Parts.{Progress, unheardOn, wonOn, collidedOn, movedBy}
+use Rattle.bus.specs.Parts.{Progress, unheard_on, won_on, collided_on, moved_by}
 use Rattle.bus.proofs.probing.moved.Statement.{statement}
 use Rattle.bus.proofs.probing.moved.Tie as tie
 
@@ -17,16 +17,16 @@ by_tests :
     (g : Settings) (p : Progress) (drops count : ℕ) (l : Listed) (packet : Packet) {none one : Bool} → eqb count 0 ≡ none → eqb count 1 ≡ one
     → cond
     none
-    (unheardOn p drops p.contention.window.side)
-    (cond one (wonOn (disciplineOf g.discipline) p drops l packet) (collidedOn g.a p drops))
-    ≡ movedBy g p drops count l packet
+    (unheard_on p drops p.contention.window.side)
+    (cond one (won_on (discipline_of g.discipline) p drops l packet) (collided_on g.a p drops))
+    ≡ moved_by g p drops count l packet
 by_tests g p drops count l packet a b =
     sym
     (λ j.
     cond
     (a j)
-    (unheardOn p drops p.contention.window.side)
-    (cond (b j) (wonOn (disciplineOf g.discipline) p drops l packet) (collidedOn g.a p drops)))
+    (unheard_on p drops p.contention.window.side)
+    (cond (b j) (won_on (discipline_of g.discipline) p drops l packet) (collided_on g.a p drops)))
 
 unheard-requires : tie.Need-unheard-requires
 unheard-requires c κs = search rules
@@ -62,7 +62,7 @@ returns-3 c =
     ∙ by_tests args.settings args.progress args.drops args.count args.listed args.packet
     (ne_eqb args.count 0 one.if1.false) (ne_eqb args.count 1 c.before.if2.false)
 
-pub moved-spec : {M : Type 1} → statement M
-moved-spec =
+pub moved_spec : {M : Type 1} → statement M
+moved_spec =
     tie.close
     (tie.spec unheard-requires returns won-requires returns-2 collided-requires returns-3)

@@ -6,14 +6,14 @@ use native.Mathlib.Omega.{arith}
 use borrow.Author.Rules.{rules}
 use lib.Bits.{bit_and}
 use Rattle.word.specs.Word.{word_of}
-use Rattle.bus.proofs.Transmitting.{ableAt, none-transmit, able-timed, able-untimed, untied-transmit, tied-transmit}
+use Rattle.bus.proofs.Transmitting.{able_at, none_transmit, able_timed, able_untimed, untied-transmit, tied-transmit}
 use Rattle.bus.proofs.probing.transmitters.Statement.{statement}
 use Rattle.bus.proofs.probing.transmitters.Tie as tie
 
 returns : tie.Need-returns
 returns c =
     let args = c.before.args in
-    none-transmit args.discipline args.clock args.contenders args.values.now args.contention args.parameters.now
+    none_transmit args.discipline args.clock args.contenders args.values.now args.contention args.parameters.now
     args.addresses.now c.if1.true
 
 in-time-requires : tie.Need-in-time-requires
@@ -24,14 +24,14 @@ module _ (c : tie.Joined2) where
   abbrev start : tie.Start
   start = c.before.before
 
-  able! : c.if2.able ≡ word_of (ableAt start.args.discipline start.args.clock start.args.contenders start.args.values.now) 64
+  able! : c.if2.able ≡ word_of (able_at start.args.discipline start.args.clock start.args.contenders start.args.values.now) 64
   able! =
       let args = start.args in
       ⊎_elim
       (λ w.
       w.2 ∙ ap (bit_and args.contenders) w.1.ensures
-      ∙ able-timed args.discipline args.clock args.contenders args.values.now (omega arith) w.0.taken)
-      (λ w. w.1 ∙ able-untimed args.discipline args.clock args.contenders args.values.now (omega arith) w.0.left)
+      ∙ able_timed args.discipline args.clock args.contenders args.values.now (omega arith) w.0.taken)
+      (λ w. w.1 ∙ able_untimed args.discipline args.clock args.contenders args.values.now (omega arith) w.0.left)
       c.if2.branch
 
 lying-in-requires : tie.Need-lying-in-requires
@@ -57,8 +57,8 @@ returns-3 c =
     untied-transmit args.discipline args.clock args.contenders args.values.now args.contention args.parameters.now
     args.addresses.now untied.if3.false (able! untied.before.before) c.before.lying-in3.ensures
 
-pub transmitters-spec : {M : Type 1} → statement M
-transmitters-spec =
+pub transmitters_spec : {M : Type 1} → statement M
+transmitters_spec =
     tie.close
     (tie.spec
     returns

@@ -4,16 +4,16 @@ use mathlib.Core.Path.{◌≡◌, sym, ap, ◌∙◌}
 use mathlib.Core.Bool.{true}
 use borrow.Author.Rules.{rules}
 use Rattle.window.specs.declared.Side.{Side}
-use Rattle.state.specs.State.{noContention, noRound}
-use Rattle.bus.specs.Parts.{Progress, Moved, wentOn, unheardOn}
+use Rattle.state.specs.State.{no_contention, no_round}
+use Rattle.bus.specs.Parts.{Progress, Moved, went_on, unheard_on}
 use Rattle.bus.proofs.probing.unheard.Statement.{statement}
 use Rattle.bus.proofs.probing.unheard.Tie as tie
 
 -- what is moved, by the window's side
 by_side :
-    (p : Progress) (drops : ℕ) (m : Moved) {side : Side} → p.contention.window.side ≡ side → m ≡ unheardOn p drops side
-    → m ≡ unheardOn p drops p.contention.window.side
-by_side p drops m e is = is ∙ sym (ap (unheardOn p drops) e)
+    (p : Progress) (drops : ℕ) (m : Moved) {side : Side} → p.contention.window.side ≡ side → m ≡ unheard_on p drops side
+    → m ≡ unheard_on p drops p.contention.window.side
+by_side p drops m e is = is ∙ sym (ap (unheard_on p drops) e)
 
 enum_told : tie.Need-enum-told
 enum_told c = search rules
@@ -49,7 +49,7 @@ returns c =
       progress =
           (gone.went_on.ensures
           ∙ ap
-          (λ w. wentOn p (record { begun = true; window = w; tied = p.contention.tied; tie = p.contention.tie }))
+          (λ w. went_on p (record { begun = true; window = w; tied = p.contention.tied; tie = p.contention.tie }))
           gone.before.move-right.ensures)
           j;
     })
@@ -66,13 +66,13 @@ returns-2 c =
           record {
             clock = record { 0 = later.later.ensures j };
             sent = args.progress.sent;
-            round = noRound;
-            contention = noContention;
+            round = no_round;
+            contention = no_contention;
           };
     })
 
-pub unheard-spec : {M : Type 1} → statement M
-unheard-spec =
+pub unheard_spec : {M : Type 1} → statement M
+unheard_spec =
     tie.close
     (tie.spec
     enum_told

@@ -18,5 +18,5 @@ returns c =
       contention = args.c;
     }
 
-pub went-on-spec : {M : Type 1} → statement M
-went-on-spec = tie.close (tie.spec later-requires returns)
+pub went_on_spec : {M : Type 1} → statement M
+went_on_spec = tie.close (tie.spec later-requires returns)

@@ -4,8 +4,8 @@ use mathlib.Core.Path.{ap, ◌∙◌}
 use mathlib.Core.Bool.{true}
 use borrow.Author.Rules.{rules}
 use Rattle.rules.specs.Probe.{success}
-use Rattle.state.specs.State.{noContention}
-use Rattle.bus.specs.Parts.{answerAt}
+use Rattle.state.specs.State.{no_contention}
+use Rattle.bus.specs.Parts.{answer_at}
 use Rattle.bus.proofs.probing.won.Statement.{statement}
 use Rattle.bus.proofs.probing.won.Tie as tie
 
@@ -30,7 +30,7 @@ returns c =
     let slots = said.before in
     let round = slots.before in
     let args = round.before.before.args in
-    let wait = ap (λ (w : ℕ). answerAt args.progress args.drops success args.l.address args.packet.number args.packet.length w true) slots.slots-until.ensures in
+    let wait = ap (λ (w : ℕ). answer_at args.progress args.drops success args.l.address args.packet.number args.packet.length w true) slots.slots-until.ensures in
     λ j.
     record {
       answer = (said.answer-to.ensures ∙ wait) j;
@@ -39,10 +39,10 @@ returns c =
             clock = record { 0 = round.before.later.ensures j };
             sent = args.progress.sent + 1;
             round = round.round-after.ensures j;
-            contention = noContention;
+            contention = no_contention;
           };
     }
 
-pub won-spec : {M : Type 1} → statement M
-won-spec =
+pub won_spec : {M : Type 1} → statement M
+won_spec =
     tie.close (tie.spec later-requires round-after-requires slots-until-requires answer-to-requires add-t11 returns)

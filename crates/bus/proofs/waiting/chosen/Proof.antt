@@ -11,14 +11,14 @@ use borrow.Author.Rules.{rules}
 use lib.ListN.{get_or, take}
 use lib.Seq.{slice}
 use Rattle.rules.specs.Bus.{Discipline}
-use Rattle.rules.specs.SetUp.{disciplineOf}
+use Rattle.rules.specs.SetUp.{discipline_of}
 use Rattle.rules.specs.Begin.{chosen, choice}
 use Rattle.bus.specs.Types.{Packet}
-use Rattle.state.specs.State.{noPacket}
-use Rattle.state.specs.Parts.{packetsOf}
-use Rattle.bus.specs.Parts.{chosenForm}
-use Rattle.state.proofs.Places.{queue-array}
-use Rattle.state.proofs.Tested.{left-turn, left_end}
+use Rattle.state.specs.State.{no_packet}
+use Rattle.state.specs.Parts.{packets_of}
+use Rattle.bus.specs.Parts.{chosen_form}
+use Rattle.state.proofs.Places.{queue_array}
+use Rattle.state.proofs.Tested.{left_turn, left_end}
 use Rattle.bus.proofs.Choosing.{better-first}
 use Rattle.bus.proofs.waiting.chosen.Statement.{statement}
 use Rattle.bus.proofs.waiting.chosen.Tie as tie
@@ -26,8 +26,8 @@ use Rattle.bus.proofs.waiting.chosen.Tie as tie
 abbrev invariant-loop : tie.invariant-loop
 invariant-loop discipline length packets place₀ j₀ place j =
     (j ≤ length) × (place < length)
-    × (choice (disciplineOf discipline) (take length packets)
-    ≡ chosen (disciplineOf discipline) (get_or packets place noPacket) (choice (disciplineOf discipline) (slice j length packets)))
+    × (choice (discipline_of discipline) (take length packets)
+    ≡ chosen (discipline_of discipline) (get_or packets place no_packet) (choice (discipline_of discipline) (slice j length packets)))
 
 abbrev decreases-loop : tie.decreases-loop
 decreases-loop discipline length packets place₀ j₀ place j = length - j
@@ -39,8 +39,8 @@ loop-holds : tie.Need-loop-init invariant-loop decreases-loop
 loop-holds c =
     let start = c.before.before in
     let queue = start.args.queue in
-    let n = queue-array queue _ start.well-formed.0 in
-    (omega arith, omega arith, ap (choice (disciplineOf start.args.discipline)) (left-turn queue.length queue.packets 0 noPacket (omega arith) (omega arith)))
+    let n = queue_array queue _ start.well-formed.0 in
+    (omega arith, omega arith, ap (choice (discipline_of start.args.discipline)) (left_turn queue.length queue.packets 0 no_packet (omega arith) (omega arith)))
 
 mul-p : tie.Need-overflow-mul-p invariant-loop decreases-loop
 mul-p c = search rules
@@ -63,7 +63,7 @@ module _ (c : tie.After-goes-before invariant-loop decreases-loop) where
   start = c.before.before.before.before.before.before.before
 
   abbrev d : Discipline
-  d = disciplineOf start.args.discipline
+  d = discipline_of start.args.discipline
 
   abbrev n : ℕ
   n = start.args.queue.length
@@ -79,19 +79,19 @@ module _ (c : tie.After-goes-before invariant-loop decreases-loop) where
 
   -- the choice among the packet at a place and those after place j
   abbrev from : ℕ → Option Packet
-  from k = chosen d (get_or ps k noPacket) (choice d (slice (j + 1) n ps))
+  from k = chosen d (get_or ps k no_packet) (choice d (slice (j + 1) n ps))
 
-  looked : {better : Bool} → c.goes_before.result ≡ better → choice d (packetsOf start.args.queue) ≡ from (cond better j place)
+  looked : {better : Bool} → c.goes_before.result ≡ better → choice d (packets_of start.args.queue) ≡ from (cond better j place)
   looked {better} e =
       let turn = c.before.before.before.before.loop in
-      let all = queue-array start.args.queue _ start.good.0 in
+      let all = queue_array start.args.queue _ start.good.0 in
       turn.invariant.2
-      ∙ ap (λ qs. chosen d (get_or ps place noPacket) (choice d qs)) (left-turn n ps j noPacket (omega arith) (omega arith))
-      ∙ better-first d (get_or ps place noPacket) (get_or ps j noPacket) (choice d (slice (j + 1) n ps))
-      ∙ ap (λ t. chosen d (cond t (get_or ps j noPacket) (get_or ps place noPacket)) (choice d (slice (j + 1) n ps))) (sym c.goes_before.ensures ∙ e)
+      ∙ ap (λ qs. chosen d (get_or ps place no_packet) (choice d qs)) (left_turn n ps j no_packet (omega arith) (omega arith))
+      ∙ better-first d (get_or ps place no_packet) (get_or ps j no_packet) (choice d (slice (j + 1) n ps))
+      ∙ ap (λ t. chosen d (cond t (get_or ps j no_packet) (get_or ps place no_packet)) (choice d (slice (j + 1) n ps))) (sym c.goes_before.ensures ∙ e)
       ∙ kept better
     where
-      kept : (t : Bool) → chosen d (cond t (get_or ps j noPacket) (get_or ps place noPacket)) (choice d (slice (j + 1) n ps)) ≡ from (cond t j place)
+      kept : (t : Bool) → chosen d (cond t (get_or ps j no_packet) (get_or ps place no_packet)) (choice d (slice (j + 1) n ps)) ≡ from (cond t j place)
       kept true = refl
       kept false = refl
 
@@ -119,12 +119,12 @@ returns-2 c =
     let turn = c.before.before.loop in
     let args = c.before.before.before.before.before.args in
     let queue = args.queue in
-    let d = disciplineOf args.discipline in
-    ap chosenForm
-    (sym (turn.invariant.2 ∙ ap (λ ps. chosen d (get_or queue.packets turn.place noPacket) (choice d ps)) (left_end queue.length queue.packets turn.j (omega arith))))
+    let d = discipline_of args.discipline in
+    ap chosen_form
+    (sym (turn.invariant.2 ∙ ap (λ ps. chosen d (get_or queue.packets turn.place no_packet) (choice d ps)) (left_end queue.length queue.packets turn.j (omega arith))))
 
-pub chosen-spec : {M : Type 1} → statement M
-chosen-spec =
+pub chosen_spec : {M : Type 1} → statement M
+chosen_spec =
     tie.close
     (tie.spec
     invariant-loop

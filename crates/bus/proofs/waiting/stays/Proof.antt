@@ -20,6 +20,6 @@ returns c = rw c.before.before.leaving.given.1 (ap not c.late.ensures)
 returns-2 : tie.Need-returns-2
 returns-2 c = rw c.before.before.leaving2.given.1
 
-pub stays-spec : {M : Type 1} → statement M
-stays-spec =
+pub stays_spec : {M : Type 1} → statement M
+stays_spec =
     tie.close (tie.spec enum-known-leaving late-requires enum-known-leaving-2 returns returns-2)

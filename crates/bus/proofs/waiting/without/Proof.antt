@@ -8,8 +8,8 @@ use borrow.Author.Rules.{rules}
 use lib.ListN.{length, get_or, set}
 use Rattle.bus.specs.Types.{Queues, Queue}
 use Rattle.bus.specs.Parts.{stays}
-use Rattle.state.proofs.Places.{queues-arrays}
-use Rattle.bus.proofs.ClosingUp.{ClosedUp, closed_none, closed-leaves, closed-stays, closed_all, LeftIn, left-none, left_here, left-formed, left-more, left-all}
+use Rattle.state.proofs.Places.{queues_arrays}
+use Rattle.bus.proofs.ClosingUp.{ClosedUp, closed_none, closed_leaves, closed-stays, closed_all, LeftIn, left_none, left_here, left-formed, left-more, left_all}
 use Rattle.bus.proofs.waiting.without.Statement.{statement}
 use Rattle.bus.proofs.waiting.without.Tie as tie
 
@@ -31,8 +31,8 @@ decreases-loop from to leaving queues₀ i₀ queues i = to - i
 
 loop-holds : tie.Need-loop-init invariant-loop2 decreases-loop2 invariant-loop decreases-loop
 loop-holds c =
-    let n = queues-arrays c.args.t1 _ c.well-formed.0 in
-    (omega arith, omega arith, n.0, n.1, left-none (stays c.args.leaving) c.args.t1 c.args.from)
+    let n = queues_arrays c.args.t1 _ c.well-formed.0 in
+    (omega arith, omega arith, n.0, n.1, left_none (stays c.args.leaving) c.args.t1 c.args.from)
 
 mul-length : tie.Need-overflow-mul-length invariant-loop2 decreases-loop2 invariant-loop decreases-loop
 mul-length c = search rules
@@ -118,7 +118,7 @@ loop2-again c =
       omega (arith, w.2),
       ap (λ (qs : Queues). qs.lengths) w.1 ∙ turn.loop2.invariant.3,
       rw (w.1, w.2)
-          (closed-leaves f xs (16 * at.loop.i) turn.loop2.j within turn.loop2.queues.packets turn.loop2.filled closed (said ∙ w.0.left)),
+          (closed_leaves f xs (16 * at.loop.i) turn.loop2.j within turn.loop2.queues.packets turn.loop2.filled closed (said ∙ w.0.left)),
     ))
     c.if1.branch
 
@@ -156,10 +156,10 @@ returns : tie.Need-returns invariant-loop2 decreases-loop2 invariant-loop decrea
 returns c =
     let turn = c.before.loop in
     let args = c.before.before.args in
-    left-all (stays args.leaving) args.t1 args.from turn.i args.to turn.queues (omega arith) (omega arith) turn.invariant.4
+    left_all (stays args.leaving) args.t1 args.from turn.i args.to turn.queues (omega arith) (omega arith) turn.invariant.4
 
-pub without-spec : {M : Type 1} → statement M
-without-spec =
+pub without_spec : {M : Type 1} → statement M
+without_spec =
     tie.close
     (tie.spec
     invariant-loop2

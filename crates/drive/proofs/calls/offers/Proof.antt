@@ -50,8 +50,8 @@ loop-again c = search rules
 returns : tie.Need-returns invariant-loop decreases-loop
 returns c = search rules
 
-pub offers-spec : {M : Type 1} → statement M
-offers-spec =
+pub offers_spec : {M : Type 1} → statement M
+offers_spec =
     tie.close
     (tie.spec
     invariant-loop

@@ -39,8 +39,8 @@ loop-again c = search rules
 returns-2 : tie.Need-returns-2 invariant-loop decreases-loop
 returns-2 c = search rules
 
-pub write-place-spec : {M : Type 1} → statement M
-write-place-spec =
+pub write_place_spec : {M : Type 1} → statement M
+write_place_spec =
     tie.close
     (tie.spec
     invariant-loop

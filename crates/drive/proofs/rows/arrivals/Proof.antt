@@ -97,8 +97,8 @@ array-read-length c = search rules
 returns : tie.Need-returns invariant-loop decreases-loop
 returns c = search rules
 
-pub arrivals-spec : {M : Type 1} → statement M
-arrivals-spec =
+pub arrivals_spec : {M : Type 1} → statement M
+arrivals_spec =
     tie.close
     (tie.spec
     invariant-loop

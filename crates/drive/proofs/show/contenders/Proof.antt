@@ -62,8 +62,8 @@ loop-again c = search rules
 returns : tie.Need-returns invariant-loop decreases-loop
 returns c = search rules
 
-pub contenders-spec : {M : Type 1} → statement M
-contenders-spec =
+pub contenders_spec : {M : Type 1} → statement M
+contenders_spec =
     tie.close
     (tie.spec
     invariant-loop

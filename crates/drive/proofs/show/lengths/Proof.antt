@@ -35,8 +35,8 @@ loop-again c = search rules
 returns : tie.Need-returns invariant-loop decreases-loop
 returns c = search rules
 
-pub lengths-spec : {M : Type 1} → statement M
-lengths-spec =
+pub lengths_spec : {M : Type 1} → statement M
+lengths_spec =
     tie.close
     (tie.spec
     invariant-loop

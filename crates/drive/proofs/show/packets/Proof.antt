@@ -35,8 +35,8 @@ loop-again c = search rules
 returns : tie.Need-returns invariant-loop decreases-loop
 returns c = search rules
 
-pub packets-spec : {M : Type 1} → statement M
-packets-spec =
+pub packets_spec : {M : Type 1} → statement M
+packets_spec =
     tie.close
     (tie.spec
     invariant-loop

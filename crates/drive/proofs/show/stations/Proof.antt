@@ -35,8 +35,8 @@ loop-again c = search rules
 returns : tie.Need-returns invariant-loop decreases-loop
 returns c = search rules
 
-pub stations-spec : {M : Type 1} → statement M
-stations-spec =
+pub stations_spec : {M : Type 1} → statement M
+stations_spec =
     tie.close
     (tie.spec
     invariant-loop

@@ -36,8 +36,8 @@ loop-again c = search rules
 returns-2 : tie.Need-returns-2 invariant-loop decreases-loop
 returns-2 c = search rules
 
-pub digit-from-spec : {M : Type 1} → statement M
-digit-from-spec =
+pub digit_from_spec : {M : Type 1} → statement M
+digit_from_spec =
     tie.close
     (tie.spec
     invariant-loop

@@ -1,7 +1,7 @@
 -- `arrivals::arrival_at` meets its contract. Assumes nothing.
 use mathlib.Core.Path.{ap}
 use borrow.Author.Rules.{rules}
-use Rattle.layout.specs.Layout.{arrivalOf}
+use Rattle.layout.specs.Layout.{arrival_of}
 use Rattle.layout.proofs.arrivals.arrival_at.Statement.{statement}
 use Rattle.layout.proofs.arrivals.arrival_at.Tie as tie
 
@@ -14,7 +14,7 @@ cast-t9 c = search rules
 returns : tie.Need-returns
 returns c =
     let args = c.before.args in
-    ap (λ value. arrivalOf args.time args.address value args.length) c.value-at.ensures
+    ap (λ value. arrival_of args.time args.address value args.length) c.value-at.ensures
 
-pub arrival-at-spec : {M : Type 1} → statement M
-arrival-at-spec = tie.close (tie.spec value-at-requires cast-t9 returns)
+pub arrival_at_spec : {M : Type 1} → statement M
+arrival_at_spec = tie.close (tie.spec value-at-requires cast-t9 returns)

@@ -12,5 +12,5 @@ before-requires c κs = search rules
 returns-2 : tie.Need-returns-2
 returns-2 c = rw c.before.if1.false c.before2.ensures
 
-pub goes-first-spec : {M : Type 1} → statement M
-goes-first-spec = tie.close (tie.spec returns before-requires returns-2)
+pub goes_first_spec : {M : Type 1} → statement M
+goes_first_spec = tie.close (tie.spec returns before-requires returns-2)

@@ -7,7 +7,7 @@ use native.Mathlib.Omega.{arith}
 use borrow.Author.Rules.{rules}
 use lib.ListN.{length, take, length-set}
 use Rattle.layout.specs.Layout.{inserted}
-use Rattle.layout.proofs.Inserting.{rows-count, standing, standing-stays, standing-moves, standing-end}
+use Rattle.layout.proofs.Inserting.{rows_count, standing, standing_stays, standing-moves, standing_end}
 use Rattle.layout.proofs.arrivals.insert.Statement.{statement}
 use Rattle.layout.proofs.arrivals.insert.Tie as tie
 
@@ -19,7 +19,7 @@ abbrev decreases-loop : tie.decreases-loop
 decreases-loop count next₀ held₀ moved₀ i₀ next held moved i = count - i
 
 loop-holds : tie.Need-loop-init invariant-loop decreases-loop
-loop-holds c = (omega arith, rows-count c.args.rows _ c.well-formed.0, refl)
+loop-holds c = (omega arith, rows_count c.args.rows _ c.well-formed.0, refl)
 
 mul-x : tie.Need-overflow-mul-x invariant-loop decreases-loop
 mul-x c = search rules
@@ -59,7 +59,7 @@ loop-again c =
     (λ w. (
       omega arith,
       ap length w.1 ∙ turn.invariant.1,
-      rw (w.1, w.2, w.3) (turn.invariant.2 ∙ standing-stays n turn.next turn.held turn.moved turn.i h k (said ∙ w.0.left)),
+      rw (w.1, w.2, w.3) (turn.invariant.2 ∙ standing_stays n turn.next turn.held turn.moved turn.i h k (said ∙ w.0.left)),
     ))
     c.if1.branch
 
@@ -72,10 +72,10 @@ array-set-from-next-2 c = search rules
 returns : tie.Need-returns invariant-loop decreases-loop
 returns c =
     let turn = c.before.loop in
-    sym (turn.invariant.2 ∙ standing-end c.before.before.args.count turn.next turn.held turn.moved turn.i (omega arith) (omega arith))
+    sym (turn.invariant.2 ∙ standing_end c.before.before.args.count turn.next turn.held turn.moved turn.i (omega arith) (omega arith))
 
-pub insert-spec : {M : Type 1} → statement M
-insert-spec =
+pub insert_spec : {M : Type 1} → statement M
+insert_spec =
     tie.close
     (tie.spec
     invariant-loop

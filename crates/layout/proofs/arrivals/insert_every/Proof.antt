@@ -7,16 +7,16 @@ use native.Mathlib.Omega.{arith}
 use borrow.Author.Rules.{rules}
 use lib.ListN.{take}
 use Rattle.state.specs.declared.Arrival.{Arrival}
-use Rattle.layout.specs.Layout.{insertedAll, repeated}
-use Rattle.layout.proofs.Inserting.{arrivalAt, value-up, every-turn, one_less}
+use Rattle.layout.specs.Layout.{inserted_all, repeated}
+use Rattle.layout.proofs.Inserting.{arrival_at, value_up, every-turn, one_less}
 use Rattle.layout.proofs.arrivals.insert_every.Statement.{statement}
 use Rattle.layout.proofs.arrivals.insert_every.Tie as tie
 
 abbrev invariant-loop : tie.invariant-loop
 invariant-loop count later every from discipline address value length next₀ filled₀ left₀ time₀ next filled left time =
     (filled + left ≡ count + later) × (time + left * every ≡ from + later * every)
-    × (insertedAll (repeated (suc later) from every (arrivalAt discipline address value length)) (take count next₀)
-    ≡ insertedAll (repeated (suc left) time every (arrivalAt discipline address value length)) (take filled next))
+    × (inserted_all (repeated (suc later) from every (arrival_at discipline address value length)) (take count next₀)
+    ≡ inserted_all (repeated (suc left) time every (arrival_at discipline address value length)) (take filled next))
 
 abbrev decreases-loop : tie.decreases-loop
 decreases-loop count later every from discipline address value length next₀ filled₀ left₀ time₀ next filled left time = left
@@ -27,7 +27,7 @@ loop-holds c = (refl, refl, refl)
 arrival-at-requires : tie.Need-arrival-at-requires invariant-loop decreases-loop
 arrival-at-requires c κs =
     let args = c.before.args in
-    omega (arith, value-up args.discipline args.value c.loop.time (args.from + args.later * args.every) (omega arith))
+    omega (arith, value_up args.discipline args.value c.loop.time (args.from + args.later * args.every) (omega arith))
 
 insert-requires : tie.Need-insert-requires invariant-loop decreases-loop
 insert-requires c κs = search rules
@@ -39,17 +39,17 @@ module _ (c : tie.After-insert invariant-loop decreases-loop) where
 
   abbrev from : ℕ → ℕ → List Arrival
   from n time =
-      repeated n time start.args.every (arrivalAt start.args.discipline start.args.address start.args.value start.args.length)
+      repeated n time start.args.every (arrival_at start.args.discipline start.args.address start.args.value start.args.length)
 
   inserted-one :
       (n filled : ℕ) → c.before.before.loop.left ≡ n → suc c.before.before.loop.filled ≡ filled
-      → insertedAll (from (suc start.args.later) start.args.from) (take start.args.count start.args.rows)
-      ≡ insertedAll (from n (c.before.before.loop.time + start.args.every)) (take filled c.insert.result)
+      → inserted_all (from (suc start.args.later) start.args.from) (take start.args.count start.args.rows)
+      ≡ inserted_all (from n (c.before.before.loop.time + start.args.every)) (take filled c.insert.result)
   inserted-one n filled left more =
       let turn = c.before.before.loop in
       turn.invariant.2
       ∙ every-turn turn.left turn.time start.args.every _ (take turn.filled turn.next) c.before.arrival-at.ensures c.insert.ensures
-      ∙ ap₂ (λ n k. insertedAll (from n (turn.time + start.args.every)) (take k c.insert.result)) left more
+      ∙ ap₂ (λ n k. inserted_all (from n (turn.time + start.args.every)) (take k c.insert.result)) left more
 
 returns : tie.Need-returns invariant-loop decreases-loop
 returns c =
@@ -78,8 +78,8 @@ loop-again c =
       inserted-one c.before (suc (at.loop.left - 1)) (at.loop.filled + 1) (omega arith) (omega arith),
     )
 
-pub insert-every-spec : {M : Type 1} → statement M
-insert-every-spec =
+pub insert_every_spec : {M : Type 1} → statement M
+insert_every_spec =
     tie.close
     (tie.spec
     invariant-loop

@@ -23,5 +23,5 @@ add-result c =
 returns : tie.Need-returns
 returns c = ap (λ n. c.before.args.from + n * c.before.args.every) c.later.ensures
 
-pub last-time-spec : {M : Type 1} → statement M
-last-time-spec = tie.close (tie.spec later-requires mul-result add-result returns)
+pub last_time_spec : {M : Type 1} → statement M
+last_time_spec = tie.close (tie.spec later-requires mul-result add-result returns)

@@ -29,6 +29,6 @@ returns-2 c =
     let args = c.before.before.args in
     c.wide3.ensures ∙ sym (value_same args.discipline args.value args.time c.before.if1.false)
 
-pub value-at-spec : {M : Type 1} → statement M
-value-at-spec =
+pub value_at_spec : {M : Type 1} → statement M
+value_at_spec =
     tie.close (tie.spec wide-requires wide-requires-2 add-result returns wide-requires-3 returns-2)

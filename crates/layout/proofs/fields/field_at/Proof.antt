@@ -6,9 +6,9 @@ use mathlib.Core.Option.{none, some}
 use native.Mathlib.Omega.{arith}
 use Rattle.state.proofs.Tested.{granted, denied}
 use lib.ListN.{drop}
-use Rattle.words.specs.Words.{same, first_word, afterWord, number_of, numberForm}
-use Rattle.layout.specs.Layout.{labelBytes, wordMissing, numberMissing, withValue, fieldsIn}
-use Rattle.layout.proofs.InLine.{Spanned, spanned, unknown, known, unnamed, named, field-faulty}
+use Rattle.words.specs.Words.{same, first_word, after_word, number_of, number_form}
+use Rattle.layout.specs.Layout.{label_bytes, word_missing, number_missing, with_value, fields_in}
+use Rattle.layout.proofs.InLine.{Spanned, spanned, unknown, known, unnamed, named, field_faulty}
 use borrow.Author.Rules.{rules}
 use Rattle.layout.proofs.fields.field_at.Statement.{statement}
 use Rattle.layout.proofs.fields.field_at.Tie as tie
@@ -36,10 +36,10 @@ second c =
 -- the word is the one before the number
 is-named :
     (c : tie.Else1) → let args = c.before.before.before.before.before.args in
-    same (first_word (drop args.at args.line.now)) (labelBytes args.code) ≡ true
+    same (first_word (drop args.at args.line.now)) (label_bytes args.code) ≡ true
 is-named c =
     let args = c.before.before.before.before.before.args in
-    sym (ap (λ w. same w (labelBytes args.code)) (first c.before.before.before).word)
+    sym (ap (λ w. same w (label_bytes args.code)) (first c.before.before.before).word)
     ∙ sym c.before.is-label.ensures
     ∙ granted refl c.if1.false
 
@@ -47,20 +47,20 @@ is-named c =
 after-word :
     (c : tie.After-word-at2) → let word = c.before.before.before.before in
     let args = word.before.before.args in
-    drop word.word_at.result.to args.line.now ≡ afterWord (drop args.at args.line.now)
+    drop word.word_at.result.to args.line.now ≡ after_word (drop args.at args.line.now)
 after-word c = (first c.before.before.before.before).after
 
 counted :
     (c : tie.After-number-of) → let args = c.before.before.before.before.before.before.before.before.args in
-    c.number_of_lem.result ≡ numberForm (number_of (first_word (afterWord (drop args.at args.line.now))))
+    c.number_of_lem.result ≡ number_form (number_of (first_word (after_word (drop args.at args.line.now))))
 counted c =
     let got = c.before.before in
-    c.number_of_lem.ensures ∙ ap (λ w. numberForm (number_of w)) ((second got).word ∙ ap first_word (after-word got))
+    c.number_of_lem.ensures ∙ ap (λ w. number_form (number_of w)) ((second got).word ∙ ap first_word (after-word got))
 
 left_over :
     (c : tie.After-word-at2) → let args = c.before.before.before.before.before.before.args in
-    drop c.word-at2.result.to args.line.now ≡ afterWord (afterWord (drop args.at args.line.now))
-left_over c = (second c).after ∙ ap afterWord (after-word c)
+    drop c.word-at2.result.to args.line.now ≡ after_word (after_word (drop args.at args.line.now))
+left_over c = (second c).after ∙ ap after_word (after-word c)
 
 sub-is-label : tie.Need-overflow-sub-is-label
 sub-is-label c = (first c).ordered
@@ -81,10 +81,10 @@ returns : tie.Need-returns
 returns c =
     let f = first c.before.before.before in
     let args = c.before.before.before.before.before.args in
-    let other : same (first_word (drop args.at args.line.now)) (labelBytes args.code) ≡ false =
-    sym (ap (λ w. same w (labelBytes args.code)) f.word) ∙ sym c.before.is-label.ensures ∙ denied refl c.if1.true in (
+    let other : same (first_word (drop args.at args.line.now)) (label_bytes args.code) ≡ false =
+    sym (ap (λ w. same w (label_bytes args.code)) f.word) ∙ sym c.before.is-label.ensures ∙ denied refl c.if1.true in (
       c.before.before.before.before.before.requires.0,
-      λ later. unnamed args.code later (drop args.at args.line.now) other ∙ sym (field-faulty (wordMissing args.code) 0 _ (λ e. absurd (omega arith))),
+      λ later. unnamed args.code later (drop args.at args.line.now) other ∙ sym (field_faulty (word_missing args.code) 0 _ (λ e. absurd (omega arith))),
     )
 
 word-at-requires-2 : tie.Need-word-at-requires-2
@@ -111,10 +111,10 @@ returns-2 c =
     let word = got.before.before.before.before in
     let args = word.before.before.args in
     let rest = drop args.at args.line.now in
-    let same_word : same (first_word rest) (labelBytes args.code) ≡ true = is-named got.before in
-    let n : number_of (first_word (afterWord rest)) ≡ none = unknown _ _ (counted c.before.before) (denied refl c.if2.true) in (
+    let same_word : same (first_word rest) (label_bytes args.code) ≡ true = is-named got.before in
+    let n : number_of (first_word (after_word rest)) ≡ none = unknown _ _ (counted c.before.before) (denied refl c.if2.true) in (
       word.before.before.requires.0,
-      λ later. named args.code later rest none same_word n ∙ sym (field-faulty (numberMissing args.code) 0 _ (λ e. absurd (omega arith))),
+      λ later. named args.code later rest none same_word n ∙ sym (field_faulty (number_missing args.code) 0 _ (λ e. absurd (omega arith))),
     )
 
 returns-3 : tie.Need-returns-3
@@ -123,16 +123,16 @@ returns-3 c =
     let word = got.before.before.before.before in
     let args = word.before.before.args in
     let rest = drop args.at args.line.now in
-    let same_word : same (first_word rest) (labelBytes args.code) ≡ true = is-named got.before in
+    let same_word : same (first_word rest) (label_bytes args.code) ≡ true = is-named got.before in
     let value = c.before.before.number_of_lem.result.value in
-    let n : number_of (first_word (afterWord rest)) ≡ some value = known _ _ (counted c.before.before) (granted refl c.if2.false) in (
+    let n : number_of (first_word (after_word rest)) ≡ some value = known _ _ (counted c.before.before) (granted refl c.if2.false) in (
       (second got).within,
       λ later.
-          named args.code later rest (some value) same_word n ∙ ap (λ r. withValue value (fieldsIn later r)) (sym (left_over got)),
+          named args.code later rest (some value) same_word n ∙ ap (λ r. with_value value (fields_in later r)) (sym (left_over got)),
     )
 
-pub field-at-spec : {M : Type 1} → statement M
-field-at-spec =
+pub field_at_spec : {M : Type 1} → statement M
+field_at_spec =
     tie.close
     (tie.spec
     word-at-requires

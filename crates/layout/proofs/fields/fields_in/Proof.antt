@@ -9,19 +9,19 @@ use borrow.Author.Rules.{rules}
 use lib.ListN.{length, drop, get_or}
 use Rattle.state.proofs.Tested.{granted, denied}
 use Rattle.layout.specs.declared.labels.Labels.{Labels}
-use Rattle.layout.specs.Layout.{labelsOf, Fields, faulty, goes_on, fieldsIn}
-use Rattle.layout.specs.Parts.{labelsForm, padded, fieldSaid, before}
-use Rattle.layout.proofs.InLine.{labels-few, labels-small, padded-getD, Found, found_none, found-said, found-more, found-end, field-faulty}
+use Rattle.layout.specs.Layout.{labels_of, Fields, faulty, goes_on, fields_in}
+use Rattle.layout.specs.Parts.{labels_form, padded, field_said, before}
+use Rattle.layout.proofs.InLine.{labels_few, labels_small, padded_get_d, Found, found_none, found-said, found-more, found-end, field_faulty}
 use Rattle.layout.proofs.fields.fields_in.Statement.{statement}
 use Rattle.layout.proofs.fields.fields_in.Tie as tie
 
 -- what a turn begins with
 record Going (line : List ℕ) (from kind discipline : ℕ) (codes : List ℕ) (count : ℕ) (values : List ℕ) (at i : ℕ) : Type 0 where
-  words : codes ≡ (labelsForm (labelsOf kind discipline)).codes
-  many : count ≡ length (labelsOf kind discipline)
+  words : codes ≡ (labels_form (labels_of kind discipline)).codes
+  many : count ≡ length (labels_of kind discipline)
   within : at ≤ length line
   turns : i ≤ count
-  found : Found (labelsOf kind discipline) (drop from line) values (drop at line) i
+  found : Found (labels_of kind discipline) (drop from line) values (drop at line) i
 
 abbrev invariant-loop : tie.invariant-loop
 invariant-loop line from kind discipline codes count values₀ at₀ i₀ values at i = Going line from kind discipline codes count values at i
@@ -41,23 +41,23 @@ loop-holds c =
       many = ap (λ (l : Labels). l.count) e;
       within = c.before.before.before.requires;
       turns = omega arith;
-      found = found_none (labelsOf args.kind args.discipline) (drop args.from args.line.now);
+      found = found_none (labels_of args.kind args.discipline) (drop args.from args.line.now);
     }
 
 -- there is room for the number
 short : (c : tie.In-loop invariant-loop decreases-loop) → c.before.loop.i < 6
 short c =
     let args = c.before.before.before.before.before.args in
-    omega (arith, c.loop-test.true, c.before.loop.invariant.many, labels-few args.kind args.discipline)
+    omega (arith, c.loop-test.true, c.before.loop.invariant.many, labels_few args.kind args.discipline)
 
 -- the word that comes next
 next_word :
     (c : tie.In-loop invariant-loop decreases-loop) → let args = c.before.before.before.before.before.args in
-    get_or c.before.before.before.labels-of.result.codes c.before.loop.i 0 ≡ get_or (labelsOf args.kind args.discipline) c.before.loop.i 0
+    get_or c.before.before.before.labels-of.result.codes c.before.loop.i 0 ≡ get_or (labels_of args.kind args.discipline) c.before.loop.i 0
 next_word c =
     let args = c.before.before.before.before.before.args in
-    let codes = labelsOf args.kind args.discipline in
-    ap (λ cs. get_or cs c.before.loop.i 0) c.before.loop.invariant.words ∙ padded-getD codes (6 - length codes) c.before.loop.i
+    let codes = labels_of args.kind args.discipline in
+    ap (λ cs. get_or cs c.before.loop.i 0) c.before.loop.invariant.words ∙ padded_get_d codes (6 - length codes) c.before.loop.i
 
 mul-field-at : tie.Need-overflow-mul-field-at invariant-loop decreases-loop
 mul-field-at c = let few = short c in search rules
@@ -68,30 +68,30 @@ array-read-field-at c = short c
 field-at-requires : tie.Need-field-at-requires invariant-loop decreases-loop
 field-at-requires c κs =
     let args = c.before.before.before.before.before.args in
-    (c.before.loop.invariant.within, subst⁻¹ (λ n. n ≤ 13) (next_word c) (labels-small args.kind args.discipline c.before.loop.i))
+    (c.before.loop.invariant.within, subst⁻¹ (λ n. n ≤ 13) (next_word c) (labels_small args.kind args.discipline c.before.loop.i))
 
 -- what it says
 said_here :
     (c : tie.After-field-at invariant-loop decreases-loop) → let at = c.before.before in
     let args = c.before.before.before.before.before.before.args in
     (later : List ℕ)
-    → fieldsIn (get_or (labelsOf args.kind args.discipline) at.loop.i 0 ∷ later) (drop at.loop.at args.line.now)
-    ≡ fieldSaid c.field_at.result (fieldsIn later (drop c.field_at.result.next args.line.now))
+    → fields_in (get_or (labels_of args.kind args.discipline) at.loop.i 0 ∷ later) (drop at.loop.at args.line.now)
+    ≡ field_said c.field_at.result (fields_in later (drop c.field_at.result.next args.line.now))
 said_here c later =
     let args = c.before.before.before.before.before.before.args in
-    ap (λ code. fieldsIn (code ∷ later) (drop c.before.before.loop.at args.line.now)) (sym (next_word c.before))
+    ap (λ code. fields_in (code ∷ later) (drop c.before.before.loop.at args.line.now)) (sym (next_word c.before))
     ∙ c.field_at.ensures.1 later
 
 returns : tie.Need-returns invariant-loop decreases-loop
 returns c =
     let field = c.before.before in
     let args = field.before.before.before.before.before.before.args in
-    let codes = labelsOf args.kind args.discipline in
+    let codes = labels_of args.kind args.discipline in
     let at = field.before.before in
     let more : at.loop.i < length codes = omega (arith, field.before.loop-test.true, at.loop.invariant.many) in
     let all =
     found-said codes _ _ _ _ at.loop.invariant.found more field.field_at.result _ (said_here field)
-    ∙ ap (before at.loop.invariant.found.numbers) (field-faulty field.field_at.result.fault _ _ c.if1.true) in
+    ∙ ap (before at.loop.invariant.found.numbers) (field_faulty field.field_at.result.fault _ _ c.if1.true) in
     (sym (ap (λ (x : Fields). x.fault) all), λ e. absurd (c.if1.true e))
 
 mul-values : tie.Need-overflow-mul-values invariant-loop decreases-loop
@@ -110,7 +110,7 @@ loop-again : tie.Need-loop-preserved invariant-loop decreases-loop
 loop-again c =
     let field = c.before.before in
     let args = field.before.before.before.before.before.before.args in
-    let codes = labelsOf args.kind args.discipline in
+    let codes = labels_of args.kind args.discipline in
     let at = field.before.before in
     let g = at.loop.invariant in
     let more : at.loop.i < length codes = omega (arith, field.before.loop-test.true, g.many) in
@@ -123,7 +123,7 @@ loop-again c =
           subst⁻¹
           (Found codes (drop args.from args.line.now) _ _)
           (add-one at.loop.i)
-          (found-more codes _ _ _ _ g.found more field.field_at.result _ (said_here field) c.if1.false (labels-few args.kind args.discipline));
+          (found-more codes _ _ _ _ g.found more field.field_at.result _ (said_here field) c.if1.false (labels_few args.kind args.discipline));
     }
 
 is-wordless-requires : tie.Need-is-wordless-requires invariant-loop decreases-loop
@@ -134,13 +134,13 @@ ended :
     (c : tie.After-is-wordless invariant-loop decreases-loop) (t : Bool) → c.is-wordless.result ≡ t
     → let at = c.before.before in
     let args = at.before.before.before.before.args in
-    fieldsIn (labelsOf args.kind args.discipline) (drop args.from args.line.now)
+    fields_in (labels_of args.kind args.discipline) (drop args.from args.line.now)
     ≡ before at.loop.invariant.found.numbers (cond t (faulty 0) (faulty goes_on))
 ended c t e =
     let at = c.before.before in
     let args = at.before.before.before.before.args in
     found-end
-    (labelsOf args.kind args.discipline)
+    (labels_of args.kind args.discipline)
     _
     _
     _
@@ -162,8 +162,8 @@ returns-3 c =
       λ e. found.stored ∙ ap padded (sym (ap (λ (x : Fields). x.values) all ∙ append-nil found.numbers)),
     )
 
-pub fields-in-spec : {M : Type 1} → statement M
-fields-in-spec =
+pub fields_in_spec : {M : Type 1} → statement M
+fields_in_spec =
     tie.close
     (tie.spec
     invariant-loop

@@ -12,5 +12,5 @@ returns c =
     let args = c.before.before.before.args in
     (spanned args.line.now args.at _ c.before.word_at.ensures c.before.before.before.requires).empty
 
-pub is-wordless-spec : {M : Type 1} → statement M
-is-wordless-spec = tie.close (tie.spec word-at-requires returns)
+pub is_wordless_spec : {M : Type 1} → statement M
+is_wordless_spec = tie.close (tie.spec word-at-requires returns)

@@ -48,8 +48,8 @@ returns-4 c =
     ∙ passed _ _ (sym c.before.before.before.before.same2.ensures ∙ c.before.before.before.if2.false)
     ∙ passed _ _ (sym c.before.same3.ensures ∙ c.if3.false))
 
-pub discipline-named-spec : {M : Type 1} → statement M
-discipline-named-spec =
+pub discipline_named_spec : {M : Type 1} → statement M
+discipline_named_spec =
     tie.close
     (tie.spec
     slice-aggregate-same

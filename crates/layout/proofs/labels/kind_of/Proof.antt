@@ -96,8 +96,8 @@ returns-7 c =
     ∙ passed _ _ (sym c.before.before.before.before.same5.ensures ∙ c.before.before.before.if5.false)
     ∙ passed _ _ (sym c.before.same6.ensures ∙ c.if6.false))
 
-pub kind-of-spec : {M : Type 1} → statement M
-kind-of-spec =
+pub kind_of_spec : {M : Type 1} → statement M
+kind_of_spec =
     tie.close
     (tie.spec
     slice-aggregate-same

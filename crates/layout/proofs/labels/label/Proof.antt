@@ -47,8 +47,8 @@ returns-14 c =
     let no = c.match.rest in
     simp (ne_eqb _ _ no.0.0.0.0.0.0.0.0.0.0.0.0.1, ne_eqb _ _ no.0.0.0.0.0.0.0.0.0.0.0.1, ne_eqb _ _ no.0.0.0.0.0.0.0.0.0.0.1, ne_eqb _ _ no.0.0.0.0.0.0.0.0.0.1, ne_eqb _ _ no.0.0.0.0.0.0.0.0.1, ne_eqb _ _ no.0.0.0.0.0.0.0.1, ne_eqb _ _ no.0.0.0.0.0.0.1, ne_eqb _ _ no.0.0.0.0.0.1, ne_eqb _ _ no.0.0.0.0.1, ne_eqb _ _ no.0.0.0.1, ne_eqb _ _ no.0.0.1, ne_eqb _ _ no.0.1, ne_eqb _ _ no.1)
 
-pub label-spec : {M : Type 1} → statement M
-label-spec =
+pub label_spec : {M : Type 1} → statement M
+label_spec =
     tie.close
     (tie.spec
     returns

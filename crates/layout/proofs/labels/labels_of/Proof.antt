@@ -33,8 +33,8 @@ returns-7 c =
     let no = c.match.rest in
     simp (ne_eqb _ _ no.0.0.0.0.0.1, ne_eqb _ _ no.0.0.0.0.1, ne_eqb _ _ no.0.0.0.1, ne_eqb _ _ no.0.0.1, ne_eqb _ _ no.0.1, ne_eqb _ _ no.1)
 
-pub labels-of-spec : {M : Type 1} → statement M
-labels-of-spec =
+pub labels_of_spec : {M : Type 1} → statement M
+labels_of_spec =
     tie.close
     (tie.spec
     station-labels-requires

@@ -5,7 +5,7 @@ use native.Mathlib.Numerals.{add-one}
 use borrow.Author.Tests.{lt-ltb, le-ltb, eq-eqb, ne_eqb}
 use Rattle.rules.specs.Lists.{first_of}
 use Rattle.state.specs.declared.Settings.{Settings}
-use Rattle.layout.specs.Layout.{arrivalTests, value_at}
+use Rattle.layout.specs.Layout.{arrival_tests, value_at}
 use Rattle.layout.proofs.Firsts.{passed, decided}
 use borrow.Author.Rules.{rules}
 use Rattle.layout.proofs.plan.arrivals_fault.Statement.{statement}
@@ -43,14 +43,14 @@ returns-3 c p e f =
     let last = c.before.before.before.last-time in
     c.arrival-fault.ensures p e f
     ∙ ap₂
-    (λ v m. first_of 0 (arrivalTests p args.address v args.length m))
+    (λ v m. first_of 0 (arrival_tests p args.address v args.length m))
     (value.ensures
     ∙ ap₂ (λ (g : Settings) t. value_at g.discipline args.value t) (sym e) last.ensures)
     (add-one c.before.later.result ∙ ap suc c.before.later.ensures)
     ∙ sym (passed _ _ (ne_eqb _ _ tried.before.if1.false) ∙ passed _ _ (le-ltb _ _ tried.if2.false))
 
-pub arrivals-fault-spec : {M : Type 1} → statement M
-arrivals-fault-spec =
+pub arrivals_fault_spec : {M : Type 1} → statement M
+arrivals_fault_spec =
     tie.close
     (tie.spec
     returns

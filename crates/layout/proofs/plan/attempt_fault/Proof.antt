@@ -27,6 +27,6 @@ returns-4 : tie.Need-returns-4
 returns-4 c p e f =
     sym (passed _ _ (le-ltb _ _ c.before.before.before.if1.false) ∙ passed _ _ (le-ltb _ _ c.before.before.if2.false) ∙ passed _ _ (long-counted p _ _ _ e f c.before.too_long.ensures c.if3.false))
 
-pub attempt-fault-spec : {M : Type 1} → statement M
-attempt-fault-spec =
+pub attempt_fault_spec : {M : Type 1} → statement M
+attempt_fault_spec =
     tie.close (tie.spec returns returns-2 add-too-long too-long-requires returns-3 returns-4)

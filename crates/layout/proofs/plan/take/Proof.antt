@@ -5,10 +5,10 @@ use native.Mathlib.Omega.{arith}
 use borrow.Author.Tests.{eq-eqb, ne_eqb}
 use lib.ListN.{drop}
 use Rattle.words.specs.Words.{first_word}
-use Rattle.layout.specs.Layout.{kind_of, wordless, placeFault, takeKind}
+use Rattle.layout.specs.Layout.{kind_of, wordless, place_fault, take_kind}
 use Rattle.layout.specs.Parts.{plan_of}
 use Rattle.layout.proofs.InLine.{Spanned, spanned}
-use Rattle.layout.proofs.Planning.{line-wordless, line-misplaced, line-placed}
+use Rattle.layout.proofs.Planning.{line_wordless, line-misplaced, line_placed}
 use borrow.Author.Rules.{rules}
 use Rattle.layout.proofs.plan.take.Statement.{statement}
 use Rattle.layout.proofs.plan.take.Tie as tie
@@ -28,7 +28,7 @@ returns : tie.Need-returns
 returns c =
     let word = c.before in
     let start = word.before.before in
-    (line-wordless (plan_of start.args.plan) start.args.line.now (sym (first word).empty ∙ eq-eqb _ _ c.if1.true), start.requires)
+    (line_wordless (plan_of start.args.plan) start.args.line.now (sym (first word).empty ∙ eq-eqb _ _ c.if1.true), start.requires)
 
 sub-kind-of : tie.Need-overflow-sub-kind-of
 sub-kind-of c = (first c.before).ordered
@@ -68,7 +68,7 @@ returns-2 c =
           start.args.line.now
           c.before.place-fault.result
           (some_word named)
-          (c.before.place-fault.ensures ∙ ap (placeFault g.stage g.settings.n) (its-kind named))
+          (c.before.place-fault.ensures ∙ ap (place_fault g.stage g.settings.n) (its-kind named))
           c.if2.true,
       start.requires,
     )
@@ -86,14 +86,14 @@ returns-3 c =
     let named = placed.before.before.before in
     let start = named.before.before.before.before.before in
     let g = start.args.plan in (
-      c.take-kind.ensures.0
-          ∙ ap₂ (takeKind (plan_of g)) (its-kind named) (first named.before.before.before).after
-          ∙ line-placed
+      c.kind_taken.ensures.0
+          ∙ ap₂ (take_kind (plan_of g)) (its-kind named) (first named.before.before.before).after
+          ∙ line_placed
           (plan_of g)
           start.args.line.now
           (some_word named)
-          (sym (placed.before.place-fault.ensures ∙ ap (placeFault g.stage g.settings.n) (its-kind named)) ∙ placed.if2.false),
-      c.take-kind.ensures.1,
+          (sym (placed.before.place-fault.ensures ∙ ap (place_fault g.stage g.settings.n) (its-kind named)) ∙ placed.if2.false),
+      c.kind_taken.ensures.1,
     )
 
 pub take_spec : {M : Type 1} → statement M

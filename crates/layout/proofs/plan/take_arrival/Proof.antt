@@ -3,10 +3,10 @@ use mathlib.Core.Path.{◌≡◌, refl, sym, ap, ◌∙◌}
 use mathlib.Core.List.{[], ◌∷◌}
 use Rattle.rules.specs.Lists.{first_of}
 use Rattle.rules.proofs.Tests.{none-held}
-use Rattle.layout.specs.Layout.{Plan, taken, withArrivals, arrivalOf, arrivalTests}
+use Rattle.layout.specs.Layout.{Plan, taken, with_arrivals, arrival_of, arrival_tests}
 use Rattle.layout.specs.Parts.{plan_of}
 use Rattle.layout.proofs.Steps.{arrival-tried}
-use Rattle.layout.proofs.Planning.{plan-arrays, taken-faulty, taken_fine, arrivals-counted, arrivals-fit}
+use Rattle.layout.proofs.Planning.{plan_arrays, taken_faulty, taken_fine, arrivals_counted, arrivals-fit}
 use borrow.Author.Rules.{rules}
 use Rattle.layout.proofs.plan.take_arrival.Statement.{statement}
 use Rattle.layout.proofs.plan.take_arrival.Tie as tie
@@ -17,17 +17,17 @@ arrival-fault-requires c κs = search rules
 -- what the fault is
 said :
     (c : tie.After-arrival-fault) → let start = c.before.before in
-    c.arrival-fault.result ≡ first_of 0 (arrivalTests (plan_of start.args.plan) start.args.address start.args.value start.args.length 1)
+    c.arrival-fault.result ≡ first_of 0 (arrival_tests (plan_of start.args.plan) start.args.address start.args.value start.args.length 1)
 said c =
     let start = c.before.before in
-    c.arrival-fault.ensures (plan_of start.args.plan) refl (arrivals-counted start.args.plan start.requires (plan-arrays start.args.plan _ start.well-formed.0).1)
+    c.arrival-fault.ensures (plan_of start.args.plan) refl (arrivals_counted start.args.plan start.requires (plan_arrays start.args.plan _ start.well-formed.0).1)
 
 returns : tie.Need-returns
 returns c =
     let start = c.before.before.before in
     let p = plan_of start.args.plan in
-    let q = withArrivals p (arrivalOf start.args.time start.args.address start.args.value start.args.length ∷ []) in
-    (taken-faulty _ p q c.if1.true ∙ ap (λ n. taken n p q) (said c.before), start.requires)
+    let q = with_arrivals p (arrival_of start.args.time start.args.address start.args.value start.args.length ∷ []) in
+    (taken_faulty _ p q c.if1.true ∙ ap (λ n. taken n p q) (said c.before), start.requires)
 
 with-arrival-requires : tie.Need-with-arrival-requires
 with-arrival-requires c κs = search rules
@@ -36,14 +36,14 @@ returns-2 : tie.Need-returns-2
 returns-2 c =
     let start = c.before.before.before.before in
     let p = plan_of start.args.plan in
-    let q = withArrivals p (arrivalOf start.args.time start.args.address start.args.value start.args.length ∷ []) in
+    let q = with_arrivals p (arrival_of start.args.time start.args.address start.args.value start.args.length ∷ []) in
     let fine = c.before.if1.false in
     let told = c.with-arrival.ensures in
     let none = none-held 0 (λ v. v) (arrival-tried p start.args.address start.args.value start.args.length 1) refl (sym (said c.before.before) ∙ fine) in (
       ap (λ (q : Plan). record { fault = 0; plan = q }) told.0 ∙ taken_fine _ p q fine ∙ ap (λ n. taken n p q) (said c.before.before),
-      arrivals-fit start.args.plan _ 1 start.requires (plan-arrays start.args.plan _ start.well-formed.0).1 told.1.0 told.1.1.0 told.1.1.1 none.1.1.1.0,
+      arrivals-fit start.args.plan _ 1 start.requires (plan_arrays start.args.plan _ start.well-formed.0).1 told.1.0 told.1.1.0 told.1.1.1 none.1.1.1.0,
     )
 
-pub take-arrival-spec : {M : Type 1} → statement M
-take-arrival-spec =
+pub take_arrival_spec : {M : Type 1} → statement M
+take_arrival_spec =
     tie.close (tie.spec arrival-fault-requires returns with-arrival-requires returns-2)

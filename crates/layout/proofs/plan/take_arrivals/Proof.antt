@@ -8,10 +8,10 @@ use lib.ListN.{take}
 use Rattle.rules.specs.Lists.{first_of}
 use Rattle.state.specs.declared.Arrival.{Arrival}
 use Rattle.layout.specs.declared.plan.Plan as Coded
-use Rattle.layout.specs.Layout.{Plan, taken, withArrivals, arrivalOf, repeated, later, value_at, arrivalsTests, insertedAll}
+use Rattle.layout.specs.Layout.{Plan, taken, with_arrivals, arrival_of, repeated, later, value_at, arrivals_tests, inserted_all}
 use Rattle.layout.specs.Parts.{plan_of}
 use Rattle.layout.proofs.Inserting.{fits_below, last_within}
-use Rattle.layout.proofs.Planning.{plan-arrays, plan-narrow, taken-faulty, taken_fine, arrivals-counted, arrivals-planned, arrivals-fit, Repeats, repeats}
+use Rattle.layout.proofs.Planning.{plan_arrays, plan_narrow, taken_faulty, taken_fine, arrivals_counted, arrivals-planned, arrivals-fit, Repeats, repeats}
 use borrow.Author.Rules.{rules}
 use Rattle.layout.proofs.plan.take_arrivals.Statement.{statement}
 use Rattle.layout.proofs.plan.take_arrivals.Tie as tie
@@ -27,19 +27,19 @@ these start n =
     (suc n)
     args.from
     args.every
-    (λ time. arrivalOf time args.address (value_at args.plan.settings.discipline args.value time) args.length)
+    (λ time. arrival_of time args.address (value_at args.plan.settings.discipline args.value time) args.length)
 
 abbrev all : tie.Start → Plan
-all start = withArrivals (plan_of start.args.plan) (these start (later start.args.every start.args.from start.args.to))
+all start = with_arrivals (plan_of start.args.plan) (these start (later start.args.every start.args.from start.args.to))
 
 -- what the fault is
 said :
     (c : tie.After-arrivals-fault) → let start = c.before.before in
     let args = start.args in
-    c.arrivals-fault.result ≡ first_of 0 (arrivalsTests (plan_of args.plan) args.every args.from args.to args.address args.value args.length)
+    c.arrivals-fault.result ≡ first_of 0 (arrivals_tests (plan_of args.plan) args.every args.from args.to args.address args.value args.length)
 said c =
     let start = c.before.before in
-    c.arrivals-fault.ensures (plan_of start.args.plan) refl (arrivals-counted start.args.plan start.requires (plan-arrays start.args.plan _ start.well-formed.0).1)
+    c.arrivals-fault.ensures (plan_of start.args.plan) refl (arrivals_counted start.args.plan start.requires (plan_arrays start.args.plan _ start.well-formed.0).1)
 
 -- what holds where there is none
 right :
@@ -53,7 +53,7 @@ returns : tie.Need-returns
 returns c =
     let start = c.before.before.before in
     let p = plan_of start.args.plan in
-    (taken-faulty _ p _ c.if1.true ∙ ap (λ n. taken n p (all start)) (said c.before), start.requires)
+    (taken_faulty _ p _ c.if1.true ∙ ap (λ n. taken n p (all start)) (said c.before), start.requires)
 
 later-requires : tie.Need-later-requires
 later-requires c κs = ((right c).turns, (right c).onward)
@@ -67,14 +67,14 @@ insert-every-requires c κs =
     let start = tried.before.before.before in
     let args = start.args in
     let r = right tried in
-    let counted = arrivals-counted args.plan start.requires (plan-arrays args.plan _ start.well-formed.0).1 in
+    let counted = arrivals_counted args.plan start.requires (plan_arrays args.plan _ start.well-formed.0).1 in
     subst⁻¹
     (λ n.
     (args.plan.count + n < 4096)
     × ((args.from + n * args.every < 4_294_967_296) × (value_at args.plan.settings.discipline args.value (args.from + n * args.every) < 4_294_967_296)))
     c.before.later.ensures (
       omega (arith, r.short, counted),
-      (omega (arith, last_within args.every args.from args.to r.onward), fits_below args.plan.settings.discipline args.plan.settings.d _ (plan-narrow args.plan _ start.well-formed.0) r.last),
+      (omega (arith, last_within args.every args.from args.to r.onward), fits_below args.plan.settings.discipline args.plan.settings.d _ (plan_narrow args.plan _ start.well-formed.0) r.last),
     )
 
 add-with-arrivals : tie.Need-overflow-add-with-arrivals
@@ -96,14 +96,14 @@ returns-2 c =
     let rows = c.before.insert-every.result in
     let count = args.plan.count in
     let l = after.later.result in
-    let e = c.with-arrivals.ensures in
+    let e = c.with_many_arrivals.ensures in
     let fine = tried.if1.false in
     let r = right tried in (
       ap
           (λ (q : Plan). record { fault = 0; plan = q })
           (arrivals-planned
           args.plan
-          c.with-arrivals.result
+          c.with_many_arrivals.result
           rows
           (these start (later args.every args.from args.to))
           (count + l + 1)
@@ -111,7 +111,7 @@ returns-2 c =
           (ap (λ k. take k rows) (add-one (count + l))
           ∙ c.before.insert-every.ensures
           ∙ ap
-          (λ n. insertedAll (these start n) (take count args.plan.arrivals))
+          (λ n. inserted_all (these start n) (take count args.plan.arrivals))
           after.later.ensures))
           ∙ taken_fine _ p (all start) fine
           ∙ ap (λ n. taken n p (all start)) (said tried.before),
@@ -120,15 +120,15 @@ returns-2 c =
           _
           (suc (later args.every args.from args.to))
           start.requires
-          (plan-arrays args.plan _ start.well-formed.0).1
+          (plan_arrays args.plan _ start.well-formed.0).1
           (ap (λ (q : Coded.Plan). q.settings) e)
           (ap (λ (q : Coded.Plan). q.count) e ∙ omega (arith, after.later.ensures))
           (ap (λ (q : Coded.Plan). q.stage) e)
           r.short,
     )
 
-pub take-arrivals-spec : {M : Type 1} → statement M
-take-arrivals-spec =
+pub take_arrivals_spec : {M : Type 1} → statement M
+take_arrivals_spec =
     tie.close
     (tie.spec
     arrivals-fault-requires

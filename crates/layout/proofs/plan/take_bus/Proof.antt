@@ -2,11 +2,11 @@
 use mathlib.Core.Path.{◌≡◌, refl, sym, ap, ◌∙◌}
 use native.Mathlib.Omega.{arith}
 use lib.ListN.{drop, get_or}
-use Rattle.words.specs.Words.{first_word, afterWord}
-use Rattle.layout.specs.Layout.{Plan, Fields, disciplineNamed, fieldsIn, labelsOf, bus-line, settingsSaid, busFault, withBus, takeBus, taken}
+use Rattle.words.specs.Words.{first_word, after_word}
+use Rattle.layout.specs.Layout.{Plan, Fields, discipline_named, fields_in, labels_of, bus_line, settings_said, bus_fault, with_bus, take_bus, taken}
 use Rattle.layout.specs.Parts.{padded, plan_of}
 use Rattle.layout.proofs.InLine.{Spanned, spanned}
-use Rattle.layout.proofs.Planning.{taken-faulty, taken_fine, bus-unnamed, bus-faulty, bus-said, settings-said, bus-planned}
+use Rattle.layout.proofs.Planning.{taken_faulty, taken_fine, bus_unnamed, bus_faulty, bus-said, settings-said, bus-planned}
 use borrow.Author.Rules.{rules}
 use Rattle.layout.proofs.plan.take_bus.Statement.{statement}
 use Rattle.layout.proofs.plan.take_bus.Tie as tie
@@ -37,17 +37,17 @@ discipline-named-requires c κs = search rules
 -- the discipline that it names
 named :
     (c : tie.After-discipline-named) → let args = c.before.before.before.before.args in
-    c.discipline-named.result ≡ disciplineNamed (first_word (drop args.at args.line.now))
-named c = c.discipline-named.ensures ∙ ap disciplineNamed (second c.before.before).word
+    c.discipline-named.result ≡ discipline_named (first_word (drop args.at args.line.now))
+named c = c.discipline-named.ensures ∙ ap discipline_named (second c.before.before).word
 
 returns : tie.Need-returns
 returns c =
     let start = c.before.before.before.before.before in
     let rest = drop start.args.at start.args.line.now in (
-      bus-unnamed
+      bus_unnamed
           (plan_of start.args.plan)
-          (disciplineNamed (first_word rest))
-          (fieldsIn (labelsOf bus-line 0) (afterWord rest))
+          (discipline_named (first_word rest))
+          (fields_in (labels_of bus_line 0) (after_word rest))
           (sym (named c.before) ∙ c.if1.true),
       start.requires.0,
     )
@@ -58,29 +58,29 @@ fields-in-requires c κs = (second c.before.before.before).within
 -- its words and numbers are read after it
 after :
     (c : tie.After-fields-in) → let start = c.before.before.before.before.before.before in
-    drop c.before.before.before.before.word_at.result.to start.args.line.now ≡ afterWord (drop start.args.at start.args.line.now)
+    drop c.before.before.before.before.word_at.result.to start.args.line.now ≡ after_word (drop start.args.at start.args.line.now)
 after c = (second c.before.before.before.before).after
 
 fault-said :
     (c : tie.After-fields-in) → let start = c.before.before.before.before.before.before in
-    c.fields_in.result.fault ≡ (fieldsIn (labelsOf bus-line 0) (afterWord (drop start.args.at start.args.line.now))).fault
-fault-said c = c.fields_in.ensures.0 ∙ ap (λ r. (fieldsIn (labelsOf bus-line 0) r).fault) (after c)
+    c.fields_in.result.fault ≡ (fields_in (labels_of bus_line 0) (after_word (drop start.args.at start.args.line.now))).fault
+fault-said c = c.fields_in.ensures.0 ∙ ap (λ r. (fields_in (labels_of bus_line 0) r).fault) (after c)
 
 values-said :
     (c : tie.After-fields-in) → let start = c.before.before.before.before.before.before in
     c.fields_in.result.fault ≡ 0
-    → c.fields_in.result.values ≡ padded (fieldsIn (labelsOf bus-line 0) (afterWord (drop start.args.at start.args.line.now))).values
-values-said c e = c.fields_in.ensures.1 e ∙ ap (λ r. padded (fieldsIn (labelsOf bus-line 0) r).values) (after c)
+    → c.fields_in.result.values ≡ padded (fields_in (labels_of bus_line 0) (after_word (drop start.args.at start.args.line.now))).values
+values-said c e = c.fields_in.ensures.1 e ∙ ap (λ r. padded (fields_in (labels_of bus_line 0) r).values) (after c)
 
 returns-2 : tie.Need-returns-2
 returns-2 c =
     let got = c.before.before in
     let start = got.before.before.before.before.before.before in
     let rest = drop start.args.at start.args.line.now in (
-      bus-faulty
+      bus_faulty
           (plan_of start.args.plan)
-          (disciplineNamed (first_word rest))
-          (fieldsIn (labelsOf bus-line 0) (afterWord rest))
+          (discipline_named (first_word rest))
+          (fields_in (labels_of bus_line 0) (after_word rest))
           got.fields_in.result.fault
           (λ e. got.before.if1.false (named got.before.before ∙ e))
           (fault-said got)
@@ -106,7 +106,7 @@ said :
     let start = got.before.before.before.before.before.before in
     let rest = drop start.args.at start.args.line.now in
     let p = plan_of start.args.plan in
-    let g = settingsSaid (disciplineNamed (first_word rest)) (fieldsIn (labelsOf bus-line 0) (afterWord rest)).values in
+    let g = settings_said (discipline_named (first_word rest)) (fields_in (labels_of bus_line 0) (after_word rest)).values in
     (record {
       discipline = got.before.before.discipline-named.result;
       d = get_or got.fields_in.result.values 0 0;
@@ -115,24 +115,24 @@ said :
       n = 0;
     }
     ≡ g)
-    × (taken c.bus-fault.result p (withBus p g) ≡ takeBus p (disciplineNamed (first_word rest)) (fieldsIn (labelsOf bus-line 0) (afterWord rest)))
+    × (taken c.bus-fault.result p (with_bus p g) ≡ take_bus p (discipline_named (first_word rest)) (fields_in (labels_of bus_line 0) (after_word rest)))
 said c =
     let got = c.before.before.before.before in
     let start = got.before.before.before.before.before.before in
     let rest = drop start.args.at start.args.line.now in
     let p = plan_of start.args.plan in
-    let x = fieldsIn (labelsOf bus-line 0) (afterWord rest) in
+    let x = fields_in (labels_of bus_line 0) (after_word rest) in
     let fine = c.before.before.if2.false in
-    let same = settings-said _ (disciplineNamed (first_word rest)) _ x.values (named got.before.before) (values-said got fine) in (
+    let same = settings-said _ (discipline_named (first_word rest)) _ x.values (named got.before.before) (values-said got fine) in (
       same,
-      ap (λ n. taken n p (withBus p (settingsSaid (disciplineNamed (first_word rest)) x.values))) (c.bus-fault.ensures ∙ ap busFault same)
-          ∙ bus-said p (disciplineNamed (first_word rest)) x (λ e. got.before.if1.false (named got.before.before ∙ e)) (sym (fault-said got) ∙ fine),
+      ap (λ n. taken n p (with_bus p (settings_said (discipline_named (first_word rest)) x.values))) (c.bus-fault.ensures ∙ ap bus_fault same)
+          ∙ bus-said p (discipline_named (first_word rest)) x (λ e. got.before.if1.false (named got.before.before ∙ e)) (sym (fault-said got) ∙ fine),
     )
 
 returns-3 : tie.Need-returns-3
 returns-3 c =
     let start = c.before.before.before.before.before.before.before.before.before.before.before in
-    (taken-faulty c.before.bus-fault.result (plan_of start.args.plan) _ c.if3.true ∙ (said c.before).1, start.requires.0)
+    (taken_faulty c.before.bus-fault.result (plan_of start.args.plan) _ c.if3.true ∙ (said c.before).1, start.requires.0)
 
 returns-4 : tie.Need-returns-4
 returns-4 c =
@@ -140,16 +140,16 @@ returns-4 c =
     let fits = start.requires.0 in
     let stage : start.args.plan.stage ≡ 0 = start.requires.1.0 in
     let none = fits.first stage in
-    let no-arrival = fits.early (omega arith) in
+    let no_arrival_fault = fits.early (omega arith) in
     let s = said c.before in (
       ap (λ (q : Plan). record { fault = 0; plan = q }) (bus-planned start.args.plan _ _ none refl s.0)
           ∙ taken_fine c.before.bus-fault.result (plan_of start.args.plan) _ c.if3.false
           ∙ s.1,
-      record { few = omega arith; short = omega (arith, no-arrival); first = λ e. absurd (omega arith); early = λ h. no-arrival },
+      record { few = omega arith; short = omega (arith, no_arrival_fault); first = λ e. absurd (omega arith); early = λ h. no_arrival_fault },
     )
 
-pub take-bus-spec : {M : Type 1} → statement M
-take-bus-spec =
+pub take_bus_spec : {M : Type 1} → statement M
+take_bus_spec =
     tie.close
     (tie.spec
     word-at-requires

@@ -1,10 +1,10 @@
 -- `plan::take_kind` meets its contract: the bus, or the words and numbers of another line. Assumes nothing.
 use mathlib.Core.Path.{◌≡◌, sym, ap, ◌∙◌}
 use lib.ListN.{drop}
-use Rattle.layout.specs.Layout.{labelsOf, fieldsIn, placeFault}
+use Rattle.layout.specs.Layout.{labels_of, fields_in, place_fault}
 use Rattle.layout.specs.Parts.{plan_of}
-use Rattle.layout.proofs.Steps.{bus-place, station-place}
-use Rattle.layout.proofs.Planning.{fields-faulty, fields-fine, kind-bus, kind-other}
+use Rattle.layout.proofs.Steps.{bus_place, station_place}
+use Rattle.layout.proofs.Planning.{fields_faulty, fields_fine, kind_bus, kind_other}
 use borrow.Author.Rules.{rules}
 use Rattle.layout.proofs.plan.take_kind.Statement.{statement}
 use Rattle.layout.proofs.plan.take_kind.Tie as tie
@@ -14,13 +14,13 @@ take-bus-requires c κs =
     let start = c.before.before in
     let g = start.args.plan in (
       start.requires.0,
-      (bus-place g.stage g.settings.n (ap (placeFault g.stage g.settings.n) (sym c.if1.true) ∙ start.requires.1.0), start.requires.1.1),
+      (bus_place g.stage g.settings.n (ap (place_fault g.stage g.settings.n) (sym c.if1.true) ∙ start.requires.1.0), start.requires.1.1),
     )
 
 returns : tie.Need-returns
 returns c =
     let start = c.before.before.before in
-    (c.take-bus.ensures.0 ∙ kind-bus (plan_of start.args.plan) _ (drop start.args.at start.args.line.now) c.before.if1.true, c.take-bus.ensures.1)
+    (c.bus_line_taken.ensures.0 ∙ kind_bus (plan_of start.args.plan) _ (drop start.args.at start.args.line.now) c.before.if1.true, c.bus_line_taken.ensures.1)
 
 fields-in-requires : tie.Need-fields-in-requires
 fields-in-requires c κs = search rules
@@ -31,8 +31,8 @@ returns-2 c =
     let start = got.before.before.before.before in
     let rest = drop start.args.at start.args.line.now in
     let p = plan_of start.args.plan in (
-      fields-faulty p start.args.kind (fieldsIn (labelsOf start.args.kind start.args.plan.settings.discipline) rest) got.fields_in.result.fault got.fields_in.ensures.0 c.if2.true
-          ∙ kind-other p start.args.kind rest got.before.before.if1.false,
+      fields_faulty p start.args.kind (fields_in (labels_of start.args.kind start.args.plan.settings.discipline) rest) got.fields_in.result.fault got.fields_in.ensures.0 c.if2.true
+          ∙ kind_other p start.args.kind rest got.before.before.if1.false,
       start.requires.0,
     )
 
@@ -40,7 +40,7 @@ take-said-requires : tie.Need-take-said-requires
 take-said-requires c κs =
     let start = c.before.before.before.before.before.before.before in
     let g = start.args.plan in
-    (start.requires.0, λ k. station-place g.stage g.settings.n (ap (placeFault g.stage g.settings.n) (sym k) ∙ start.requires.1.0))
+    (start.requires.0, λ k. station_place g.stage g.settings.n (ap (place_fault g.stage g.settings.n) (sym k) ∙ start.requires.1.0))
 
 returns-3 : tie.Need-returns-3
 returns-3 c =
@@ -49,13 +49,13 @@ returns-3 c =
     let start = got.before.before.before.before in
     let rest = drop start.args.at start.args.line.now in
     let p = plan_of start.args.plan in (
-      c.take-said.ensures.0 (fieldsIn (labelsOf start.args.kind start.args.plan.settings.discipline) rest).values (got.fields_in.ensures.1 fine.if2.false)
-          ∙ fields-fine p start.args.kind (fieldsIn (labelsOf start.args.kind start.args.plan.settings.discipline) rest) (sym got.fields_in.ensures.0 ∙ fine.if2.false)
-          ∙ kind-other p start.args.kind rest got.before.before.if1.false,
-      c.take-said.ensures.1,
+      c.said_taken.ensures.0 (fields_in (labels_of start.args.kind start.args.plan.settings.discipline) rest).values (got.fields_in.ensures.1 fine.if2.false)
+          ∙ fields_fine p start.args.kind (fields_in (labels_of start.args.kind start.args.plan.settings.discipline) rest) (sym got.fields_in.ensures.0 ∙ fine.if2.false)
+          ∙ kind_other p start.args.kind rest got.before.before.if1.false,
+      c.said_taken.ensures.1,
     )
 
-pub take-kind-spec : {M : Type 1} → statement M
-take-kind-spec =
+pub take_kind_spec : {M : Type 1} → statement M
+take_kind_spec =
     tie.close
     (tie.spec take-bus-requires returns fields-in-requires returns-2 take-said-requires returns-3)

@@ -1,7 +1,7 @@
 -- `plan::take_said` meets its contract: by the kind of the line. Assumes nothing.
 use mathlib.Core.Path.{sym, ap, ◌∙◌}
 use borrow.Author.Tests.{ne_eqb}
-use Rattle.layout.specs.Layout.{takeSaid}
+use Rattle.layout.specs.Layout.{take_said}
 use Rattle.layout.specs.Parts.{plan_of}
 use Rattle.layout.proofs.Firsts.{passed}
 use Rattle.layout.proofs.Planning.{said_same}
@@ -79,32 +79,32 @@ returns : tie.Need-returns
 returns c =
     let args = c.before.before.args in
     let p = plan_of args.plan in (
-      λ vs e. c.take-station.ensures.0 ∙ said_same p 2 _ vs e ∙ ap (λ k. takeSaid p k vs) (sym c.before.match.keys1),
-      c.take-station.ensures.1,
+      λ vs e. c.station_taken.ensures.0 ∙ said_same p 2 _ vs e ∙ ap (λ k. take_said p k vs) (sym c.before.match.keys1),
+      c.station_taken.ensures.1,
     )
 
 returns-2 : tie.Need-returns-2
 returns-2 c =
     let args = c.before.before.args in
     let p = plan_of args.plan in (
-      λ vs e. c.take-arrival.ensures.0 ∙ said_same p 3 _ vs e ∙ ap (λ k. takeSaid p k vs) (sym c.before.match.keys2),
-      c.take-arrival.ensures.1,
+      λ vs e. c.arrival_taken.ensures.0 ∙ said_same p 3 _ vs e ∙ ap (λ k. take_said p k vs) (sym c.before.match.keys2),
+      c.arrival_taken.ensures.1,
     )
 
 returns-3 : tie.Need-returns-3
 returns-3 c =
     let args = c.before.before.args in
     let p = plan_of args.plan in (
-      λ vs e. c.take-arrivals.ensures.0 ∙ said_same p 4 _ vs e ∙ ap (λ k. takeSaid p k vs) (sym c.before.match.keys3),
-      c.take-arrivals.ensures.1,
+      λ vs e. c.arrivals_taken.ensures.0 ∙ said_same p 4 _ vs e ∙ ap (λ k. take_said p k vs) (sym c.before.match.keys3),
+      c.arrivals_taken.ensures.1,
     )
 
 returns-4 : tie.Need-returns-4
 returns-4 c =
     let args = c.before.before.args in
     let p = plan_of args.plan in (
-      λ vs e. c.take-attempt.ensures.0 ∙ said_same p 5 _ vs e ∙ ap (λ k. takeSaid p k vs) (sym c.before.match.keys4),
-      c.take-attempt.ensures.1,
+      λ vs e. c.attempt_taken.ensures.0 ∙ said_same p 5 _ vs e ∙ ap (λ k. take_said p k vs) (sym c.before.match.keys4),
+      c.attempt_taken.ensures.1,
     )
 
 returns-5 : tie.Need-returns-5
@@ -113,18 +113,18 @@ returns-5 c =
     let p = plan_of args.plan in
     let no = c.before.match.rest in (
       λ vs e.
-          c.take-run.ensures.0
+          c.run_line_taken.ensures.0
           ∙ said_same p 6 _ vs e
           ∙ sym
           (passed _ _ (ne_eqb _ _ no.0.0.0.1)
           ∙ passed _ _ (ne_eqb _ _ no.0.0.1)
           ∙ passed _ _ (ne_eqb _ _ no.0.1)
           ∙ passed _ _ (ne_eqb _ _ no.1)),
-      c.take-run.ensures.1,
+      c.run_line_taken.ensures.1,
     )
 
-pub take-said-spec : {M : Type 1} → statement M
-take-said-spec =
+pub take_said_spec : {M : Type 1} → statement M
+take_said_spec =
     tie.close
     (tie.spec
     array-read-take-station

@@ -1,11 +1,11 @@
 -- `plan::take_station` meets its contract: the set-up of the stations so far, with one more. Assumes nothing.
 use mathlib.Core.Path.{◌≡◌, sym, ap, ◌∙◌}
 use native.Mathlib.Omega.{arith}
-use Rattle.rules.specs.SetUp.{setUpVerdict}
+use Rattle.rules.specs.SetUp.{set_up_verdict}
 use Rattle.state.specs.declared.SetUp.{SetUp}
-use Rattle.layout.specs.Layout.{Plan, withStation, requestIn}
+use Rattle.layout.specs.Layout.{Plan, with_station, request_in}
 use Rattle.layout.specs.Parts.{plan_of}
-use Rattle.layout.proofs.Planning.{plan-arrays, taken-faulty, taken_fine, station-full, station-tried, station-asked, station-planned}
+use Rattle.layout.proofs.Planning.{plan_arrays, taken_faulty, taken_fine, station_full, station-tried, station-asked, station-planned}
 use borrow.Author.Rules.{rules}
 use Rattle.layout.proofs.plan.take_station.Statement.{statement}
 use Rattle.layout.proofs.plan.take_station.Tie as tie
@@ -13,7 +13,7 @@ use Rattle.layout.proofs.plan.take_station.Tie as tie
 returns : tie.Need-returns
 returns c =
     let start = c.before.before in
-    (station-full (plan_of start.args.plan) _ c.if1.true, start.requires.0)
+    (station_full (plan_of start.args.plan) _ c.if1.true, start.requires.0)
 
 mul-stations : tie.Need-overflow-mul-stations
 mul-stations c = search rules
@@ -33,20 +33,20 @@ set-up-requires c κs = search rules
 -- what the set-up says of it
 tried :
     (c : tie.After-set-up) → let start = c.before.before.before.before in
-    c.set-up.result.verdict.refusal
-    ≡ (setUpVerdict (requestIn (withStation (plan_of start.args.plan) (record { address = start.args.address; capability = start.args.capability })))).refusal
+    c.set_up_call.result.verdict.refusal
+    ≡ (set_up_verdict (request_in (with_station (plan_of start.args.plan) (record { address = start.args.address; capability = start.args.capability })))).refusal
 tried c =
     let start = c.before.before.before.before in
-    let full = (plan-arrays start.args.plan _ start.well-formed.0).0 in
-    ap (λ (r : SetUp). r.verdict.refusal) c.set-up.ensures
-    ∙ ap (λ r. (setUpVerdict r).refusal) (station-asked start.args.plan _ (omega (arith, full, c.before.before.if1.false)))
+    let full = (plan_arrays start.args.plan _ start.well-formed.0).0 in
+    ap (λ (r : SetUp). r.verdict.refusal) c.set_up_call.ensures
+    ∙ ap (λ r. (set_up_verdict r).refusal) (station-asked start.args.plan _ (omega (arith, full, c.before.before.if1.false)))
 
 returns-2 : tie.Need-returns-2
 returns-2 c =
     let start = c.before.before.before.before.before.before in
     let p = plan_of start.args.plan in
-    let fault = c.before.before.set-up.result.verdict.refusal in (
-      taken-faulty fault p (withStation p _) c.if2.true
+    let fault = c.before.before.set_up_call.result.verdict.refusal in (
+      taken_faulty fault p (with_station p _) c.if2.true
           ∙ station-tried p _ fault c.before.before.before.before.if1.false (tried c.before.before),
       start.requires.0,
     )
@@ -56,13 +56,13 @@ returns-3 c =
     let start = c.before.before.before.before.before.before in
     let before = start.args.plan in
     let p = plan_of before in
-    let fault = c.before.before.set-up.result.verdict.refusal in
+    let fault = c.before.before.set_up_call.result.verdict.refusal in
     let less = c.before.before.before.before.if1.false in
-    let full = (plan-arrays before _ start.well-formed.0).0 in
+    let full = (plan_arrays before _ start.well-formed.0).0 in
     let fits = start.requires.0 in
     let stage : before.stage ≡ 1 = start.requires.1 in (
       ap (λ (q : Plan). record { fault = 0; plan = q }) (station-planned before _ (omega (arith, full, less)))
-          ∙ taken_fine fault p (withStation p _) c.if2.false
+          ∙ taken_fine fault p (with_station p _) c.if2.false
           ∙ station-tried p _ fault less (tried c.before.before),
       record {
         few = omega arith;
@@ -72,8 +72,8 @@ returns-3 c =
       },
     )
 
-pub take-station-spec : {M : Type 1} → statement M
-take-station-spec =
+pub take_station_spec : {M : Type 1} → statement M
+take_station_spec =
     tie.close
     (tie.spec
     returns

@@ -23,10 +23,10 @@ returns : tie.Need-returns
 returns c =
     let start = c.before.before.before in
     let p = start.args.plan in
-    let e = c.with-arrivals.ensures in (
+    let e = c.with_many_arrivals.ensures in (
       arrivals-planned
           p
-          c.with-arrivals.result
+          c.with_many_arrivals.result
           c.before.insert.result
           (_ ∷ [])
           (p.count + 1)
@@ -35,6 +35,6 @@ returns c =
       (ap (λ (q : Coded.Plan). q.settings) e, (ap (λ (q : Coded.Plan). q.count) e, ap (λ (q : Coded.Plan). q.stage) e)),
     )
 
-pub with-arrival-spec : {M : Type 1} → statement M
-with-arrival-spec =
+pub with_arrival_spec : {M : Type 1} → statement M
+with_arrival_spec =
     tie.close (tie.spec insert-requires add-with-arrivals with-arrivals-requires returns)

@@ -2,7 +2,7 @@
 use native.Mathlib.Omega.{arith}
 use borrow.Author.Rules.{rules}
 use Rattle.text.specs.Parts.{Told}
-use Rattle.text.proofs.Stores.{told_none, told-then, told-within, told-stored}
+use Rattle.text.proofs.Stores.{told_none, told-then, told_within, told-stored}
 use Rattle.listing.specs.Text.{R}
 use Rattle.listing.proofs.telling.arrival.Statement.{statement}
 use Rattle.listing.proofs.telling.arrival.Tie as tie
@@ -32,7 +32,7 @@ returns c =
     let second = third.before.before in
     let first = second.before.before in
     let first_word = first.before.before in
-    told-within
+    told_within
     (told-then
     (told-then
     (word first_word)
@@ -42,8 +42,8 @@ returns c =
     c.newline.ensures)
     (omega arith)
 
-pub arrival-spec : {M : Type 1} → statement M
-arrival-spec =
+pub arrival_spec : {M : Type 1} → statement M
+arrival_spec =
     tie.close
     (tie.spec
     put-requires

@@ -3,7 +3,7 @@ use native.Mathlib.Omega.{arith}
 use borrow.Author.Rules.{rules}
 use borrow.Author.Tests.{eq-eqb, ne_eqb}
 use Rattle.text.specs.Parts.{Told}
-use Rattle.text.proofs.Stores.{told_none, told-then, told-within, told-stored}
+use Rattle.text.proofs.Stores.{told_none, told-then, told_within, told-stored}
 use Rattle.listing.specs.Text.{D}
 use Rattle.listing.proofs.telling.dropped.Statement.{statement}
 use Rattle.listing.proofs.telling.dropped.Tie as tie
@@ -34,9 +34,9 @@ returns-2 c =
     let test = first_word.before.before in
     let count = test.before.before.args.answer.drops in
     rw (ne_eqb count 0 test.if1.false)
-    (told-within
+    (told_within
     (told-then (told-then (word first_word) (told-then field.field.ensures (told_none _ _ 0))) c.newline.ensures)
     (omega arith))
 
-pub dropped-spec : {M : Type 1} → statement M
-dropped-spec = tie.close (tie.spec returns put-requires field-requires newline-requires returns-2)
+pub dropped_spec : {M : Type 1} → statement M
+dropped_spec = tie.close (tie.spec returns put-requires field-requires newline-requires returns-2)

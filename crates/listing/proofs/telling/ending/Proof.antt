@@ -2,7 +2,7 @@
 use native.Mathlib.Omega.{arith}
 use borrow.Author.Rules.{rules}
 use Rattle.text.specs.Parts.{Told}
-use Rattle.text.proofs.Stores.{told_none, told-then, told-within, told-stored}
+use Rattle.text.proofs.Stores.{told_none, told-then, told_within, told-stored}
 use Rattle.listing.specs.Text.{END}
 use Rattle.listing.proofs.telling.ending.Statement.{statement}
 use Rattle.listing.proofs.telling.ending.Tie as tie
@@ -47,7 +47,7 @@ returns c =
     let admitted = sent.before.before in
     let clock = admitted.before.before in
     let first_word = clock.before.before in
-    told-within
+    told_within
     (told-then
     (told-then
     (word first_word)
@@ -61,8 +61,8 @@ returns c =
     c.newline.ensures)
     (omega arith)
 
-pub ending-spec : {M : Type 1} → statement M
-ending-spec =
+pub ending_spec : {M : Type 1} → statement M
+ending_spec =
     tie.close
     (tie.spec
     slice-aggregate-letters

@@ -19,5 +19,5 @@ returns-3 c =
     let event = c.before.before.args.event in
     ap₂ (λ t u. cond t 73 (cond u 67 83)) (sym (ne_eqb event 0 c.before.if1.false)) (sym (ne_eqb event 1 c.if2.false))
 
-pub event-letter-spec : {M : Type 1} → statement M
-event-letter-spec = tie.close (tie.spec returns returns-2 returns-3)
+pub event_letter_spec : {M : Type 1} → statement M
+event_letter_spec = tie.close (tie.spec returns returns-2 returns-3)

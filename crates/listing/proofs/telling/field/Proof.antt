@@ -3,7 +3,7 @@ use mathlib.Core.List.{[], ◌∷◌}
 use native.Mathlib.Omega.{arith}
 use borrow.Author.Rules.{rules}
 use Rattle.text.specs.Text.{space, decimal}
-use Rattle.text.proofs.Decimals.{decimal-long}
+use Rattle.text.proofs.Decimals.{decimal_long}
 use Rattle.text.proofs.Stores.{told-then, told-stored}
 use Rattle.listing.proofs.telling.field.Statement.{statement}
 use Rattle.listing.proofs.telling.field.Tie as tie
@@ -18,9 +18,9 @@ returns : tie.Need-returns
 returns c =
     let spaced = c.before.before in
     let args = spaced.before.before.args in
-    let few = decimal-long args.n (omega arith) in
+    let few = decimal_long args.n (omega arith) in
     let first = told-stored args.room.now args.at (space ∷ []) 1 (omega arith) (omega arith) spaced.put.ensures in
     told-then first (told-stored spaced.put.new.0 spaced.put.result (decimal args.n) 20 (omega arith) few c.number.ensures)
 
-pub field-spec : {M : Type 1} → statement M
-field-spec = tie.close (tie.spec put-requires number-requires returns)
+pub field_spec : {M : Type 1} → statement M
+field_spec = tie.close (tie.spec put-requires number-requires returns)

@@ -20,5 +20,5 @@ returns c =
     let first = told-stored args.room.now args.at (space ∷ []) 1 (omega arith) (omega arith) spaced.put.ensures in
     told-then first (told-stored spaced.put.new.0 spaced.put.result (args.byte ∷ []) 1 (omega arith) (omega arith) c.put2.ensures)
 
-pub letter-spec : {M : Type 1} → statement M
-letter-spec = tie.close (tie.spec put-requires put-requires-2 returns)
+pub letter_spec : {M : Type 1} → statement M
+letter_spec = tie.close (tie.spec put-requires put-requires-2 returns)

@@ -15,5 +15,5 @@ returns c =
     let args = c.before.before.args in
     told-stored args.room.now args.at (newline ∷ []) 1 (omega arith) (omega arith) c.put.ensures
 
-pub newline-spec : {M : Type 1} → statement M
-newline-spec = tie.close (tie.spec put-requires returns)
+pub newline_spec : {M : Type 1} → statement M
+newline_spec = tie.close (tie.spec put-requires returns)

@@ -1,7 +1,7 @@
 -- `telling::opening` meets its contract: its fields, one after the other. Assumes nothing.
 use native.Mathlib.Omega.{arith}
 use borrow.Author.Rules.{rules}
-use Rattle.text.proofs.Stores.{told_none, told-then, told-within}
+use Rattle.text.proofs.Stores.{told_none, told-then, told_within}
 use Rattle.listing.proofs.telling.opening.Statement.{statement}
 use Rattle.listing.proofs.telling.opening.Tie as tie
 
@@ -32,7 +32,7 @@ returns c =
     let start = size.before.before in
     let phase = start.before.before in
     let slot = phase.before.before.before in
-    told-within
+    told_within
     (told-then
     (told-then
     (told-then slot.short-number.ensures (rw phase.before.phase-letter.ensures at phase.letter.ensures))
@@ -40,8 +40,8 @@ returns c =
     (rw c.before.event-letter.ensures at c.letter2.ensures))
     (omega arith)
 
-pub opening-spec : {M : Type 1} → statement M
-opening-spec =
+pub opening_spec : {M : Type 1} → statement M
+opening_spec =
     tie.close
     (tie.spec
     short-number-requires

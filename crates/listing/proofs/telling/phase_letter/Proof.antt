@@ -11,5 +11,5 @@ returns c = ap (λ t. cond t 80 84) (sym (eq-eqb c.before.args.phase 0 c.if1.tru
 returns-2 : tie.Need-returns-2
 returns-2 c = ap (λ t. cond t 80 84) (sym (ne_eqb c.before.args.phase 0 c.if1.false))
 
-pub phase-letter-spec : {M : Type 1} → statement M
-phase-letter-spec = tie.close (tie.spec returns returns-2)
+pub phase_letter_spec : {M : Type 1} → statement M
+phase_letter_spec = tie.close (tie.spec returns returns-2)

@@ -3,7 +3,7 @@ use native.Mathlib.Omega.{arith}
 use borrow.Author.Rules.{rules}
 use Rattle.text.specs.Text.{REFUSED}
 use Rattle.text.specs.Parts.{Told}
-use Rattle.text.proofs.Stores.{told_none, told-then, told-within, told-stored}
+use Rattle.text.proofs.Stores.{told_none, told-then, told_within, told-stored}
 use Rattle.listing.proofs.telling.refused.Statement.{statement}
 use Rattle.listing.proofs.telling.refused.Tie as tie
 
@@ -31,7 +31,7 @@ returns c =
     let second = c.before.before in
     let first = second.before.before in
     let first_word = first.before.before in
-    told-within
+    told_within
     (told-then
     (told-then
     (word first_word)
@@ -39,8 +39,8 @@ returns c =
     c.newline.ensures)
     (omega arith)
 
-pub refused-spec : {M : Type 1} → statement M
-refused-spec =
+pub refused_spec : {M : Type 1} → statement M
+refused_spec =
     tie.close
     (tie.spec
     slice-aggregate-letters

@@ -21,5 +21,5 @@ short-number-requires c κs = let first = spaced c.before in omega arith
 returns : tie.Need-returns
 returns c = told-then (spaced c.before.before) c.short-number.ensures
 
-pub short-field-spec : {M : Type 1} → statement M
-short-field-spec = tie.close (tie.spec put-requires short-number-requires returns)
+pub short_field_spec : {M : Type 1} → statement M
+short_field_spec = tie.close (tie.spec put-requires short-number-requires returns)

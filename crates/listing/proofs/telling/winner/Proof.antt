@@ -2,7 +2,7 @@
 use native.Mathlib.Omega.{arith}
 use borrow.Author.Rules.{rules}
 use borrow.Author.Tests.{lt-ltb, le-ltb}
-use Rattle.text.proofs.Stores.{told_none, told-then, told-within}
+use Rattle.text.proofs.Stores.{told_none, told-then, told_within}
 use Rattle.listing.proofs.telling.winner.Statement.{statement}
 use Rattle.listing.proofs.telling.winner.Tie as tie
 
@@ -31,7 +31,7 @@ returns-2 c =
     let test = address.before.before in
     let event = test.before.before.args.answer.event in
     rw (le-ltb event 2 test.if1.false)
-    (told-within
+    (told_within
     (told-then
     address.short-field.ensures
     (told-then
@@ -39,8 +39,8 @@ returns-2 c =
     (told-then length.short-field3.ensures (told-then c.short-field4.ensures (told_none _ _ 0)))))
     (omega arith))
 
-pub winner-spec : {M : Type 1} → statement M
-winner-spec =
+pub winner_spec : {M : Type 1} → statement M
+winner_spec =
     tie.close
     (tie.spec
     returns

@@ -1,14 +1,14 @@
 -- `kind` meets its contract: each arm stores the words that the rows have for its kind. Assumes nothing.
 use mathlib.Core.Path.{refl}
 use mathlib.Core.List.{[]}
-use Rattle.meanings.specs.Refused.{kinds, kindWords}
+use Rattle.meanings.specs.Refused.{kinds, kind_words}
 use Rattle.meanings.proofs.Words.{others}
 use Rattle.meanings.proofs.records.kind.Statement.{statement}
 use Rattle.meanings.proofs.records.kind.Tie as tie
 
-pub kind-spec : {M : Type 1} → statement M
-unfolding kindWords
-kind-spec =
+pub kind_spec : {M : Type 1} → statement M
+unfolding kind_words
+kind_spec =
     tie.close
     (tie.spec
     (λ c. refl)

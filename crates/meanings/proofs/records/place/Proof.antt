@@ -38,8 +38,8 @@ loop-again c =
 returns : tie.Need-returns invariant-loop decreases-loop
 returns c = at_last c.before.loop.invariant (omega arith)
 
-pub place-spec : {M : Type 1} → statement M
-place-spec =
+pub place_spec : {M : Type 1} → statement M
+place_spec =
     tie.close
     (tie.spec
     invariant-loop

@@ -6,10 +6,10 @@ use borrow.Author.Rules.{rules}
 use borrow.Author.Rules.{part_to_end}
 use lib.ListN.{drop}
 use Rattle.text.specs.Text.{bytes, decimal}
-use Rattle.text.proofs.Decimals.{decimal-long}
+use Rattle.text.proofs.Decimals.{decimal_long}
 use Rattle.text.proofs.Stores.{told-stored}
-use Rattle.meanings.specs.Refused.{recordWords}
-use Rattle.meanings.proofs.Words.{record-short}
+use Rattle.meanings.specs.Refused.{record_words}
+use Rattle.meanings.proofs.Words.{record_short}
 use Rattle.meanings.proofs.Telling.{told_more}
 use Rattle.meanings.proofs.records.told.Statement.{statement}
 use Rattle.meanings.proofs.records.told.Tie as tie
@@ -66,18 +66,18 @@ returns c =
     let offset = start.args.offset in
     let rest = drop offset input in
     let h = start.requires.0 in
-    let digits = decimal-long place.place.result (search rules) in
+    let digits = decimal_long place.place.result (search rules) in
     let what = rw (part_to_end input offset) at said.what.ensures in
     let a = told-stored start.args.room.now start.args.at (bytes "; record ") 9 (omega (arith, h)) (omega arith) word.letters.ensures in
     let b = told_more (decimal place.place.result) 20 a (omega (arith, h)) digits number.number.ensures in
     let d = told_more (bytes ", ") 2 b (omega (arith, h)) (omega arith) apart.letters2.ensures in
-    let e = told_more (recordWords rest) 20 d (omega (arith, h)) (record-short rest) what in
+    let e = told_more (record_words rest) 20 d (omega (arith, h)) (record_short rest) what in
     let f = told_more (bytes ", at byte ") 10 e (omega (arith, h)) (omega arith) byte.letters3.ensures in
-    let g = told_more (decimal offset) 20 f (omega (arith, h)) (decimal-long offset (search rules)) c.number2.ensures in
+    let g = told_more (decimal offset) 20 f (omega (arith, h)) (decimal_long offset (search rules)) c.number2.ensures in
     rw (sym place.place.ensures) (simp append_assoc at g)
 
-pub told-spec : {M : Type 1} → statement M
-told-spec =
+pub told_spec : {M : Type 1} → statement M
+told_spec =
     tie.close
     (tie.spec
     slice-aggregate-letters

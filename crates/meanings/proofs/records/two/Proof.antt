@@ -28,5 +28,5 @@ returns c =
       cc (c.before.byte.ensures.1, c.byte2.ensures.1, halves 1 args.at input, byte_at input args.at, byte_at input (args.at + 1)),
     )
 
-pub two-spec : {M : Type 1} → statement M
-two-spec = tie.close (tie.spec byte-requires add-byte byte-requires-2 mul-result add-result returns)
+pub two_spec : {M : Type 1} → statement M
+two_spec = tie.close (tie.spec byte-requires add-byte byte-requires-2 mul-result add-result returns)

@@ -1,7 +1,7 @@
 -- `what` meets its contract: by how many bytes are left, and then by the kind. Assumes nothing.
 use borrow.Author.Rules.{rules}
 use borrow.Author.Tests.{eq-eqb, ne_eqb, lt-ltb, le-ltb}
-use Rattle.meanings.specs.Refused.{recordWords}
+use Rattle.meanings.specs.Refused.{record_words}
 use Rattle.meanings.proofs.records.what.Statement.{statement}
 use Rattle.meanings.proofs.records.what.Tie as tie
 
@@ -12,7 +12,7 @@ letters-requires : tie.Need-letters-requires
 letters-requires c κs = search rules
 
 returns : tie.Need-returns
-unfolding recordWords
+unfolding record_words
 returns c = simp (eq-eqb _ _ c.before.before.before.if1.true) c.letters.ensures
 
 slice-aggregate-letters-2 : tie.Need-slice-aggregate-letters-2
@@ -22,7 +22,7 @@ letters-requires-2 : tie.Need-letters-requires-2
 letters-requires-2 c κs = search rules
 
 returns-2 : tie.Need-returns-2
-unfolding recordWords
+unfolding record_words
 returns-2 c =
     let tested = c.before.before.before in
     simp (ne_eqb _ _ tested.before.if1.false, lt-ltb _ _ tested.if2.true) c.letters2.ensures
@@ -34,13 +34,13 @@ kind-requires : tie.Need-kind-requires
 kind-requires c κs = search rules
 
 returns-3 : tie.Need-returns-3
-unfolding recordWords
+unfolding record_words
 returns-3 c =
     let tested = c.before.before.before in
     simp (ne_eqb _ _ tested.before.if1.false, le-ltb _ _ tested.if2.false) (rw c.before.two.ensures.1 at c.kind.ensures)
 
-pub what-spec : {M : Type 1} → statement M
-what-spec =
+pub what_spec : {M : Type 1} → statement M
+what_spec =
     tie.close
     (tie.spec
     slice-aggregate-letters

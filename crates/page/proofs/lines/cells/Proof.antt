@@ -41,8 +41,8 @@ returns-3 c =
     let args = c.before.before.before.before.before.args in
     rw c.before.before.before.enum_told.given.1 (told-stored args.room.now args.at (cells Has.Unread) 126 (omega arith) (omega arith) c.letters.ensures)
 
-pub cells-spec : {M : Type 1} → statement M
-cells-spec =
+pub cells_spec : {M : Type 1} → statement M
+cells_spec =
     tie.close
     (tie.spec
     enum-known-entry

@@ -6,9 +6,9 @@ use native.Mathlib.Omega.{arith}
 use borrow.Author.Rules.{rules}
 use lib.ListN.{length, replicate, length-replicate, length-append}
 use Rattle.text.specs.Text.{space, decimal}
-use Rattle.text.proofs.Decimals.{decimal-long}
+use Rattle.text.proofs.Decimals.{decimal_long}
 use Rattle.text.proofs.Stores.{told-then}
-use Rattle.page.proofs.Told.{told_here, told-few}
+use Rattle.page.proofs.Told.{told_here, told_few}
 use Rattle.page.proofs.lines.column.Statement.{statement}
 use Rattle.page.proofs.lines.column.Tie as tie
 
@@ -33,7 +33,7 @@ returns c =
     let free = spaces.before in
     let put = free.before.before.before in
     let args = put.before.before.args in
-    let few = decimal-long args.n (omega arith) in
+    let few = decimal_long args.n (omega arith) in
     let gap = args.places - length (decimal args.n) in
     let left : free.free.result ≡ gap = free.free.ensures ∙ ap (λ k. args.places - k) free.before.digits_of.ensures in
     let first = told_here args.room.now args.at (space ∷ []) (omega arith) put.put.ensures in
@@ -42,10 +42,10 @@ returns c =
     let third =
     told_here spaces.spaces.new.0 spaces.spaces.result (decimal args.n) (omega (arith, first.past, second.past)) c.number.ensures in
     let all = length-append (replicate gap space) (decimal args.n) in
-    told-few (told-then first (told-then second third)) (omega arith)
+    told_few (told-then first (told-then second third)) (omega arith)
 
-pub column-spec : {M : Type 1} → statement M
-column-spec =
+pub column_spec : {M : Type 1} → statement M
+column_spec =
     tie.close
     (tie.spec
     put-requires

@@ -28,7 +28,7 @@ returns c =
     told-then first.column.ensures
     (told-then second.column2.ensures (told-then third.column3.ensures (told-then fourth.column4.ensures c.column5.ensures)))
 
-pub counts-spec : {M : Type 1} → statement M
-counts-spec =
+pub counts_spec : {M : Type 1} → statement M
+counts_spec =
     tie.close
     (tie.spec column-requires column-requires-2 column-requires-3 column-requires-4 column-requires-5 returns)

@@ -3,9 +3,9 @@ use mathlib.Core.List.{[], ◌∷◌, ◌++◌}
 use native.Mathlib.Omega.{arith}
 use borrow.Author.Rules.{rules}
 use Rattle.text.specs.Text.{space, decimal}
-use Rattle.text.proofs.Decimals.{decimal-long}
-use Rattle.text.proofs.Stores.{told-then, told-within}
-use Rattle.page.specs.Page.{HIGHEST-LOSS}
+use Rattle.text.proofs.Decimals.{decimal_long}
+use Rattle.text.proofs.Stores.{told-then, told_within}
+use Rattle.page.specs.Page.{HIGHEST_LOSS}
 use Rattle.page.proofs.Told.{told_here}
 use Rattle.page.proofs.lines.loss.Statement.{statement}
 use Rattle.page.proofs.lines.loss.Tie as tie
@@ -31,16 +31,16 @@ returns c =
     let first = over.before.before in
     let word = first.before.before in
     let args = word.before.before.before.args in
-    let few = decimal-long args.lost (omega arith) in
-    let many = decimal-long args.ended (omega arith) in
-    let a = told_here args.room.now args.at (HIGHEST-LOSS ++ (space ∷ [])) (omega arith) word.letters.ensures in
+    let few = decimal_long args.lost (omega arith) in
+    let many = decimal_long args.ended (omega arith) in
+    let a = told_here args.room.now args.at (HIGHEST_LOSS ++ (space ∷ [])) (omega arith) word.letters.ensures in
     let b = told_here word.letters.new.0 word.letters.result (decimal args.lost) (omega (arith, a.past)) first.number.ensures in
     let d = told_here first.number.new.0 first.number.result (47 ∷ []) (omega (arith, a.past, b.past)) over.put.ensures in
     let e = told_here over.put.new.0 over.put.result (decimal args.ended) (omega (arith, a.past, b.past, d.past)) c.number2.ensures in
-    told-within (told-then a (told-then b (told-then d e))) (omega arith)
+    told_within (told-then a (told-then b (told-then d e))) (omega arith)
 
-pub loss-spec : {M : Type 1} → statement M
-loss-spec =
+pub loss_spec : {M : Type 1} → statement M
+loss_spec =
     tie.close
     (tie.spec
     slice-aggregate-letters

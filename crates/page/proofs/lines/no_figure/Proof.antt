@@ -3,7 +3,7 @@ use mathlib.Core.List.{[]}
 use native.Mathlib.Omega.{arith}
 use borrow.Author.Rules.{rules}
 use Rattle.text.proofs.Stores.{told-stored}
-use Rattle.page.specs.Page.{highestText}
+use Rattle.page.specs.Page.{highest_text}
 use Rattle.sheet.specs.declared.Highest.TheVariants as Is
 use Rattle.page.proofs.lines.no_figure.Statement.{statement}
 use Rattle.page.proofs.lines.no_figure.Tie as tie
@@ -16,7 +16,7 @@ letters-requires c κs = search rules
 
 returns : tie.Need-returns
 returns c =
-    let args = c.before.before.before.args in told-stored args.room.now args.at (highestText Is.NoFigure []) 34 (omega arith) (omega arith) c.letters.ensures
+    let args = c.before.before.before.args in told-stored args.room.now args.at (highest_text Is.NoFigure []) 34 (omega arith) (omega arith) c.letters.ensures
 
-pub no-figure-spec : {M : Type 1} → statement M
-no-figure-spec = tie.close (tie.spec slice-aggregate-letters letters-requires returns)
+pub no_figure_spec : {M : Type 1} → statement M
+no_figure_spec = tie.close (tie.spec slice-aggregate-letters letters-requires returns)

@@ -6,9 +6,9 @@ use native.Mathlib.Omega.{arith}
 use borrow.Author.Rules.{rules}
 use Rattle.text.specs.Text.{space, newline, decimal}
 use Rattle.text.specs.Parts.{Told}
-use Rattle.text.proofs.Decimals.{decimal-long}
-use Rattle.text.proofs.Stores.{told-then, told-within}
-use Rattle.page.proofs.Told.{told_here, number-shown}
+use Rattle.text.proofs.Decimals.{decimal_long}
+use Rattle.text.proofs.Stores.{told-then, told_within}
+use Rattle.page.proofs.Told.{told_here, number_is_shown}
 use Rattle.page.proofs.lines.numbered.Statement.{statement}
 use Rattle.page.proofs.lines.numbered.Tie as tie
 
@@ -26,14 +26,14 @@ returns c =
     let number = c.before.before in
     let spaces = number.before.before in
     let args = spaces.before.before.args in
-    let few = decimal-long args.n (omega arith) in
+    let few = decimal_long args.n (omega arith) in
     let a = told_here args.room.now args.at (space ∷ space ∷ []) (omega arith) spaces.spaces.ensures in
     let b = told_here spaces.spaces.new.0 spaces.spaces.result (decimal args.n) (omega (arith, a.past)) number.number.ensures in
     let d = told_here number.number.new.0 number.number.result (newline ∷ []) (omega (arith, a.past, b.past)) c.put.ensures in
     subst
     (λ (shown : List ℕ). Told args.room.now c.put.new.0 args.at c.put.result (space ∷ space ∷ (shown ++ (newline ∷ []))) 23)
-    (sym (number-shown args.n few))
-    (told-within (told-then a (told-then b d)) (omega arith))
+    (sym (number_is_shown args.n few))
+    (told_within (told-then a (told-then b d)) (omega arith))
 
-pub numbered-spec : {M : Type 1} → statement M
-numbered-spec = tie.close (tie.spec spaces-requires number-requires put-requires returns)
+pub numbered_spec : {M : Type 1} → statement M
+numbered_spec = tie.close (tie.spec spaces-requires number-requires put-requires returns)

@@ -3,8 +3,8 @@ use mathlib.Core.List.{[], ◌∷◌, ◌++◌}
 use native.Mathlib.Omega.{arith}
 use borrow.Author.Rules.{rules}
 use Rattle.text.specs.Text.{space, decimal, REFUSED}
-use Rattle.text.proofs.Decimals.{decimal-short, decimal-long}
-use Rattle.text.proofs.Stores.{told_none, told-then, told-within}
+use Rattle.text.proofs.Decimals.{decimal_short, decimal_long}
+use Rattle.text.proofs.Stores.{told_none, told-then, told_within}
 use Rattle.page.proofs.Told.{told_here}
 use Rattle.page.proofs.lines.refused.Statement.{statement}
 use Rattle.page.proofs.lines.refused.Tie as tie
@@ -30,16 +30,16 @@ returns c =
     let first = apart.before.before in
     let word = first.before.before in
     let args = word.before.before.before.args in
-    let few = decimal-short args.number (search rules) in
-    let many = decimal-long args.offset (search rules) in
+    let few = decimal_short args.number (search rules) in
+    let many = decimal_long args.offset (search rules) in
     let a = told_here args.room.now args.at (REFUSED ++ (space ∷ [])) (omega arith) word.letters.ensures in
     let b = told_here word.letters.new.0 word.letters.result (decimal args.number) (omega (arith, a.past)) first.number.ensures in
     let d = told_here first.number.new.0 first.number.result (space ∷ []) (omega (arith, a.past, b.past)) apart.put.ensures in
     let e = told_here apart.put.new.0 apart.put.result (decimal args.offset) (omega (arith, a.past, b.past, d.past)) c.number2.ensures in
-    told-within (told-then a (told-then b (told-then d (told-then e (told_none _ _ 0))))) (omega arith)
+    told_within (told-then a (told-then b (told-then d (told-then e (told_none _ _ 0))))) (omega arith)
 
-pub refused-spec : {M : Type 1} → statement M
-refused-spec =
+pub refused_spec : {M : Type 1} → statement M
+refused_spec =
     tie.close
     (tie.spec
     slice-aggregate-letters

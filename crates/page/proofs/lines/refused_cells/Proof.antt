@@ -6,10 +6,10 @@ use borrow.Author.Rules.{rules}
 use lib.ListN.{length, replicate, length-replicate}
 use Rattle.text.specs.Text.{space}
 use Rattle.text.specs.Parts.{Told}
-use Rattle.text.proofs.Decimals.{decimal-short, decimal-long}
-use Rattle.text.proofs.Stores.{told-then, told-within, told-stored}
-use Rattle.page.specs.Page.{all-places, refusalWords}
-use Rattle.page.proofs.Told.{refused-length}
+use Rattle.text.proofs.Decimals.{decimal_short, decimal_long}
+use Rattle.text.proofs.Stores.{told-then, told_within, told-stored}
+use Rattle.page.specs.Page.{all_places, refusal_words}
+use Rattle.page.proofs.Told.{refused_length}
 use Rattle.page.proofs.lines.refused_cells.Statement.{statement}
 use Rattle.page.proofs.lines.refused_cells.Tie as tie
 
@@ -17,18 +17,18 @@ use Rattle.page.proofs.lines.refused_cells.Tie as tie
 gap :
     (c : tie.After-spaces)
     → let args = c.before.before.before.before.before.args in
-    let free = all-places - length (refusalWords args.number args.offset) in
+    let free = all_places - length (refusal_words args.number args.offset) in
     Told args.room.now c.spaces.new.0 args.at c.spaces.result (replicate free space) 69
 gap c =
     let offsets = c.before.before.before in
     let args = offsets.before.before.args in
-    let free = all-places - length (refusalWords args.number args.offset) in
+    let free = all_places - length (refusal_words args.number args.offset) in
     let left : c.before.free.result ≡ free =
     c.before.free.ensures
     ∙ ap
-    (λ k. all-places - k)
+    (λ k. all_places - k)
     (ap₂ (λ i j. 9 + i + j) offsets.before.digits_of.ensures offsets.digits-of2.ensures
-    ∙ sym (refused-length args.number args.offset)) in
+    ∙ sym (refused_length args.number args.offset)) in
     let long = length-replicate free space in
     told-stored args.room.now args.at (replicate free space) 69 (omega arith) (omega arith) (rw left at c.spaces.ensures)
 
@@ -37,7 +37,7 @@ digits-of-requires c κs = search rules
 
 add-size : tie.Need-overflow-add-size
 add-size c =
-    let few = decimal-short c.before.args.number (search rules) in
+    let few = decimal_short c.before.args.number (search rules) in
     let size = c.digits_of.ensures in
     search rules
 
@@ -46,8 +46,8 @@ digits-of-requires-2 c κs = search rules
 
 add-size-2 : tie.Need-overflow-add-size-2
 add-size-2 c =
-    let few = decimal-short c.before.before.args.number (search rules) in
-    let many = decimal-long c.before.before.args.offset (search rules) in
+    let few = decimal_short c.before.before.args.number (search rules) in
+    let many = decimal_long c.before.before.args.offset (search rules) in
     let size = c.before.digits_of.ensures in
     let size2 = c.digits-of2.ensures in
     search rules
@@ -62,10 +62,10 @@ refused-requires : tie.Need-refused-requires
 refused-requires c κs = let told = gap c.before in omega (arith, told.past, told.few)
 
 returns : tie.Need-returns
-returns c = told-within (told-then (gap c.before.before) c.refused.ensures) (omega arith)
+returns c = told_within (told-then (gap c.before.before) c.refused.ensures) (omega arith)
 
-pub refused-cells-spec : {M : Type 1} → statement M
-refused-cells-spec =
+pub refused_cells_spec : {M : Type 1} → statement M
+refused_cells_spec =
     tie.close
     (tie.spec
     digits-of-requires

@@ -5,14 +5,14 @@ use native.Mathlib.Omega.{arith}
 use borrow.Author.Rules.{rules}
 use lib.ListN.{length, take}
 use Rattle.text.specs.Parts.{Told}
-use Rattle.text.proofs.Stores.{told_none, told-then, told-within}
-use Rattle.page.specs.Page.{rowsText}
+use Rattle.text.proofs.Stores.{told_none, told-then, told_within}
+use Rattle.page.specs.Page.{rows_text}
 use Rattle.page.proofs.Told.{rows-turn}
 use Rattle.page.proofs.lines.rows.Statement.{statement}
 use Rattle.page.proofs.lines.rows.Tie as tie
 
 abbrev invariant-loop : tie.invariant-loop
-invariant-loop room₀ at count runs next₀ i₀ room next i = (i ≤ count) × Told room₀ room at next (rowsText 0 (take i runs)) (149 * i)
+invariant-loop room₀ at count runs next₀ i₀ room next i = (i ≤ count) × Told room₀ room at next (rows_text 0 (take i runs)) (149 * i)
 
 abbrev decreases-loop : tie.decreases-loop
 decreases-loop room₀ at count runs next₀ i₀ room next i = count - i
@@ -54,7 +54,7 @@ loop-again c =
       search rules,
       rw
           (rows-turn start.args.t3 at.loop.i (omega arith))
-          (told-within
+          (told_within
           (told-then at.loop.invariant.1 (told-then cells.run-cells.ensures (rw c.before.counted.ensures at c.numbered.ensures)))
           (omega arith)),
     )
@@ -63,10 +63,10 @@ returns : tie.Need-returns invariant-loop decreases-loop
 returns c =
     let start = c.before.before in
     let over : c.before.loop.i ≡ start.args.count = omega arith in
-    told-within (rw over at c.before.loop.invariant.1) (omega arith)
+    told_within (rw over at c.before.loop.invariant.1) (omega arith)
 
-pub rows-spec : {M : Type 1} → statement M
-rows-spec =
+pub rows_spec : {M : Type 1} → statement M
+rows_spec =
     tie.close
     (tie.spec
     invariant-loop

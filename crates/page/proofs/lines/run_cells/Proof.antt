@@ -32,8 +32,8 @@ returns : tie.Need-returns
 returns c =
     told-then c.before.before.before.counts.ensures c.column.ensures
 
-pub run-cells-spec : {M : Type 1} → statement M
-run-cells-spec =
+pub run_cells_spec : {M : Type 1} → statement M
+run_cells_spec =
     tie.close
     (tie.spec
     cast-counts

@@ -16,5 +16,5 @@ unfolding shown
 returns-2 c =
     let name = c.before.args.name.now in (omega arith, (omega arith, take-length name ∙ sym (take_all 4_096 name (omega arith))))
 
-pub shown-spec : {M : Type 1} → statement M
-shown-spec = tie.close (tie.spec returns returns-2)
+pub shown_spec : {M : Type 1} → statement M
+shown_spec = tie.close (tie.spec returns returns-2)

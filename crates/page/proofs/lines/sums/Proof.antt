@@ -4,8 +4,8 @@ use native.Mathlib.Omega.{arith}
 use borrow.Author.Rules.{rules}
 use lib.ListN.{replicate}
 use Rattle.text.specs.Text.{space}
-use Rattle.text.proofs.Stores.{told-then, told-within}
-use Rattle.page.specs.Page.{shown, named, ALL-RUNS}
+use Rattle.text.proofs.Stores.{told-then, told_within}
+use Rattle.page.specs.Page.{shown, named, ALL_RUNS}
 use Rattle.page.proofs.Told.{told_here}
 use Rattle.page.proofs.lines.sums.Statement.{statement}
 use Rattle.page.proofs.lines.sums.Tie as tie
@@ -23,9 +23,9 @@ returns : tie.Need-returns
 unfolding shown
 returns c =
     let five = c.before.before.before in
-    let text = replicate 13 space ++ named ALL-RUNS in
+    let text = replicate 13 space ++ named ALL_RUNS in
     let closed = told_here five.counts.new.0 five.counts.result text (omega (arith, five.counts.ensures.past, five.counts.ensures.few)) c.letters.ensures in
-    told-within (told-then five.counts.ensures closed) (omega arith)
+    told_within (told-then five.counts.ensures closed) (omega arith)
 
-pub sums-spec : {M : Type 1} → statement M
-sums-spec = tie.close (tie.spec counts-requires slice-aggregate-letters letters-requires returns)
+pub sums_spec : {M : Type 1} → statement M
+sums_spec = tie.close (tie.spec counts-requires slice-aggregate-letters letters-requires returns)

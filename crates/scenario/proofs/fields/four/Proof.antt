@@ -25,5 +25,5 @@ returns c =
     let at = c.before.before.before.args.at in
     cc (c.before.two.ensures.1, c.two2.ensures.1, halves 2 at s)
 
-pub four-spec : {M : Type 1} → statement M
-four-spec = tie.close (tie.spec two-requires add-two two-requires-2 mul-result add-result returns)
+pub four_spec : {M : Type 1} → statement M
+four_spec = tie.close (tie.spec two-requires add-two two-requires-2 mul-result add-result returns)

@@ -28,5 +28,5 @@ returns c =
       cc (c.before.one.ensures.1, c.one2.ensures.1, halves 1 at s, byte_at s at, byte_at s (at + 1)),
     )
 
-pub two-spec : {M : Type 1} → statement M
-two-spec = tie.close (tie.spec one-requires add-one one-requires-2 mul-result add-result returns)
+pub two_spec : {M : Type 1} → statement M
+two_spec = tie.close (tie.spec one-requires add-one one-requires-2 mul-result add-result returns)

@@ -1,7 +1,7 @@
 -- `arrival_in` meets its contract: each field is read at its offset. Assumes nothing.
 use mathlib.Core.List.{[], ◌∷◌}
 use borrow.Author.Rules.{rules}
-use Rattle.scenario.specs.Format.{arrivalKind}
+use Rattle.scenario.specs.Format.{arrival_kind}
 use Rattle.scenario.proofs.RecordLaws.{said-by}
 use Rattle.scenario.proofs.records.arrival_in.Statement.{statement}
 use Rattle.scenario.proofs.records.arrival_in.Tie as tie
@@ -20,7 +20,7 @@ two-requires-2 c κs = search rules
 
 returns : tie.Need-returns
 returns c =
-    said-by arrivalKind c.before.before.before.before.before.args.body.now _
+    said-by arrival_kind c.before.before.before.before.before.args.body.now _
     (λ i.
     c.before.before.before.four.ensures i
     ∷ c.before.before.two.ensures.1 i
@@ -28,6 +28,6 @@ returns c =
     ∷ c.two2.ensures.1 i
     ∷ [])
 
-pub arrival-in-spec : {M : Type 1} → statement M
-arrival-in-spec =
+pub arrival_in_spec : {M : Type 1} → statement M
+arrival_in_spec =
     tie.close (tie.spec four-requires two-requires four-requires-2 two-requires-2 returns)

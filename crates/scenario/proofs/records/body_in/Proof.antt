@@ -20,7 +20,7 @@ returns : tie.Need-returns
 returns c = simp c.before.match.keys1 c.set-up-in.ensures
 
 returns-2 : tie.Need-returns-2
-returns-2 c = simp c.before.match.keys2 c.station-in.ensures
+returns-2 c = simp c.before.match.keys2 c.station_in.ensures
 
 returns-3 : tie.Need-returns-3
 returns-3 c = simp c.before.match.keys3 c.arrival-in.ensures
@@ -30,8 +30,8 @@ returns-4 c =
     let no = c.before.match.rest in
     simp (ne_eqb _ _ no.0.0.1, ne_eqb _ _ no.0.1, ne_eqb _ _ no.1) c.run_in.ensures
 
-pub body-in-spec : {M : Type 1} → statement M
-body-in-spec =
+pub body_in_spec : {M : Type 1} → statement M
+body_in_spec =
     tie.close
     (tie.spec
     set-up-in-requires

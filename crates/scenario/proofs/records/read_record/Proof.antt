@@ -7,19 +7,19 @@ use borrow.Author.Rules.{rules}
 use borrow.Author.Tests.{lt-ltb, le-ltb, not-true, not-false}
 use lib.Dec.{ltb}
 use lib.ListN.{length, take, drop}
-use Rattle.scenario.specs.Format.{refusedRecord, bodyIn, readRecord}
-use Rattle.scenario.specs.Parts.{isKind, saidByKind}
-use Rattle.scenario.proofs.RecordLaws.{known-long, read-unknown, read_known}
+use Rattle.scenario.specs.Format.{refused_record, body_in, read_record}
+use Rattle.scenario.specs.Parts.{is_kind, said_by_kind}
+use Rattle.scenario.proofs.RecordLaws.{known_long, read_unknown, read_known}
 use Rattle.scenario.proofs.records.read_record.Statement.{statement}
 use Rattle.scenario.proofs.records.read_record.Tie as tie
 
 -- past the second test the kind and the length are a known one's
-is_known : (c : tie.Else2) → isKind c.before.before.two2.result c.before.before.before.two.result ≡ true
+is_known : (c : tie.Else2) → is_kind c.before.before.two2.result c.before.before.before.two.result ≡ true
 is_known c = sym c.before.is-kind.ensures ∙ not-false _ c.if2.false
 
 -- so the body's end is not before its start
-ends-after : (c : tie.Else3) → 4 ≤ 2 + c.before.before.before.before.two.result
-ends-after c = known-long c.before.before.before.two2.result _ (is_known c.before)
+ends_after : (c : tie.Else3) → 4 ≤ 2 + c.before.before.before.before.two.result
+ends_after c = known_long c.before.before.before.two2.result _ (is_known c.before)
 
 -- what is read there, by whether the body is short
 read :
@@ -29,7 +29,7 @@ read :
     let long = both.before.two.result in
     let rest = start.before.before.args.rest.now in
     ltb (length rest) (2 + long) ≡ short
-    → cond short (refusedRecord 18) (saidByKind both.two2.result (bodyIn long rest)) ≡ readRecord rest
+    → cond short (refused_record 18) (said_by_kind both.two2.result (body_in long rest)) ≡ read_record rest
 read c short s =
     let both = c.before.before in
     let start = both.before.before in
@@ -52,7 +52,7 @@ returns-2 : tie.Need-returns-2
 returns-2 c =
     let both = c.before.before in
     let start = both.before.before in
-    read-unknown start.before.before.args.rest.now _ _ start.if1.false both.two2.ensures.1 both.before.two.ensures.1
+    read_unknown start.before.before.args.rest.now _ _ start.if1.false both.two2.ensures.1 both.before.two.ensures.1
     (sym c.before.is-kind.ensures ∙ not-true _ c.if2.true)
 
 cast-end : tie.Need-overflow-cast-end
@@ -65,10 +65,10 @@ returns-3 : tie.Need-returns-3
 returns-3 c = read c.before true (lt-ltb _ _ c.if3.true)
 
 sub-body : tie.Need-overflow-sub-body
-sub-body c = ends-after c
+sub-body c = ends_after c
 
 part-body-start : tie.Need-slice-bounds-body-start
-part-body-start c = ends-after c
+part-body-start c = ends_after c
 
 part-body-end : tie.Need-slice-bounds-body-end
 part-body-end c = search rules
@@ -83,11 +83,11 @@ returns-4 c =
     let long = at.before.before.before.before.two.result in
     let e : 2 + long - 4 ≡ long - 2 = omega arith in
     c.body-in.ensures
-    ∙ ap (λ (k : ℕ). saidByKind at.before.before.before.two2.result (take k (drop 4 rest))) e
+    ∙ ap (λ (k : ℕ). said_by_kind at.before.before.before.two2.result (take k (drop 4 rest))) e
     ∙ read at.before false (le-ltb _ _ at.if3.false)
 
-pub read-record-spec : {M : Type 1} → statement M
-read-record-spec =
+pub read_record_spec : {M : Type 1} → statement M
+read_record_spec =
     tie.close
     (tie.spec
     returns

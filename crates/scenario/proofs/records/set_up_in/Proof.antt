@@ -2,7 +2,7 @@
 use mathlib.Core.Path.{sym, ◌∙◌}
 use mathlib.Core.List.{[], ◌∷◌}
 use borrow.Author.Rules.{rules}
-use Rattle.scenario.specs.Format.{setUpKind}
+use Rattle.scenario.specs.Format.{set_up_kind}
 use Rattle.scenario.proofs.Numbers.{byte_at}
 use Rattle.scenario.proofs.RecordLaws.{said-by}
 use Rattle.scenario.proofs.records.set_up_in.Statement.{statement}
@@ -29,7 +29,7 @@ cast-t7 c = search rules
 returns : tie.Need-returns
 returns c =
     let body = c.before.before.before.before.before.before.args.body.now in
-    said-by setUpKind body _
+    said-by set_up_kind body _
     (λ i.
     (c.before.before.before.before.one.ensures.1 ∙ sym (byte_at body 0)) i
     ∷ c.before.before.before.four.ensures i
@@ -38,8 +38,8 @@ returns c =
     ∷ (c.one2.ensures.1 ∙ sym (byte_at body 11)) i
     ∷ [])
 
-pub set-up-in-spec : {M : Type 1} → statement M
-set-up-in-spec =
+pub set_up_in_spec : {M : Type 1} → statement M
+set_up_in_spec =
     tie.close
     (tie.spec
     one-requires

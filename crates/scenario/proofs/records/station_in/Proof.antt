@@ -1,7 +1,7 @@
 -- `station_in` meets its contract: each field is read at its offset. Assumes nothing.
 use mathlib.Core.List.{[], ◌∷◌}
 use borrow.Author.Rules.{rules}
-use Rattle.scenario.specs.Format.{stationKind}
+use Rattle.scenario.specs.Format.{station_kind}
 use Rattle.scenario.proofs.RecordLaws.{said-by}
 use Rattle.scenario.proofs.records.station_in.Statement.{statement}
 use Rattle.scenario.proofs.records.station_in.Tie as tie
@@ -14,7 +14,7 @@ two-requires-2 c κs = search rules
 
 returns : tie.Need-returns
 returns c =
-    said-by stationKind c.before.before.before.args.body.now _ (λ i. c.before.two.ensures.1 i ∷ c.two2.ensures.1 i ∷ [])
+    said-by station_kind c.before.before.before.args.body.now _ (λ i. c.before.two.ensures.1 i ∷ c.two2.ensures.1 i ∷ [])
 
-pub station-in-spec : {M : Type 1} → statement M
-station-in-spec = tie.close (tie.spec two-requires two-requires-2 returns)
+pub station_in_spec : {M : Type 1} → statement M
+station_in_spec = tie.close (tie.spec two-requires two-requires-2 returns)

@@ -7,15 +7,15 @@ use borrow.Author.Rules.{rules}
 use borrow.Author.Tests.{not-true, not-false}
 use lib.ListN.{length, take}
 use lib.Seq.{slice}
-use Rattle.sheet.specs.Sheet.{highestFrom, highestOf}
-use Rattle.sheet.specs.Parts.{highestSo}
-use Rattle.sheet.proofs.Loops.{highest-stays, highest-taken, highest-end}
+use Rattle.sheet.specs.Sheet.{highest_from, highest_of}
+use Rattle.sheet.specs.Parts.{highest_so}
+use Rattle.sheet.proofs.Loops.{highest-stays, highest-taken, highest_end}
 use Rattle.sheet.proofs.losses.highest.Statement.{statement}
 use Rattle.sheet.proofs.losses.highest.Tie as tie
 
 abbrev invariant-loop : tie.invariant-loop
 invariant-loop count runs found₀ place₀ most₀ over₀ i₀ found place most over i =
-    (i ≤ count) × (highestFrom (highestSo found place most over) i (slice i count runs) ≡ highestOf (take count runs))
+    (i ≤ count) × (highest_from (highest_so found place most over) i (slice i count runs) ≡ highest_of (take count runs))
 
 abbrev decreases-loop : tie.decreases-loop
 decreases-loop count runs found₀ place₀ most₀ over₀ i₀ found place most over i = count - i
@@ -90,19 +90,19 @@ returns c =
     let at = c.before.before in
     let start = at.before in
     let so = at.loop in
-    sym (ap (λ t. highestSo t so.place so.most so.over) (not-true so.found c.if2.true))
-    ∙ highest-end start.args.count start.args.t1 so.i so.found so.place so.most so.over (omega arith) so.invariant.1
+    sym (ap (λ t. highest_so t so.place so.most so.over) (not-true so.found c.if2.true))
+    ∙ highest_end start.args.count start.args.t1 so.i so.found so.place so.most so.over (omega arith) so.invariant.1
 
 returns-2 : tie.Need-returns-2 invariant-loop decreases-loop
 returns-2 c =
     let at = c.before.before in
     let start = at.before in
     let so = at.loop in
-    sym (ap (λ t. highestSo t so.place so.most so.over) (not-false so.found c.if2.false))
-    ∙ highest-end start.args.count start.args.t1 so.i so.found so.place so.most so.over (omega arith) so.invariant.1
+    sym (ap (λ t. highest_so t so.place so.most so.over) (not-false so.found c.if2.false))
+    ∙ highest_end start.args.count start.args.t1 so.i so.found so.place so.most so.over (omega arith) so.invariant.1
 
-pub highest-spec : {M : Type 1} → statement M
-highest-spec =
+pub highest_spec : {M : Type 1} → statement M
+highest_spec =
     tie.close
     (tie.spec
     invariant-loop

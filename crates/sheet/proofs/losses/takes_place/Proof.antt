@@ -5,15 +5,15 @@ use borrow.Author.Rules.{rules}
 use borrow.Author.Tests.{not-true, not-false}
 use lib.Dec.{ltb}
 use Rattle.sheet.specs.Words.{Words, word, number}
-use Rattle.sheet.specs.Parts.{loss, takesPlace}
-use Rattle.sheet.proofs.Halves.{words-number}
+use Rattle.sheet.specs.Parts.{loss, takes_place}
+use Rattle.sheet.proofs.Halves.{words_number}
 use Rattle.sheet.proofs.losses.takes_place.Statement.{statement}
 use Rattle.sheet.proofs.losses.takes_place.Tie as tie
 
 returns : tie.Need-returns
 returns c =
     let args = c.before.args in
-    sym (ap (λ t. takesPlace t (loss args.most args.over) (loss args.lost args.ended)) (not-true args.found c.if1.true))
+    sym (ap (λ t. takes_place t (loss args.most args.over) (loss args.lost args.ended)) (not-true args.found c.if1.true))
 
 product-requires : tie.Need-product-requires
 product-requires c κs = search rules
@@ -31,9 +31,9 @@ returns-2 c =
     let args = first.before.before.args in
     c.below.ensures
     ∙ ap₂ (λ (x y : Words). ltb (number word x) (number word y)) first.product.ensures second.product2.ensures
-    ∙ ap₂ ltb (words-number word (args.most * args.ended)) (words-number word (args.lost * args.over))
-    ∙ sym (ap (λ t. takesPlace t (loss args.most args.over) (loss args.lost args.ended)) (not-false args.found first.before.if1.false))
+    ∙ ap₂ ltb (words_number word (args.most * args.ended)) (words_number word (args.lost * args.over))
+    ∙ sym (ap (λ t. takes_place t (loss args.most args.over) (loss args.lost args.ended)) (not-false args.found first.before.if1.false))
 
-pub takes-place-spec : {M : Type 1} → statement M
-takes-place-spec =
+pub takes_place_spec : {M : Type 1} → statement M
+takes_place_spec =
     tie.close (tie.spec returns product-requires product-requires-2 below-requires returns-2)

@@ -32,5 +32,5 @@ returns-2 c =
     let same : args.x.high ≡ args.y.high = search rules in
     alike args.x.low args.y.low (number word args.x) (number word args.y) (λ h. omega arith) (λ h. omega arith)
 
-pub below-spec : {M : Type 1} → statement M
-below-spec = tie.close (tie.spec returns returns-2)
+pub below_spec : {M : Type 1} → statement M
+below_spec = tie.close (tie.spec returns returns-2)

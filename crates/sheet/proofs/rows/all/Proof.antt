@@ -5,13 +5,13 @@ use mathlib.Core.List.{◌++◌, map}
 use native.Mathlib.Omega.{arith}
 use borrow.Author.Rules.{rules}
 use lib.ListN.{length, take, replicate}
-use Rattle.sheet.specs.Sheet.{most-runs, no_run, row_of}
+use Rattle.sheet.specs.Sheet.{most_runs, no_run, row_of}
 use Rattle.sheet.proofs.Loops.{rows-turn}
 use Rattle.sheet.proofs.rows.all.Statement.{statement}
 use Rattle.sheet.proofs.rows.all.Tie as tie
 
 abbrev invariant-loop : tie.invariant-loop
-invariant-loop count runs rows₀ i₀ rows i = (i ≤ count) × (rows ≡ map row_of (take i runs) ++ replicate (most-runs - i) no_run)
+invariant-loop count runs rows₀ i₀ rows i = (i ≤ count) × (rows ≡ map row_of (take i runs) ++ replicate (most_runs - i) no_run)
 
 abbrev decreases-loop : tie.decreases-loop
 decreases-loop count runs rows₀ i₀ rows i = count - i
@@ -51,10 +51,10 @@ returns : tie.Need-returns invariant-loop decreases-loop
 returns c =
     let start = c.before.before in
     let over : c.before.loop.i ≡ start.args.count = omega arith in
-    c.before.loop.invariant.1 ∙ ap (λ n. map row_of (take n start.args.t1) ++ replicate (most-runs - n) no_run) over
+    c.before.loop.invariant.1 ∙ ap (λ n. map row_of (take n start.args.t1) ++ replicate (most_runs - n) no_run) over
 
-pub all-spec : {M : Type 1} → statement M
-all-spec =
+pub all_spec : {M : Type 1} → statement M
+all_spec =
     tie.close
     (tie.spec
     invariant-loop

@@ -18,5 +18,5 @@ returns c = let r = c.before.before.args.run in sym (ap (waits r) (eq-eqb r.sent
 returns-2 : tie.Need-returns-2
 returns-2 c = let r = c.before.before.args.run in sym (ap (waits r) (ne_eqb r.sent 0 (search rules)))
 
-pub row-spec : {M : Type 1} → statement M
-row-spec = tie.close (tie.spec returns returns-2)
+pub row_spec : {M : Type 1} → statement M
+row_spec = tie.close (tie.spec returns returns-2)

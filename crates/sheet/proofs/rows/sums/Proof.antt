@@ -4,7 +4,7 @@ use mathlib.Core.Path.{◌≡◌, refl, ap, ◌∙◌}
 use native.Mathlib.Omega.{arith}
 use borrow.Author.Rules.{rules}
 use lib.ListN.{length, get_or, take}
-use Rattle.sheet.specs.Sheet.{no_run, sumsOf}
+use Rattle.sheet.specs.Sheet.{no_run, sums_of}
 use Rattle.sheet.specs.Parts.{Few, summed}
 use Rattle.sheet.proofs.Loops.{few-more, sums-turn}
 use Rattle.sheet.proofs.rows.sums.Statement.{statement}
@@ -12,7 +12,7 @@ use Rattle.sheet.proofs.rows.sums.Tie as tie
 
 abbrev invariant-loop : tie.invariant-loop
 invariant-loop count runs admitted₀ sent₀ lost₀ waiting₀ turned₀ i₀ admitted sent lost waiting turned i =
-    (i ≤ count) × Few i (summed admitted sent lost waiting turned) × (summed admitted sent lost waiting turned ≡ sumsOf (take i runs))
+    (i ≤ count) × Few i (summed admitted sent lost waiting turned) × (summed admitted sent lost waiting turned ≡ sums_of (take i runs))
 
 abbrev decreases-loop : tie.decreases-loop
 decreases-loop count runs admitted₀ sent₀ lost₀ waiting₀ turned₀ i₀ admitted sent lost waiting turned i = count - i
@@ -79,10 +79,10 @@ returns : tie.Need-returns invariant-loop decreases-loop
 returns c =
     let start = c.before.before in
     let over : c.before.loop.i ≡ start.args.count = omega arith in
-    c.before.loop.invariant.2 ∙ ap (λ n. sumsOf (take n start.args.t1)) over
+    c.before.loop.invariant.2 ∙ ap (λ n. sums_of (take n start.args.t1)) over
 
-pub sums-spec : {M : Type 1} → statement M
-sums-spec =
+pub sums_spec : {M : Type 1} → statement M
+sums_spec =
     tie.close
     (tie.spec
     invariant-loop

@@ -5,12 +5,12 @@ use native.Mathlib.Omega.{arith}
 use borrow.Author.Rules.{rules}
 use lib.ListN.{length, take}
 use Rattle.sheet.specs.Sheet.{unbalanced}
-use Rattle.sheet.proofs.Loops.{left_end, fromHere, unbalanced-here, unbalanced-later}
+use Rattle.sheet.proofs.Loops.{left_end, from_here, unbalanced_here, unbalanced-later}
 use Rattle.sheet.proofs.rows.unbalanced.Statement.{statement}
 use Rattle.sheet.proofs.rows.unbalanced.Tie as tie
 
 abbrev invariant-loop : tie.invariant-loop
-invariant-loop count runs i₀ i = (i ≤ count) × (fromHere count runs i ≡ unbalanced 0 (take count runs))
+invariant-loop count runs i₀ i = (i ≤ count) × (from_here count runs i ≡ unbalanced 0 (take count runs))
 
 abbrev decreases-loop : tie.decreases-loop
 decreases-loop count runs i₀ i = count - i
@@ -32,7 +32,7 @@ returns c =
     let at = c.before.before.before.before in
     let start = at.before in
     let full : length start.args.t1 ≡ 256 = search rules in
-    sym (unbalanced-here start.args.count start.args.t1 at.loop.i (omega arith) (omega arith) c.before.balances.ensures c.if1.true)
+    sym (unbalanced_here start.args.count start.args.t1 at.loop.i (omega arith) (omega arith) c.before.balances.ensures c.if1.true)
     ∙ at.loop.invariant.1
 
 add-i : tie.Need-overflow-add-i invariant-loop decreases-loop
@@ -59,8 +59,8 @@ returns-2 c =
     ∙ sym (ap (unbalanced c.before.loop.i) (left_end start.args.count start.args.t1 c.before.loop.i (omega arith)))
     ∙ c.before.loop.invariant.1
 
-pub unbalanced-spec : {M : Type 1} → statement M
-unbalanced-spec =
+pub unbalanced_spec : {M : Type 1} → statement M
+unbalanced_spec =
     tie.close
     (tie.spec
     invariant-loop

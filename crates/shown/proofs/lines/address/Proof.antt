@@ -5,7 +5,7 @@ use native.Mathlib.Omega.{arith}
 use borrow.Author.Rules.{rules}
 use Rattle.text.specs.Text.{bytes}
 use Rattle.text.specs.Parts.{Told}
-use Rattle.text.proofs.Stores.{told-then, told-within}
+use Rattle.text.proofs.Stores.{told-then, told_within}
 use Rattle.shown.proofs.Storing.{told_here}
 use Rattle.shown.proofs.lines.address.Statement.{statement}
 use Rattle.shown.proofs.lines.address.Tie as tie
@@ -45,7 +45,7 @@ returns c =
     let second = third.before.before in
     let first = second.before.before in
     let word = first.before.before in
-    told-within
+    told_within
     (told-then
     (worded word)
     (told-then first.digit.ensures (told-then second.digit2.ensures (told-then third.digit3.ensures c.digit4.ensures))))

@@ -55,8 +55,8 @@ returns c =
     (omega arith)
     c.put.ensures)
 
-pub arrival-spec : {M : Type 1} → statement M
-arrival-spec =
+pub arrival_spec : {M : Type 1} → statement M
+arrival_spec =
     tie.close
     (tie.spec
     fits-requires

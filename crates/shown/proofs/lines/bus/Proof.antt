@@ -53,8 +53,8 @@ returns c =
     (omega arith)
     c.put.ensures
 
-pub bus-spec : {M : Type 1} → statement M
-bus-spec =
+pub bus_spec : {M : Type 1} → statement M
+bus_spec =
     tie.close
     (tie.spec
     slice-aggregate-letters

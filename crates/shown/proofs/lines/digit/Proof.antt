@@ -36,7 +36,7 @@ returns-2 c =
     let args = c.before.before.before.args in
     rw (le-ltb args.d 10 c.before.before.if1.false) (told_here args.room.now args.at ((55 + args.d) ∷ []) (omega arith) c.put2.ensures)
 
-pub digit-spec : {M : Type 1} → statement M
-digit-spec =
+pub digit_spec : {M : Type 1} → statement M
+digit_spec =
     tie.close
     (tie.spec cast-put add-put put-requires returns cast-put-2 add-put-2 put-requires-2 returns-2)

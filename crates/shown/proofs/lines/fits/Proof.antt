@@ -3,7 +3,7 @@ use mathlib.Core.Path.{sym, ap, ap₂, ◌∙◌}
 use mathlib.Core.Bool.{◌&&◌}
 use borrow.Author.Rules.{rules}
 use borrow.Author.Tests.{not-true, not-false}
-use Rattle.rules.specs.Standing.{length-fits}
+use Rattle.rules.specs.Standing.{length_fits}
 use Rattle.shown.proofs.lines.fits.Statement.{statement}
 use Rattle.shown.proofs.lines.fits.Tie as tie
 
@@ -14,8 +14,8 @@ returns : tie.Need-returns
 returns c =
     let value = c.before in
     ap
-    (λ t. t && length-fits value.before.args.arrival.length)
-    (sym (not-true _ c.if1.true) ∙ value.value-fits.ensures)
+    (λ t. t && length_fits value.before.args.arrival.length)
+    (sym (not-true _ c.if1.true) ∙ value.value_is_fit.ensures)
 
 length-fits-requires : tie.Need-length-fits-requires
 length-fits-requires c κs = search rules
@@ -23,7 +23,7 @@ length-fits-requires c κs = search rules
 returns-2 : tie.Need-returns-2
 returns-2 c =
     let value = c.before.before in
-    ap₂ (λ t u. t && u) (sym (not-false _ c.before.if1.false) ∙ value.value-fits.ensures) c.length-fits.ensures
+    ap₂ (λ t u. t && u) (sym (not-false _ c.before.if1.false) ∙ value.value_is_fit.ensures) c.length_fits.ensures
 
-pub fits-spec : {M : Type 1} → statement M
-fits-spec = tie.close (tie.spec value-fits-requires returns length-fits-requires returns-2)
+pub fits_spec : {M : Type 1} → statement M
+fits_spec = tie.close (tie.spec value-fits-requires returns length-fits-requires returns-2)

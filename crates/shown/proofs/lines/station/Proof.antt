@@ -6,8 +6,8 @@ use borrow.Author.Tests.{eq-eqb, ne_eqb}
 use Rattle.text.specs.Text.{bytes}
 use Rattle.text.specs.Parts.{Told}
 use Rattle.text.proofs.Stores.{told_none, told-then}
-use Rattle.layout.specs.Layout.{address-label}
-use Rattle.shown.specs.Shown.{fieldsText}
+use Rattle.layout.specs.Layout.{address_label}
+use Rattle.shown.specs.Shown.{fields_text}
 use Rattle.shown.proofs.Storing.{told_here, closed}
 use Rattle.shown.proofs.lines.station.Statement.{statement}
 use Rattle.shown.proofs.lines.station.Tie as tie
@@ -21,7 +21,7 @@ begun :
     c.address.new.0
     0
     c.address.result
-    (bytes "station" ++ fieldsText (address-label ∷ []) (args.station.address.0 ∷ []))
+    (bytes "station" ++ fields_text (address_label ∷ []) (args.station.address.0 ∷ []))
     22
 begun c =
     let word = c.before.before in
@@ -62,8 +62,8 @@ returns-2 c =
     let test = c.before.before in
     rw (ne_eqb _ _ test.if1.false) (closed (told-then (begun test.before.before) (told_none _ _ 0)) (omega arith) c.put2.ensures)
 
-pub station-spec : {M : Type 1} → statement M
-station-spec =
+pub station_spec : {M : Type 1} → statement M
+station_spec =
     tie.close
     (tie.spec
     slice-aggregate-letters

@@ -14,5 +14,5 @@ returns c = simp (lt-ltb _ _ c.if1.true) (omega arith)
 returns-2 : tie.Need-returns-2
 returns-2 c = simp (le-ltb _ _ c.if1.false)
 
-pub one-more-spec : {M : Type 1} → statement M
-one-more-spec = tie.close (tie.spec add-result returns returns-2)
+pub one_more_spec : {M : Type 1} → statement M
+one_more_spec = tie.close (tie.spec add-result returns returns-2)

@@ -19,6 +19,6 @@ returns-2 c = simp (ne_eqb _ _ c.before.before.if1.false, eq-eqb _ _ c.before.if
 returns-3 : tie.Need-returns-3
 returns-3 c = simp (ne_eqb _ _ c.before.if1.false, ne_eqb _ _ c.if2.false)
 
-pub turned-after-spec : {M : Type 1} → statement M
-turned-after-spec =
+pub turned_after_spec : {M : Type 1} → statement M
+turned_after_spec =
     tie.close (tie.spec one-more-requires returns one-more-requires-2 returns-2 returns-3)

@@ -11,5 +11,5 @@ returns c = simp (lt-leb _ _ c.if1.true)
 returns-2 : tie.Need-returns-2
 returns-2 c = simp (le-leb _ _ c.if1.false) (sym (not-not _))
 
-pub length-fits-spec : {M : Type 1} → statement M
-length-fits-spec = tie.close (tie.spec returns returns-2)
+pub length_fits_spec : {M : Type 1} → statement M
+length_fits_spec = tie.close (tie.spec returns returns-2)

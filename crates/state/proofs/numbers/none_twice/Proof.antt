@@ -4,7 +4,7 @@ use Prim.Native.Nat.{◌-◌, ◌≤◌}
 use mathlib.Core.Path.{◌≡◌}
 use native.Mathlib.Omega.{arith}
 use borrow.Author.Rules.{rules}
-use Rattle.state.proofs.Found.{Known, known_start, known-end, Way, way-start, way-again, way_on, known_more}
+use Rattle.state.proofs.Found.{Known, known_start, known_end, Way, way-start, way-again, way_on, known_more}
 use Rattle.state.proofs.numbers.none_twice.Statement.{statement}
 use Rattle.state.proofs.numbers.none_twice.Tie as tie
 
@@ -101,10 +101,10 @@ loop-again : tie.Need-loop-preserved invariant-loop2 decreases-loop2 invariant-l
 loop-again c = (search rules, known_more c.before.loop2.invariant (omega arith) (omega arith) c.loop2-test.true)
 
 returns-2 : tie.Need-returns-2 invariant-loop2 decreases-loop2 invariant-loop decreases-loop
-returns-2 c = let all : c.before.loop.k ≡ c.before.before.args.n = omega arith in known-end c.before.loop.invariant.1 all
+returns-2 c = let all : c.before.loop.k ≡ c.before.before.args.n = omega arith in known_end c.before.loop.invariant.1 all
 
-pub none-twice-spec : {M : Type 1} → statement M
-none-twice-spec =
+pub none_twice_spec : {M : Type 1} → statement M
+none_twice_spec =
     tie.close
     (tie.spec
     invariant-loop2

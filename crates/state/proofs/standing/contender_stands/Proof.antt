@@ -20,7 +20,7 @@ no-contender-requires c κs = search rules
 returns : tie.Need-returns
 returns c =
     let one = c.before in
-    c.no-contender.ensures ∙ rw (not-true one.before.before.args.c.contends one.if1.true) (sym (and-true _))
+    c.has_no_contender.ensures ∙ rw (not-true one.before.before.args.c.contends one.if1.true) (sym (and-true _))
 
 returns-2 : tie.Need-returns-2
 returns-2 c = rw (contends c.before, not-true c.before.before.before.args.begun c.if2.true)
@@ -53,11 +53,11 @@ returns-5 c =
     let two = three.before.before in
     let args = two.before.before.before.args in
     let small = lt-ltb args.c.parameter args.settings.d (omega arith) in
-    c.parameter-fits.ensures
+    c.offer_fits.ensures
     ∙ rw (contends two.before, begun two, granted three.before.holds.ensures three.if3.false, small)
 
-pub contender-stands-spec : {M : Type 1} → statement M
-contender-stands-spec =
+pub contender_stands_spec : {M : Type 1} → statement M
+contender_stands_spec =
     tie.close
     (tie.spec
     no-contender-requires

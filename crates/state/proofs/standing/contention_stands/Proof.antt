@@ -4,20 +4,20 @@ use mathlib.Core.Bool.{and-true, and-false}
 use native.Mathlib.Omega.{arith}
 use borrow.Author.Rules.{rules}
 use borrow.Author.Tests.{not-true, not-false, eq-eqb, ne_eqb, lt-ltb, le-ltb}
-use Rattle.state.specs.State.{no-window}
+use Rattle.state.specs.State.{no_window}
 use Rattle.state.proofs.standing.contention_stands.Statement.{statement}
 use Rattle.state.proofs.standing.contention_stands.Tie as tie
 
 returns : tie.Need-returns
 returns c =
     let k = c.before.before.before.args.c in
-    rw (not-true k.begun c.before.if1.true, c.if2.true, and-false (no-window k.window))
+    rw (not-true k.begun c.before.if1.true, c.if2.true, and-false (no_window k.window))
 
 returns-2 : tie.Need-returns-2
 returns-2 c =
     let two = c.before.before in
     let k = two.before.before.before.args.c in
-    let zero = no-window k.window in
+    let zero = no_window k.window in
     rw (not-true k.begun two.before.if1.true, two.if2.false, ne_eqb _ _ c.if3.true, and-true zero, and-false zero)
 
 no-window-requires : tie.Need-no-window-requires
@@ -27,9 +27,9 @@ returns-3 : tie.Need-returns-3
 returns-3 c =
     let two = c.before.before.before in
     let k = two.before.before.before.args.c in
-    let zero = and-true (no-window k.window) in
+    let zero = and-true (no_window k.window) in
     rw (not-true k.begun two.before.if1.true, two.if2.false, eq-eqb _ _ c.before.if3.false, zero, zero, zero)
-    c.no-window.ensures
+    c.no_window.ensures
 
 wide-requires : tie.Need-wide-requires
 wide-requires c κs = search rules
@@ -68,8 +68,8 @@ returns-7 c =
     rw (not-false one.before.before.args.c.begun one.if1.false, four.if4.false, eq-eqb _ _ c.before.if6.false)
     c.is-placed2.ensures
 
-pub contention-stands-spec : {M : Type 1} → statement M
-contention-stands-spec =
+pub contention_stands_spec : {M : Type 1} → statement M
+contention_stands_spec =
     tie.close
     (tie.spec
     returns

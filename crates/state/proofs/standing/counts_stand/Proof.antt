@@ -34,5 +34,5 @@ returns-3 c =
     let args = c.before.before.args in
     left_over args.admitted args.sent args.lost args.waiting c.before.if1.false c.if2.false
 
-pub counts-stand-spec : {M : Type 1} → statement M
-counts-stand-spec = tie.close (tie.spec returns returns-2 returns-3)
+pub counts_stand_spec : {M : Type 1} → statement M
+counts_stand_spec = tie.close (tie.spec returns returns-2 returns-3)

@@ -14,11 +14,11 @@ use Rattle.state.proofs.Tested.{some_turn, some_end}
 use Rattle.state.proofs.standing.has_capability.Statement.{statement}
 use Rattle.state.proofs.standing.has_capability.Tie as tie
 
-abbrev has-it : Capability → Listed → Bool
-has-it capability l = eqb capability.0 l.capability.0
+abbrev has_it : Capability → Listed → Bool
+has_it capability l = eqb capability.0 l.capability.0
 
 abbrev invariant-loop : tie.invariant-loop
-invariant-loop n capability listed i₀ i = some_of (has-it capability) (take n listed) ≡ some_of (has-it capability) (slice i n listed)
+invariant-loop n capability listed i₀ i = some_of (has_it capability) (take n listed) ≡ some_of (has_it capability) (slice i n listed)
 
 abbrev decreases-loop : tie.decreases-loop
 decreases-loop n capability listed i₀ i = n - i
@@ -39,9 +39,9 @@ same-capability-requires c κs = search rules
 turn :
     (c : tie.After-same-capability invariant-loop decreases-loop)
     → let args = c.before.before.before.before.args in
-    some_of (has-it args.capability) (take args.n args.t1)
+    some_of (has_it args.capability) (take args.n args.t1)
     ≡ (c.same-capability.result
-    || some_of (has-it args.capability) (slice (c.before.before.before.loop.i + 1) args.n args.t1))
+    || some_of (has_it args.capability) (slice (c.before.before.before.loop.i + 1) args.n args.t1))
 turn c =
     let at = c.before.before.before in
     let start = at.before in
@@ -64,8 +64,8 @@ loop-again c = turn c.before ∙ rw c.if1.false
 returns-2 : tie.Need-returns-2 invariant-loop decreases-loop
 returns-2 c = sym (c.before.loop.invariant ∙ some_end _ _ _ _ c.loop-test.false)
 
-pub has-capability-spec : {M : Type 1} → statement M
-has-capability-spec =
+pub has_capability_spec : {M : Type 1} → statement M
+has_capability_spec =
     tie.close
     (tie.spec
     invariant-loop

@@ -6,16 +6,16 @@ use mathlib.Core.Bool.{◌||◌}
 use borrow.Author.Rules.{rules}
 use lib.Seq.{slice}
 use Rattle.rules.specs.Lists.{some_of}
-use Rattle.rules.specs.Standing.{same-packet}
-use Rattle.state.specs.State.{noPacket}
-use Rattle.state.specs.Parts.{packetsOf}
-use Rattle.state.proofs.Tested.{queue-room, some_turn, some_end}
+use Rattle.rules.specs.Standing.{same_packet}
+use Rattle.state.specs.State.{no_packet}
+use Rattle.state.specs.Parts.{packets_of}
+use Rattle.state.proofs.Tested.{queue_room, some_turn, some_end}
 use Rattle.state.proofs.standing.holds.Statement.{statement}
 use Rattle.state.proofs.standing.holds.Tie as tie
 
 abbrev invariant-loop : tie.invariant-loop
 invariant-loop packet queue length j₀ j =
-    some_of (same-packet packet) (packetsOf queue) ≡ some_of (same-packet packet) (slice j length queue.packets)
+    some_of (same_packet packet) (packets_of queue) ≡ some_of (same_packet packet) (slice j length queue.packets)
 
 abbrev decreases-loop : tie.decreases-loop
 decreases-loop packet queue length j₀ j = length - j
@@ -37,13 +37,13 @@ turn :
     (c : tie.After-same-packet invariant-loop decreases-loop)
     → let at = c.before.before.before in
     let args = at.before.args in
-    let held = some_of (same-packet args.packet) in
-    held (packetsOf args.t1) ≡ (c.same-packet.result || held (slice (at.loop.j + 1) args.t1.length args.t1.packets))
+    let held = some_of (same_packet args.packet) in
+    held (packets_of args.t1) ≡ (c.same_packet.result || held (slice (at.loop.j + 1) args.t1.length args.t1.packets))
 turn c =
     let at = c.before.before.before in
     let start = at.before in
-    let room = queue-room start.args.t1 _ start.well-formed.0 start.requires in
-    at.loop.invariant ∙ some_turn _ _ at.loop.j _ noPacket c.before.before.loop-test.true room c.same-packet.ensures
+    let room = queue_room start.args.t1 _ start.well-formed.0 start.requires in
+    at.loop.invariant ∙ some_turn _ _ at.loop.j _ no_packet c.before.before.loop-test.true room c.same_packet.ensures
 
 returns : tie.Need-returns invariant-loop decreases-loop
 returns c = sym (turn c.before ∙ rw c.if1.true)
@@ -60,8 +60,8 @@ loop-again c = turn c.before ∙ rw c.if1.false
 returns-2 : tie.Need-returns-2 invariant-loop decreases-loop
 returns-2 c = sym (c.before.loop.invariant ∙ some_end _ _ _ _ c.loop-test.false)
 
-pub holds-spec : {M : Type 1} → statement M
-holds-spec =
+pub holds_spec : {M : Type 1} → statement M
+holds_spec =
     tie.close
     (tie.spec
     invariant-loop

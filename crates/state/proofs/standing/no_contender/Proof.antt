@@ -14,7 +14,7 @@ no-packet-requires : tie.Need-no-packet-requires
 no-packet-requires c κs = search rules
 
 returns-3 : tie.Need-returns-3
-returns-3 c = rw (c.before.before.before.if1.false, eq-eqb _ _ c.before.if2.false) c.no-packet.ensures
+returns-3 c = rw (c.before.before.before.if1.false, eq-eqb _ _ c.before.if2.false) c.has_no_packet.ensures
 
-pub no-contender-spec : {M : Type 1} → statement M
-no-contender-spec = tie.close (tie.spec returns returns-2 no-packet-requires returns-3)
+pub no_contender_spec : {M : Type 1} → statement M
+no_contender_spec = tie.close (tie.spec returns returns-2 no-packet-requires returns-3)

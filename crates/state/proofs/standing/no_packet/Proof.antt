@@ -24,5 +24,5 @@ returns-4 c =
     let two = three.before.before in
     rw (eq-eqb _ _ two.before.before.if1.false, eq-eqb _ _ two.if2.false, eq-eqb _ _ three.if3.false) c.same-slot.ensures
 
-pub no-packet-spec : {M : Type 1} → statement M
-no-packet-spec = tie.close (tie.spec returns returns-2 returns-3 same-slot-requires returns-4)
+pub no_packet_spec : {M : Type 1} → statement M
+no_packet_spec = tie.close (tie.spec returns returns-2 returns-3 same-slot-requires returns-4)

@@ -26,5 +26,5 @@ returns-4 c =
     let two = c.before.before in
     rw (eq-eqb _ _ two.before.before.if1.false, eq-eqb _ _ two.if2.false, c.enum-told2.given.1)
 
-pub no-window-spec : {M : Type 1} → statement M
-no-window-spec = tie.close (tie.spec returns returns-2 enum_told enum-told-2 returns-3 returns-4)
+pub no_window_spec : {M : Type 1} → statement M
+no_window_spec = tie.close (tie.spec returns returns-2 enum_told enum-told-2 returns-3 returns-4)

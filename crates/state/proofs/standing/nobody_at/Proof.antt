@@ -44,7 +44,7 @@ no-contender-requires c κs = search rules
 returns-4 : tie.Need-returns-4
 returns-4 c =
     let three = c.before.before in
-    rw (nobody three.before.before, eq-eqb _ _ three.if3.false, denied c.before.no-contender.ensures c.if4.true)
+    rw (nobody three.before.before, eq-eqb _ _ three.if3.false, denied c.before.has_no_contender.ensures c.if4.true)
 
 zero-past-end-requires : tie.Need-zero-past-end-requires
 zero-past-end-requires c κs = search rules
@@ -52,11 +52,11 @@ zero-past-end-requires c κs = search rules
 returns-5 : tie.Need-returns-5
 returns-5 c =
     let three = c.before.before.before in
-    let none = granted c.before.before.no-contender.ensures c.before.if4.false in
+    let none = granted c.before.before.has_no_contender.ensures c.before.if4.false in
     rw (nobody three.before.before, eq-eqb _ _ three.if3.false, none) c.zero-past-end.ensures
 
-pub nobody-at-spec : {M : Type 1} → statement M
-nobody-at-spec =
+pub nobody_at_spec : {M : Type 1} → statement M
+nobody_at_spec =
     tie.close
     (tie.spec
     same-address-requires

@@ -6,20 +6,20 @@ use borrow.Author.Rules.{rules}
 use borrow.Author.Tests.{not-true, not-false}
 use lib.Seq.{slice}
 use Rattle.rules.specs.Lists.{each_of}
-use Rattle.rules.specs.SetUp.{disciplineOf}
-use Rattle.rules.specs.Standing.{packet-fits}
-use Rattle.state.specs.State.{Slot, Packet, noPacket}
-use Rattle.state.specs.Parts.{packetsOf}
-use Rattle.state.proofs.Tested.{queue-room, each_turn, each-end}
+use Rattle.rules.specs.SetUp.{discipline_of}
+use Rattle.rules.specs.Standing.{packet_fits}
+use Rattle.state.specs.State.{Slot, Packet, no_packet}
+use Rattle.state.specs.Parts.{packets_of}
+use Rattle.state.proofs.Tested.{queue_room, each_turn, each_end}
 use Rattle.state.proofs.standing.packets_fit.Statement.{statement}
 use Rattle.state.proofs.standing.packets_fit.Tie as tie
 
 abbrev fits : ℕ → ℕ → Slot → Packet → Bool
-fits discipline d clock = packet-fits (disciplineOf discipline) d clock.0
+fits discipline d clock = packet_fits (discipline_of discipline) d clock.0
 
 abbrev invariant-loop : tie.invariant-loop
 invariant-loop discipline d clock queue length j₀ j =
-    each_of (fits discipline d clock) (packetsOf queue) ≡ each_of (fits discipline d clock) (slice j length queue.packets)
+    each_of (fits discipline d clock) (packets_of queue) ≡ each_of (fits discipline d clock) (slice j length queue.packets)
 
 abbrev decreases-loop : tie.decreases-loop
 decreases-loop discipline d clock queue length j₀ j = length - j
@@ -42,15 +42,15 @@ turn :
     → let at = c.before.before.before in
     let args = at.before.args in
     let fit = each_of (fits args.discipline args.d args.clock) in
-    fit (packetsOf args.t1) ≡ (c.packet-fits.result && fit (slice (at.loop.j + 1) args.t1.length args.t1.packets))
+    fit (packets_of args.t1) ≡ (c.packet_fits.result && fit (slice (at.loop.j + 1) args.t1.length args.t1.packets))
 turn c =
     let at = c.before.before.before in
     let start = at.before in
-    let room = queue-room start.args.t1 _ start.well-formed.0 start.requires in
-    at.loop.invariant ∙ each_turn _ _ at.loop.j _ noPacket c.before.before.loop-test.true room c.packet-fits.ensures
+    let room = queue_room start.args.t1 _ start.well-formed.0 start.requires in
+    at.loop.invariant ∙ each_turn _ _ at.loop.j _ no_packet c.before.before.loop-test.true room c.packet_fits.ensures
 
 returns : tie.Need-returns invariant-loop decreases-loop
-returns c = sym (turn c.before ∙ rw (not-true c.before.packet-fits.result c.if1.true))
+returns c = sym (turn c.before ∙ rw (not-true c.before.packet_fits.result c.if1.true))
 
 add-j : tie.Need-overflow-add-j invariant-loop decreases-loop
 add-j c = search rules
@@ -59,13 +59,13 @@ loop-less : tie.Need-loop-smaller invariant-loop decreases-loop
 loop-less c = search rules
 
 loop-again : tie.Need-loop-preserved invariant-loop decreases-loop
-loop-again c = turn c.before ∙ rw (not-false c.before.packet-fits.result c.if1.false)
+loop-again c = turn c.before ∙ rw (not-false c.before.packet_fits.result c.if1.false)
 
 returns-2 : tie.Need-returns-2 invariant-loop decreases-loop
-returns-2 c = sym (c.before.loop.invariant ∙ each-end _ _ _ _ c.loop-test.false)
+returns-2 c = sym (c.before.loop.invariant ∙ each_end _ _ _ _ c.loop-test.false)
 
-pub packets-fit-spec : {M : Type 1} → statement M
-packets-fit-spec =
+pub packets_fit_spec : {M : Type 1} → statement M
+packets_fit_spec =
     tie.close
     (tie.spec
     invariant-loop

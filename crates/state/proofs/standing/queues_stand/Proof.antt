@@ -10,12 +10,12 @@ use lib.Dec.{eqb}
 use lib.ListN.{length, take}
 use lib.Seq.{length-take-le, paste, paste-zero}
 use Rattle.rules.specs.Lists.{distinct}
-use Rattle.rules.specs.Bus.{numbersIn}
+use Rattle.rules.specs.Bus.{numbers_in}
 use Rattle.state.specs.State.{Segment, Queues, places_at}
-use Rattle.state.specs.Parts.{placeSound, queuesSound}
+use Rattle.state.specs.Parts.{place_sound, queues_sound}
 use Rattle.state.proofs.Tested.{denied, granted, passed, failed}
-use Rattle.state.proofs.Places.{queues-arrays, taken-one, taken-all, written_one, written_all}
-use Rattle.state.proofs.StandingParts.{next, from_place, place-first, place-fails, place-passes, places-end}
+use Rattle.state.proofs.Places.{queues_arrays, taken-one, taken-all, written_one, written_all}
+use Rattle.state.proofs.StandingParts.{next, from_place, place_first, place_fails, place-passes, places-end}
 use Rattle.state.proofs.standing.queues_stand.Statement.{statement}
 use Rattle.state.proofs.standing.queues_stand.Tie as tie
 
@@ -23,14 +23,14 @@ abbrev invariant-loop2 : tie.invariant-loop2
 invariant-loop2 g queues settings contention numbers₀ waiting i l contends c places₀ j₀ numbers places j =
     (j ≤ 16)
     × (places ≡ paste places₀ 0 (places_at queues i) j)
-    × (numbers ≡ paste numbers₀ waiting (numbersIn (places_at queues i)) j)
+    × (numbers ≡ paste numbers₀ waiting (numbers_in (places_at queues i)) j)
 
 abbrev decreases-loop2 : tie.decreases-loop2
 decreases-loop2 g queues settings contention numbers₀ waiting i l contends c places₀ j₀ numbers places j = 16 - j
 
 abbrev invariant-loop : tie.invariant-loop
 invariant-loop g queues settings contention numbers₀ waiting₀ i₀ numbers waiting i =
-    (i ≤ 64) × (waiting ≤ 16 * i) × (length numbers ≡ 1024) × (queuesSound g queues ≡ from_place g queues (take waiting numbers) i)
+    (i ≤ 64) × (waiting ≤ 16 * i) × (length numbers ≡ 1024) × (queues_sound g queues ≡ from_place g queues (take waiting numbers) i)
 
 abbrev decreases-loop : tie.decreases-loop
 decreases-loop g queues settings contention numbers₀ waiting₀ i₀ numbers waiting i = 64 - i
@@ -46,10 +46,10 @@ abbrev seen : tie.At-loop invariant-loop2 decreases-loop2 invariant-loop decreas
 seen at = take at.loop.waiting at.loop.numbers
 
 full : (at : tie.At-loop invariant-loop2 decreases-loop2 invariant-loop decreases-loop) → length (row at).packets ≡ 1024
-full at = (queues-arrays (row at) _ at.before.before.before.well-formed.1.0).1
+full at = (queues_arrays (row at) _ at.before.before.before.well-formed.1.0).1
 
 loop-holds : tie.Need-loop-init invariant-loop2 decreases-loop2 invariant-loop decreases-loop
-loop-holds c = (search rules, search rules, refl, place-first c.before.before.args.t1 c.before.before.args.t2)
+loop-holds c = (search rules, search rules, refl, place_first c.before.before.args.t1 c.before.before.args.t2)
 
 mul-l : tie.Need-overflow-mul-l invariant-loop2 decreases-loop2 invariant-loop decreases-loop
 mul-l c = search rules
@@ -93,7 +93,7 @@ element-copy-out-place-stands c = search rules
 loop2-holds : tie.Need-loop2-init invariant-loop2 decreases-loop2 invariant-loop decreases-loop
 loop2-holds c =
     let at = c.before.before.before.before.before.before.before.before in
-    (search rules, refl, paste-zero at.loop.numbers at.loop.waiting (numbersIn (places_at (row at) at.loop.i)))
+    (search rules, refl, paste-zero at.loop.numbers at.loop.waiting (numbers_in (places_at (row at) at.loop.i)))
 
 mul-p : tie.Need-overflow-mul-p invariant-loop2 decreases-loop2 invariant-loop decreases-loop
 mul-p c = search rules
@@ -151,7 +151,7 @@ place-stands-requires c κs = search rules
 -- what is told of place i
 told :
     (c : tie.After-place-stands invariant-loop2 decreases-loop2 invariant-loop decreases-loop)
-    → let at = c.before.before.before.before.before.before.before.before.before.before.before.before.before in c.place-stands.result ≡ placeSound (lent at) (row at) at.loop.i
+    → let at = c.before.before.before.before.before.before.before.before.before.before.before.before.before in c.place-stands.result ≡ place_sound (lent at) (row at) at.loop.i
 told c =
     let inner = c.before.before.before.before in
     let at = inner.before.before.before.before.before.before.before.before.before in
@@ -159,13 +159,13 @@ told c =
 
 sound :
     (c : tie.Else1 invariant-loop2 decreases-loop2 invariant-loop decreases-loop)
-    → let at = c.before.before.before.before.before.before.before.before.before.before.before.before.before.before in placeSound (lent at) (row at) at.loop.i ≡ true
+    → let at = c.before.before.before.before.before.before.before.before.before.before.before.before.before.before in place_sound (lent at) (row at) at.loop.i ≡ true
 sound c = granted (told c.before) c.if1.false
 
 returns : tie.Need-returns invariant-loop2 decreases-loop2 invariant-loop decreases-loop
 returns c =
     let at = c.before.before.before.before.before.before.before.before.before.before.before.before.before.before in
-    let none = place-fails (lent at) (row at) (seen at) at.loop.i (omega arith) in
+    let none = place_fails (lent at) (row at) (seen at) at.loop.i (omega arith) in
     sym (at.loop.invariant.3 ∙ none (denied (told c.before) c.if1.true))
 
 add-waiting : tie.Need-overflow-add-waiting invariant-loop2 decreases-loop2 invariant-loop decreases-loop
@@ -201,7 +201,7 @@ ended :
     (c : tie.After-loop invariant-loop2 decreases-loop2 invariant-loop decreases-loop)
     → let at = c.before in
     let g = lent at in
-    queuesSound g (row at)
+    queues_sound g (row at)
     ≡ (eqb g.admitted (g.sent + g.lost + at.loop.waiting) && distinct (seen at))
 ended c =
     let at = c.before in
@@ -220,10 +220,10 @@ none-twice-requires c κs = (omega arith, omega arith)
 returns-3 : tie.Need-returns-3 invariant-loop2 decreases-loop2 invariant-loop decreases-loop
 returns-3 c =
     let two = c.before.before in
-    c.none-twice.ensures ∙ sym (passed (ended two.before.before) (granted two.before.counts-stand.ensures two.if2.false))
+    c.none_twice.ensures ∙ sym (passed (ended two.before.before) (granted two.before.counts-stand.ensures two.if2.false))
 
-pub queues-stand-spec : {M : Type 1} → statement M
-queues-stand-spec =
+pub queues_stand_spec : {M : Type 1} → statement M
+queues_stand_spec =
     tie.close
     (tie.spec
     invariant-loop2

@@ -9,15 +9,15 @@ use lib.Dec.{leb, ltb}
 use lib.ListN.{get_or}
 use lib.Seq.{slice}
 use Rattle.rules.specs.Standing.{rising}
-use Rattle.state.specs.State.{noPacket}
-use Rattle.state.specs.Parts.{packetsOf}
-use Rattle.state.proofs.Tested.{queue-room, left-turn, left_end}
+use Rattle.state.specs.State.{no_packet}
+use Rattle.state.specs.Parts.{packets_of}
+use Rattle.state.proofs.Tested.{queue_room, left_turn, left_end}
 use Rattle.state.proofs.standing.rises.Statement.{statement}
 use Rattle.state.proofs.standing.rises.Tie as tie
 
 abbrev invariant-loop : tie.invariant-loop
 invariant-loop admitted queue length before₀ j₀ before j =
-    rising 0 admitted (packetsOf queue) ≡ rising before admitted (slice j length queue.packets)
+    rising 0 admitted (packets_of queue) ≡ rising before admitted (slice j length queue.packets)
 
 abbrev decreases-loop : tie.decreases-loop
 decreases-loop admitted queue length before₀ j₀ before j = length - j
@@ -35,14 +35,14 @@ element-copy-out-p c = search rules
 turn :
     (c : tie.In-loop invariant-loop decreases-loop)
     → let args = c.before.before.args in
-    let number = (get_or args.t1.packets c.before.loop.j noPacket).number in
-    rising 0 args.admitted (packetsOf args.t1)
+    let number = (get_or args.t1.packets c.before.loop.j no_packet).number in
+    rising 0 args.admitted (packets_of args.t1)
     ≡ (ltb c.before.loop.before number
     && rising number args.admitted (slice (c.before.loop.j + 1) args.t1.length args.t1.packets))
 turn c =
     let start = c.before.before in
-    let room = queue-room start.args.t1 _ start.well-formed.0 start.requires in
-    let next = left-turn _ start.args.t1.packets _ noPacket c.loop-test.true room in
+    let room = queue_room start.args.t1 _ start.well-formed.0 start.requires in
+    let next = left_turn _ start.args.t1.packets _ no_packet c.loop-test.true room in
     c.before.loop.invariant ∙ ap (rising c.before.loop.before start.args.admitted) next
 
 returns : tie.Need-returns invariant-loop decreases-loop
@@ -67,8 +67,8 @@ returns-2 c =
     ap (λ n. leb n admitted) c.wide.ensures
     ∙ sym (at.loop.invariant ∙ ap (rising at.loop.before admitted) (left_end _ _ _ c.before.loop-test.false))
 
-pub rises-spec : {M : Type 1} → statement M
-rises-spec =
+pub rises_spec : {M : Type 1} → statement M
+rises_spec =
     tie.close
     (tie.spec
     invariant-loop

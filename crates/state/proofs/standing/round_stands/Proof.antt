@@ -31,5 +31,5 @@ returns-3 c =
     rw (not-false start.args.g.round.won one.if1.false, le-leb 2 start.args.g.settings.discipline two.if2.false)
     c.has-capability.ensures
 
-pub round-stands-spec : {M : Type 1} → statement M
-round-stands-spec = tie.close (tie.spec same-capability-requires returns returns-2 has-capability-requires returns-3)
+pub round_stands_spec : {M : Type 1} → statement M
+round_stands_spec = tie.close (tie.spec same-capability-requires returns returns-2 has-capability-requires returns-3)

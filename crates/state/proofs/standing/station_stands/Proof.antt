@@ -5,8 +5,8 @@ use borrow.Author.Rules.{rules}
 use borrow.Author.Tests.{le-leb, lt-leb}
 use Rattle.rules.specs.Standing.{rising}
 use Rattle.rules.proofs.Laws.{true-and}
-use Rattle.state.specs.State.{queue-padded}
-use Rattle.state.specs.Parts.{packetsOf}
+use Rattle.state.specs.State.{queue_padded}
+use Rattle.state.specs.Parts.{packets_of}
 use Rattle.state.proofs.Tested.{denied, granted}
 use Rattle.state.proofs.standing.station_stands.Statement.{statement}
 use Rattle.state.proofs.standing.station_stands.Tie as tie
@@ -14,14 +14,14 @@ use Rattle.state.proofs.standing.station_stands.Tie as tie
 -- what is known after each test that is passed
 padded :
     (c : tie.Else2)
-    → let queue = c.before.before.before.before.args.queue in queue-padded queue.length queue.packets ≡ true
+    → let queue = c.before.before.before.before.args.queue in queue_padded queue.length queue.packets ≡ true
 padded c = true-and (le-leb _ _ c.before.before.if1.false) (granted c.before.zero-past-end.ensures c.if2.false)
 
 rises :
     (c : tie.Else3)
     → let args = c.before.before.before.before.before.before.args in
     let queue = args.queue in
-    (queue-padded queue.length queue.packets && rising 0 args.admitted (packetsOf queue)) ≡ true
+    (queue_padded queue.length queue.packets && rising 0 args.admitted (packets_of queue)) ≡ true
 rises c = true-and (padded c.before.before) (granted c.before.rises.ensures c.if3.false)
 
 returns : tie.Need-returns
@@ -52,10 +52,10 @@ returns-5 : tie.Need-returns-5
 returns-5 c =
     let four = c.before in
     let fit = granted four.before.packets-fit.ensures four.if4.false in
-    rw (rises four.before.before, fit) c.contender-stands.ensures
+    rw (rises four.before.before, fit) c.contender_stands.ensures
 
-pub station-stands-spec : {M : Type 1} → statement M
-station-stands-spec =
+pub station_stands_spec : {M : Type 1} → statement M
+station_stands_spec =
     tie.close
     (tie.spec
     returns

@@ -8,8 +8,8 @@ use borrow.Author.Rules.{rules}
 use lib.ListN.{length, get_or, take}
 use lib.Seq.{slice}
 use Rattle.rules.specs.Lists.{total}
-use Rattle.state.proofs.Tested.{left-turn, left_end}
-use Rattle.state.proofs.StandingParts.{first-few}
+use Rattle.state.proofs.Tested.{left_turn, left_end}
+use Rattle.state.proofs.StandingParts.{first_few}
 use Rattle.state.proofs.standing.waiting_in.Statement.{statement}
 use Rattle.state.proofs.standing.waiting_in.Tie as tie
 
@@ -60,7 +60,7 @@ loop-again c =
     let start = turn.before.before in
     let k = get_or start.args.t1 turn.loop.i 0 in
     let room : turn.before.at_most.result ≤ length start.args.t1 = let h = few turn.before in search rules in
-    let next = ap (total held) (left-turn _ start.args.t1 turn.loop.i 0 c.before.loop-test.true room) in
+    let next = ap (total held) (left_turn _ start.args.t1 turn.loop.i 0 c.before.loop-test.true room) in
     (omega (arith, c.at-most2.ensures, min-le_right k 16), omega (arith, c.at-most2.ensures))
 
 returns : tie.Need-returns invariant-loop decreases-loop
@@ -69,11 +69,11 @@ returns c =
     let over = ap (total held) (left_end _ start.args.t1 c.before.loop.i c.loop-test.false) in
     let full : length start.args.t1 ≡ 64 = search rules in
     let count! = ap (λ k. total held (take k start.args.t1)) c.before.before.at_most.ensures in
-    let whole = ap (total held) (first-few start.args.t1 start.args.n 64 full) in
+    let whole = ap (total held) (first_few start.args.t1 start.args.n 64 full) in
     omega arith
 
-pub waiting-in-spec : {M : Type 1} → statement M
-waiting-in-spec =
+pub waiting_in_spec : {M : Type 1} → statement M
+waiting_in_spec =
     tie.close
     (tie.spec
     invariant-loop

@@ -18,6 +18,6 @@ same-capability-requires c κs = search rules
 returns-2 : tie.Need-returns-2
 returns-2 c = simp (ne_eqb _ _ c.before.if1.false) (ap not c.same-capability.ensures)
 
-pub capability-outside-spec : {M : Type 1} → statement M
-capability-outside-spec =
+pub capability_outside_spec : {M : Type 1} → statement M
+capability_outside_spec =
     tie.close (tie.spec capability-past-requires returns same-capability-requires returns-2)

@@ -26,5 +26,5 @@ returns-2 c = simp (outside_above 1 64 _ c.before.if1.false, lt-ltb 64 _ c.if2.t
 returns-3 : tie.Need-returns-3
 returns-3 c = simp (outside_above 1 64 _ c.before.if1.false, le-ltb 64 _ c.if2.false) (filled _ _ c.if2.false)
 
-pub count-outside-spec : {M : Type 1} → statement M
-count-outside-spec = tie.close (tie.spec returns returns-2 returns-3)
+pub count_outside_spec : {M : Type 1} → statement M
+count_outside_spec = tie.close (tie.spec returns returns-2 returns-3)

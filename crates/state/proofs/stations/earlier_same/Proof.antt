@@ -12,5 +12,5 @@ same-requires c κs = search rules
 returns-2 : tie.Need-returns-2
 returns-2 c = rw c.before.if1.false c.same.ensures
 
-pub earlier-same-spec : {M : Type 1} → statement M
-earlier-same-spec = tie.close (tie.spec returns same-requires returns-2)
+pub earlier_same_spec : {M : Type 1} → statement M
+earlier_same_spec = tie.close (tie.spec returns same-requires returns-2)

@@ -9,24 +9,24 @@ use lib.Dec.{eqb}
 use lib.ListN.{take}
 use borrow.Author.Rules.{rules}
 use borrow.Author.Tests.{eq-eqb, ne_eqb}
-use Rattle.state.specs.SetUp.{requestWith}
+use Rattle.state.specs.SetUp.{request_with}
 use Rattle.state.specs.Parts.{Addresses, Capabilities}
-use Rattle.state.proofs.SettingUp.{stations-count, sharedFrom, earlier-turn, earlier-end, faultFrom, faulty-turn, faulty-end}
+use Rattle.state.proofs.SettingUp.{stations_count, shared_from, earlier-turn, earlier-end, fault_from, faulty-turn, faulty_end}
 use Rattle.state.proofs.stations.first_faulty.Statement.{statement}
 use Rattle.state.proofs.stations.first_faulty.Tie as tie
 
 abbrev invariant-loop2 : tie.invariant-loop2
 invariant-loop2 settings stations n i s address₀ capability₀ e₀ address capability e =
     (e ≤ i)
-    × (sharedFrom Addresses stations i 0 ≡ (address || sharedFrom Addresses stations i e))
-    × (sharedFrom Capabilities stations i 0 ≡ (capability || sharedFrom Capabilities stations i e))
+    × (shared_from Addresses stations i 0 ≡ (address || shared_from Addresses stations i e))
+    × (shared_from Capabilities stations i 0 ≡ (capability || shared_from Capabilities stations i e))
 
 abbrev decreases-loop2 : tie.decreases-loop2
 decreases-loop2 settings stations n i s address₀ capability₀ e₀ address capability e = i - e
 
 abbrev invariant-loop : tie.invariant-loop
 invariant-loop settings stations n i₀ i =
-    (i ≤ n) × (faultFrom (requestWith settings []) stations n 0 ≡ faultFrom (requestWith settings []) stations n i)
+    (i ≤ n) × (fault_from (request_with settings []) stations n 0 ≡ fault_from (request_with settings []) stations n i)
 
 abbrev decreases-loop : tie.decreases-loop
 decreases-loop settings stations n i₀ i = n - i
@@ -68,7 +68,7 @@ loop2-again c =
     let at = turn.before.before.before in
     let start = at.before in
     let stations = start.args.t2 in
-    let count = stations-count stations _ start.well-formed.1.0 in
+    let count = stations_count stations _ start.well-formed.1.0 in
     let i = at.loop.i in
     let e = told.e in (
       search rules,
@@ -84,20 +84,20 @@ turn :
     (c : tie.After-station-verdict invariant-loop2 decreases-loop2 invariant-loop decreases-loop) (t : Bool) → eqb c.station-verdict.result.refusal 0 ≡ t
     → let at = c.before.before.before.before.before in
     let g = at.before.args.settings in
-    let from = faultFrom (requestWith g []) at.before.args.t2 g.n in
+    let from = fault_from (request_with g []) at.before.args.t2 g.n in
     from 0 ≡ cond t (from (at.loop.i + 1)) c.station-verdict.result
 turn c t told =
     let inner = c.before.before in
     let at = inner.before.before.before in
     let start = at.before in
     let stations = start.args.t2 in
-    let count = stations-count stations _ start.well-formed.1.0 in
+    let count = stations_count stations _ start.well-formed.1.0 in
     let i = at.loop.i in
     let e = inner.loop2.e in
     let address = earlier-end Addresses stations i e _ inner.loop2.invariant.0 (omega arith) inner.loop2.invariant.1 in
     let capability = earlier-end Capabilities stations i e _ inner.loop2.invariant.0 (omega arith) inner.loop2.invariant.2 in
     at.loop.invariant.1
-    ∙ faulty-turn (requestWith start.args.settings []) stations i _ _ t count (omega arith) start.requires
+    ∙ faulty-turn (request_with start.args.settings []) stations i _ _ t count (omega arith) start.requires
     (c.station-verdict.ensures (take i stations) address capability) told
 
 returns : tie.Need-returns invariant-loop2 decreases-loop2 invariant-loop decreases-loop
@@ -121,10 +121,10 @@ returns-2 c =
     let start = at.before in
     c.fault.ensures
     ∙ sym
-    (at.loop.invariant.1 ∙ faulty-end (requestWith start.args.settings []) start.args.t2 _ _ at.loop.invariant.0 (omega arith))
+    (at.loop.invariant.1 ∙ faulty_end (request_with start.args.settings []) start.args.t2 _ _ at.loop.invariant.0 (omega arith))
 
-pub first-faulty-spec : {M : Type 1} → statement M
-first-faulty-spec =
+pub first_faulty_spec : {M : Type 1} → statement M
+first_faulty_spec =
     tie.close
     (tie.spec
     invariant-loop2

@@ -1,7 +1,7 @@
 -- `fresh` meets its contract: an array of one value is a row of it. Assumes nothing.
-use Rattle.state.specs.State.{noPacket, noContention, noRound}
-use Rattle.state.proofs.Contenders.{none-recorded}
-use Rattle.state.proofs.Rows.{row-replicate}
+use Rattle.state.specs.State.{no_packet, no_contention, no_round}
+use Rattle.state.proofs.Contenders.{none_recorded}
+use Rattle.state.proofs.Rows.{row_replicate}
 use Rattle.state.proofs.stations.fresh.Statement.{statement}
 use Rattle.state.proofs.stations.fresh.Tie as tie
 
@@ -16,17 +16,17 @@ returns c = λ i.
         sent = 0;
         lost = 0;
         turned = 0;
-        round = noRound;
-        contention = noContention;
-        contenders = (none-recorded i).word;
-        parameters = (none-recorded i).parameters;
-        numbers = (none-recorded i).numbers;
-        values = (none-recorded i).values;
-        lengths = (none-recorded i).lengths;
-        admissions = (none-recorded i).admissions;
+        round = no_round;
+        contention = no_contention;
+        contenders = (none_recorded i).word;
+        parameters = (none_recorded i).parameters;
+        numbers = (none_recorded i).numbers;
+        values = (none_recorded i).values;
+        lengths = (none_recorded i).lengths;
+        admissions = (none_recorded i).admissions;
       };
-      queues = record { lengths = row-replicate 64 0 i; packets = row-replicate 1024 noPacket i };
+      queues = record { lengths = row_replicate 64 0 i; packets = row_replicate 1024 no_packet i };
     }
 
-pub fresh-spec : {M : Type 1} → statement M
-fresh-spec = tie.close (tie.spec returns)
+pub fresh_spec : {M : Type 1} → statement M
+fresh_spec = tie.close (tie.spec returns)

@@ -10,5 +10,5 @@ returns c = sym (outside_below _ _ _ c.if1.true)
 returns-2 : tie.Need-returns-2
 returns-2 c = sym (outside_above _ _ _ c.if1.false)
 
-pub space-outside-spec : {M : Type 1} → statement M
-space-outside-spec = tie.close (tie.spec returns returns-2)
+pub space_outside_spec : {M : Type 1} → statement M
+space_outside_spec = tie.close (tie.spec returns returns-2)

@@ -8,9 +8,9 @@ use borrow.Author.Tests.{eq-eqb, ne_eqb}
 use borrow.Author.Rules.{rules}
 use Rattle.rules.specs.Lists.{first_of, verdict}
 use Rattle.rules.specs.declared.Verdict.{Verdict}
-use Rattle.rules.specs.SetUp.{fine, fault, stationTests}
+use Rattle.rules.specs.SetUp.{fine, fault, station_tests}
 use Rattle.state.specs.State.{Listed}
-use Rattle.state.specs.SetUp.{asked_of, requestWith}
+use Rattle.state.specs.SetUp.{asked_of, request_with}
 use Rattle.state.specs.Parts.{Addresses, Capabilities, shared}
 use Rattle.state.proofs.SettingUp.{tested}
 use Rattle.state.proofs.stations.station_verdict.Statement.{statement}
@@ -19,22 +19,22 @@ use Rattle.state.proofs.stations.station_verdict.Tie as tie
 -- the verdict of all tests but the first k, after these earlier stations
 abbrev but : tie.Start → List Listed → ℕ → Verdict
 but c earlier k =
-    let r = requestWith c.args.settings [] in
-    first_of fine (drop k (stationTests r c.args.i (map asked_of earlier) (asked_of c.args.s)))
+    let r = request_with c.args.settings [] in
+    first_of fine (drop k (station_tests r c.args.i (map asked_of earlier) (asked_of c.args.s)))
 
 -- it decides where 7 fails, where 7 and 8 fail, where 7 to 9 fail
-not-7 : (c : tie.Else1) (earlier : List Listed) → let start = c.before.before in but start earlier 1 ≡ but start earlier 0
-not-7 c earlier = tested _ _ c.before.address-past.ensures c.if1.false
+not_7 : (c : tie.Else1) (earlier : List Listed) → let start = c.before.before in but start earlier 1 ≡ but start earlier 0
+not_7 c earlier = tested _ _ c.before.address-past.ensures c.if1.false
 
 not-8 :
     (c : tie.Else2) (earlier : List Listed) → let start = c.before.before.before in
     start.args.address ≡ shared Addresses start.args.s earlier → but start earlier 2 ≡ but start earlier 0
-not-8 c earlier a = tested _ _ a c.if2.false ∙ not-7 c.before earlier
+not-8 c earlier a = tested _ _ a c.if2.false ∙ not_7 c.before earlier
 
 not-9 :
     (c : tie.Else3) (earlier : List Listed) → let start = c.before.before.before.before.before in
     start.args.address ≡ shared Addresses start.args.s earlier → but start earlier 3 ≡ but start earlier 0
-not-9 c earlier a = tested _ _ c.before.capability-outside.ensures c.if3.false ∙ not-8 c.before.before earlier a
+not-9 c earlier a = tested _ _ c.before.capability_outside.ensures c.if3.false ∙ not-8 c.before.before earlier a
 
 -- the test of 10 in RTVC
 last :
@@ -59,7 +59,7 @@ fault-requires-2 c κs = search rules
 
 returns-2 : tie.Need-returns-2
 returns-2 c earlier a b =
-    let at = c.before in c.fault2.ensures ∙ tested _ _ a at.if2.true ∙ not-7 at.before earlier
+    let at = c.before in c.fault2.ensures ∙ tested _ _ a at.if2.true ∙ not_7 at.before earlier
 
 capability-outside-requires : tie.Need-capability-outside-requires
 capability-outside-requires c κs = search rules
@@ -70,7 +70,7 @@ fault-requires-3 c κs = search rules
 returns-3 : tie.Need-returns-3
 returns-3 c earlier a b =
     let at = c.before in
-    c.fault3.ensures ∙ tested _ _ at.before.capability-outside.ensures at.if3.true ∙ not-8 at.before.before earlier a
+    c.fault3.ensures ∙ tested _ _ at.before.capability_outside.ensures at.if3.true ∙ not-8 at.before.before earlier a
 
 fault-requires-4 : tie.Need-fault-requires-4
 fault-requires-4 c κs = search rules
@@ -92,8 +92,8 @@ fault-requires-6 c κs = search rules
 returns-6 : tie.Need-returns-6
 returns-6 c earlier a b = c.fault6.ensures ∙ last c.before.before earlier false a b c.before.if5.false
 
-pub station-verdict-spec : {M : Type 1} → statement M
-station-verdict-spec =
+pub station_verdict_spec : {M : Type 1} → statement M
+station_verdict_spec =
     tie.close
     (tie.spec
     address-past-requires

@@ -14,5 +14,5 @@ returns-2 c = simp (eq-eqb _ _ c.before.if1.true) (sym (outside_above _ _ _ c.if
 returns-3 : tie.Need-returns-3
 returns-3 c = simp (ne_eqb _ _ c.if1.false)
 
-pub step-outside-spec : {M : Type 1} → statement M
-step-outside-spec = tie.close (tie.spec returns returns-2 returns-3)
+pub step_outside_spec : {M : Type 1} → statement M
+step_outside_spec = tie.close (tie.spec returns returns-2 returns-3)

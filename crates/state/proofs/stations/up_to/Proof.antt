@@ -10,7 +10,7 @@ use lib.ListN.{get_or, set}
 use borrow.Author.Rules.{rules}
 use borrow.Author.Tests.{ltb-true, ltb-false, eqb-true, eqb-false, lt-ltb, le-ltb}
 use Rattle.state.specs.State.{Listed, nobody, row}
-use Rattle.state.proofs.Rows.{row-replicate, row_same, row-set}
+use Rattle.state.proofs.Rows.{row_replicate, row_same, row_set}
 use Rattle.state.proofs.stations.up_to.Statement.{statement}
 use Rattle.state.proofs.stations.up_to.Tie as tie
 
@@ -21,8 +21,8 @@ first stations i j = cond (ltb j i) (get_or stations j nobody) nobody
 first-none : (stations : List Listed) (j : ℕ) → nobody ≡ first stations 0 j
 first-none stations j = ap (λ t. cond t (get_or stations j nobody) nobody) (sym (le-ltb j 0 (omega arith)))
 
-first-turn : (stations : List Listed) (i j : ℕ) → cond (eqb j i) (get_or stations i nobody) (first stations i j) ≡ first stations (i + 1) j
-first-turn stations i j = go (eqb j i) refl
+first_turn : (stations : List Listed) (i j : ℕ) → cond (eqb j i) (get_or stations i nobody) (first stations i j) ≡ first stations (i + 1) j
+first_turn stations i j = go (eqb j i) refl
   where
     later : (t : Bool) → ltb j i ≡ t → (j ≡ i → ⊥) → ltb j (i + 1) ≡ t
     later true l n = lt-ltb j (i + 1) (omega (arith, ltb-true j i l))
@@ -43,7 +43,7 @@ decreases-loop n stations listed₀ i₀ listed i = n - i
 loop-holds : tie.Need-loop-init invariant-loop decreases-loop
 loop-holds c =
     let stations = c.args.t1 in
-    (search rules, row-replicate 64 nobody ∙ row_same 64 (λ j. nobody) (first stations 0) (λ j h. first-none stations j))
+    (search rules, row_replicate 64 nobody ∙ row_same 64 (λ j. nobody) (first stations 0) (λ j h. first-none stations j))
 
 mul-listed : tie.Need-overflow-mul-listed invariant-loop decreases-loop
 mul-listed c = search rules
@@ -71,8 +71,8 @@ loop-again c =
     let x = get_or stations i nobody in (
       search rules,
       ap (λ listed. set listed i x) at.loop.invariant.1
-          ∙ row-set 64 (first stations i) i x (omega arith)
-          ∙ row_same 64 (λ j. cond (eqb j i) x (first stations i j)) (first stations (i + 1)) (λ j h. first-turn stations i j),
+          ∙ row_set 64 (first stations i) i x (omega arith)
+          ∙ row_same 64 (λ j. cond (eqb j i) x (first stations i j)) (first stations (i + 1)) (λ j h. first_turn stations i j),
     )
 
 returns : tie.Need-returns invariant-loop decreases-loop
@@ -82,8 +82,8 @@ returns c =
     let e : at.loop.i ≡ start.args.n = omega arith in
     at.loop.invariant.1 ∙ ap (λ i. row 64 (first start.args.t1 i)) e
 
-pub up-to-spec : {M : Type 1} → statement M
-up-to-spec =
+pub up_to_spec : {M : Type 1} → statement M
+up_to_spec =
     tie.close
     (tie.spec
     invariant-loop
