@@ -134,7 +134,15 @@ def renames():
 
 
 def turned(text, names):
-    return WORD.sub(lambda it: names.get(it[0], it[0]), text)
+    """The text with the names turned; one that might be a function's of src/, in snake case before, only where it is no part of a path."""
+
+    def name(it):
+        new = names.get(it[0], it[0])
+        if new == it[0] or re.search("-|[a-z][A-Z]", it[0]):
+            return new
+        return it[0] if it.string[: it.start()].endswith(".") or it.string[it.end() :].startswith(".") else new
+
+    return WORD.sub(name, text)
 
 
 def code(text, names, comment):
@@ -171,10 +179,11 @@ def main():
         for old, new in sorted(names.items()):
             print(old, new)
         return
+    dashed = {old: new for old, new in names.items() if re.search("-|[a-z][A-Z]", old)}
     for pattern, comment in (("crates/**/*.antt", "--"), ("crates/**/*.rt", "//"), ("crates/*/must-fail/*.edit", "\0")):
         for path in texts(pattern):
             text = read(path)
-            new = code(text, names, comment)
+            new = code(text, names if path.endswith(".antt") and not path.endswith("/Unique.antt") else dashed, comment)
             if new != text:
                 with open(path, "w", encoding="utf-8") as f:
                     f.write(new)

@@ -24,7 +24,7 @@ fn lying_in(w: Window, row: &[u64; 64]) -> u64
 {
     let mut found = 0;
     for i in 0..64 {
-        if window::in_window_bounds(w, row[i]) {
+        if window::in_window(w, row[i]) {
             found = word::set(found, i);
         }
     }

@@ -6,7 +6,7 @@ use Rattle.window.proofs.exponent.Reads as exponent
 use Rattle.window.proofs.first_window.Reads as first-window
 use Rattle.window.proofs.left_half.Reads as left-half
 use Rattle.window.proofs.move_right.Reads as move-right
-use Rattle.window.proofs.in_window_bounds.Reads as in_window_bounds
+use Rattle.window.proofs.in_window.Reads as in_window
 use Rattle.window.proofs.is_power.Reads as is-power
 use Rattle.window.proofs.is_placed.Reads as is-placed
 
@@ -26,7 +26,7 @@ left_half_determined κs args r r' end end' = unique
 pub move_right_determined : Determines move-right.Learnt
 move_right_determined κs args r r' end end' = unique
 
-pub in_window_determined : Determines in_window_bounds.Learnt
+pub in_window_determined : Determines in_window.Learnt
 in_window_determined κs args r r' end end' = unique
 
 pub is_power_determined : Determines is-power.Learnt

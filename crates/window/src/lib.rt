@@ -68,7 +68,7 @@ pub fn move_right(w: Window) -> Window
 }
 
 // Whether a number lies in a window (Figure 6, line 6).
-pub fn in_window_bounds(w: Window, n: u64) -> bool
+pub fn in_window(w: Window, n: u64) -> bool
     ensures { result ≡ in_window w n }
 {
     if n < w.start {

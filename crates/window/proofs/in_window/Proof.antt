@@ -5,8 +5,8 @@ use mathlib.Core.Path.{◌≡◌, refl}
 use native.Mathlib.Omega.{arith}
 use lib.Dec.{ltb}
 use borrow.Author.Tests.{ltb-true, ltb-false, lt-ltb, le-ltb, lt-leb, le-leb}
-use Rattle.window.proofs.in_window_bounds.Statement.{statement}
-use Rattle.window.proofs.in_window_bounds.Tie as tie
+use Rattle.window.proofs.in_window.Statement.{statement}
+use Rattle.window.proofs.in_window.Tie as tie
 
 -- From the start on, to be less than the size past it is to be before the end.
 before_end : (start n size : ℕ) → start ≤ n → ltb (n - start) size ≡ ltb n (start + size)

@@ -50,7 +50,7 @@ loop-again c =
     let start = at.before in
     let turn = at.loop in
     let test = lies start.args.w start.args.row.now in
-    let told = sym c.before.in_window_bounds.ensures in (
+    let told = sym c.before.in_window.ensures in (
       omega arith,
       ⊎_elim
           (λ w. word_set test turn.i turn.found c.if1.found (omega arith) turn.invariant.1 (told ∙ w.0.taken) (w.2 ∙ w.1.ensures))
