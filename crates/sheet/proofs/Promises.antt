@@ -41,7 +41,7 @@ below_at_most = Order.below_at_most
 
 -- multiplication in halves is multiplication, whatever the base of the halves: the two words that it makes are those of the product
 pub in_halves_exact : (base a b : ℕ) → 0 < base → in_halves base a b ≡ words (base * base) (a * b)
-in_halves_exact = Halves.in_halves
+in_halves_exact = Halves.in_halves_exact
 
 -- and they are the product
 pub words_number : (size n : ℕ) → number size (words size n) ≡ n

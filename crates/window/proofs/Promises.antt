@@ -25,7 +25,7 @@ halvings = Facts.halvings
 -- ---- what lies in a window
 
 pub in_window_bounds : (w : Window) (n : ℕ) → in_window w n ≡ true → (w.start ≤ n) × (n < w.start + w.size)
-in_window_bounds = Facts.in_window
+in_window_bounds = Facts.in_window_bounds
 
 pub in_window_test : (w : Window) (n : ℕ) → w.start ≤ n → n < w.start + w.size → in_window w n ≡ true
 in_window_test = Facts.in_window_test
