@@ -1,5 +1,7 @@
 // The listing: a run is played turn by turn, and each turn puts its text into room that the caller lends. Every call takes any input and
 // any play.
+#![tactic(auto)]
+
 ghost use Rattle.std.specs.Prelude.{◌≤◌, ◌≡◌, false, take};
 ghost use Rattle.bus.specs.Coded.{totals_of};
 ghost use Rattle.text.specs.Room.{room_bytes, room_with};
@@ -27,7 +29,7 @@ const NO_ARRIVAL: Arrival = Arrival {
 };
 
 // A run that is played: the state, the offset of the record that is next in the input, the steps that are left, and whether it goes on.
-#[derive(Drop)]
+#[derive(Clone, Copy)]
 pub struct Play {
     pub state: State,
     pub at: usize,
@@ -36,7 +38,7 @@ pub struct Play {
 }
 
 // What a turn hands out: how many bytes of text it has put at the start of the room, and the run as it goes on.
-#[derive(Drop)]
+#[derive(Clone, Copy)]
 pub struct Turn {
     pub length: usize,
     pub play: Play,

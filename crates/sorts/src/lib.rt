@@ -1,6 +1,8 @@
 // The three sorts of numbers, each compared with its own sort and opened here; what a discipline holds a packet's numbers to (`disciplines`);
 // and the count of packets turned away (`counts`). A slot, which a packet holds, is declared in the crate rules. Every function takes any
 // input.
+#![tactic(auto)]
+
 ghost use Rattle.std.specs.Prelude.{◌-◌, ◌≡◌, leb, ltb, eqb};
 
 use rules::Slot;
@@ -9,10 +11,10 @@ pub mod counts;
 pub mod disciplines;
 
 // 'Slots, addresses and capabilities count three separate things.'
-#[derive(Drop)]
+#[derive(Clone, Copy)]
 pub struct Address(pub u32);
 
-#[derive(Drop)]
+#[derive(Clone, Copy)]
 pub struct Capability(pub u32);
 
 // Whether slot t comes before slot u.
