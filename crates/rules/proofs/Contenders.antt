@@ -112,9 +112,9 @@ pub one_address : (n : ℕ) (stations : List Station) → Distinct (map (λ s. s
 one_address = one_number (λ s. s.address) (λ x. x.address) (λ s o. refl)
 
 -- the same of capabilities
-pub one-capability :
+pub one_capability :
     (n : ℕ) (stations : List Station) → Distinct (map (λ s. s.capability) stations) → count (λ x. eqb x.capability n) (contenders stations) ≤ 1
-one-capability = one_number (λ s. s.capability) (λ x. x.capability) (λ s o. refl)
+one_capability = one_number (λ s. s.capability) (λ x. x.capability) (λ s o. refl)
 
 -- Where no two stations share a number that the contender carries on, two contenders of one number are one.
 same_number :
@@ -135,7 +135,7 @@ pub same_address :
     → x.address ≡ y.address → x ≡ y
 same_address = same_number (λ s. s.address) (λ x. x.address) (λ s o. refl)
 
-pub same-capability :
+pub same_capability :
     {x y : Contender} (stations : List Station) → Distinct (map (λ s. s.capability) stations) → Among x (contenders stations) → Among y (contenders stations)
     → x.capability ≡ y.capability → x ≡ y
-same-capability = same_number (λ s. s.capability) (λ x. x.capability) (λ s o. refl)
+same_capability = same_number (λ s. s.capability) (λ x. x.capability) (λ s o. refl)
