@@ -43,6 +43,7 @@ contender_from {x} (s ∷ stations) i = go s.offer refl i (contender_from statio
     go (some o) e j more = first o e (among_cases j) more
 
 pub contender_into : {s : Station} {o : Offer} (stations : List Station) → Among s stations → s.offer ≡ some o → Among (contender_of s o) (contenders stations)
+contender_into {s} {o} [] i offered = elim i [ ]
 contender_into {s} {o} (t ∷ stations) (at_head e) offered =
     rw (sym (ap (λ (u : Station). u.offer) e) ∙ offered) (at_head (ap (λ (u : Station). contender_of u o) e))
 contender_into {s} {o} (t ∷ stations) (in_tail i) offered = go t.offer (contender_into stations i offered)

@@ -259,7 +259,7 @@ pub amended_stands :
 amended_stands b clock last c h on t won still w =
     rw (← (map-id b.stations))
     (moved_stands b (λ s. s) clock b.sent b.lost last c h (λ s. refl) (λ s. fewer_all s.queue) on t (rw (map-id b.stations))
-    (λ s i. offer_kept b _ refl refl s s refl (λ p j. j) b.contention c still s.offer (h.each_station s i).offered)
+    (λ s i. offer_kept b (moved b (λ s. s) clock b.sent b.lost last c) refl refl s s refl (λ p j. j) b.contention c still s.offer (h.each_station s i).offered)
     (last_kept (λ s. s) (λ s. refl) b.stations b.discipline last won) w)
 
 -- a contention goes on with another window
@@ -384,7 +384,7 @@ module _ (b : Bus) (a : Arrival) (k : AdmissionAccepted b a) where
         room = omega (arith, length-append s.queue (new_packet b a ∷ []), k.room s i (eqb-true _ _ e));
         rises = rising_append 0 b.admitted (new_packet b a) s.queue refl was.rises;
         packets = packets_stand s i;
-        offered = offer_kept b _ refl refl s _ refl (λ p j. among_left _ j) b.contention b.contention (λ z. z) s.offer was.offered;
+        offered = offer_kept b (with_packet b a) refl refl s (queued (new_packet b a) s) refl (λ p j. among_left _ j) b.contention b.contention (λ z. z) s.offer was.offered;
       }
   joined_stands s i false e =
       let was = k.standing.each_station s i in
@@ -392,7 +392,7 @@ module _ (b : Bus) (a : Arrival) (k : AdmissionAccepted b a) where
         room = was.room;
         rises = rising_suc 0 b.admitted s.queue was.rises;
         packets = λ p j. packet_kept b _ refl refl (le_refl _) p (was.packets p j);
-        offered = offer_kept b _ refl refl s s refl (λ p j. j) b.contention b.contention (λ z. z) s.offer was.offered;
+        offered = offer_kept b (with_packet b a) refl refl s s refl (λ p j. j) b.contention b.contention (λ z. z) s.offer was.offered;
       }
 
   -- one station is named, so that one packet more waits

@@ -38,6 +38,7 @@ pub one_apart : {X : Type 0} (g : X → ℕ) (n : ℕ) (xs : List X) → Distinc
 one_apart g n xs h = rw (count_map (eqb n) g xs) at (distinct_counts n (map g xs) h)
 
 pub same_apart : {X : Type 0} (g : X → ℕ) {x y : X} (xs : List X) → Distinct (map g xs) → Among x xs → Among y xs → g x ≡ g y → x ≡ y
+same_apart g [] h i j same = elim i [ ]
 same_apart g (z ∷ xs) h (at_head e) (at_head e') same = e ∙ sym e'
 same_apart g (z ∷ xs) h (at_head e) (in_tail j) same = absurd (h.0 (subst (λ (n : ℕ). Among n (map g xs)) (sym same ∙ ap g e) (map_into g xs j)))
 same_apart g (z ∷ xs) h (in_tail i) (at_head e) same = absurd (h.0 (subst (λ (n : ℕ). Among n (map g xs)) (same ∙ ap g e) (map_into g xs i)))

@@ -259,11 +259,11 @@ module _ (E : Engine) (meets : Demand2 E) (r : Request) where
 
   calls_same : {s : E.State} {b : Bus} → Abreast s b → (calls : List Call) → replies E s calls ≡ replies machine b calls
   calls_same h [] = refl
-  calls_same h (c ∷ calls) = let k = call_same h c in ap₂ ◌∷◌ k.0 (calls_same k.1 calls)
+  calls_same {s} {b} h (c ∷ calls) = let k = call_same h c in ap₂ ◌∷◌ k.0 (calls_same {s = next E s c} {b = next machine b c} k.1 calls)
 
   abreast_after : {s : E.State} {b : Bus} → Abreast s b → (calls : List Call) → Abreast (after E s calls) (after machine b calls)
   abreast_after h [] = h
-  abreast_after h (c ∷ calls) = abreast_after (call_same h c).1 calls
+  abreast_after {s} {b} h (c ∷ calls) = abreast_after {s = next E s c} {b = next machine b c} (call_same h c).1 calls
 
   closing_same : {s : E.State} {b : Bus} → Abreast s b → E.closing s ≡ closing_call b
   closing_same h = ap E.closing (sym h.engine) ∙ meets.closes r h.calls h.own ∙ ap closing_call h.bus

@@ -1,4 +1,5 @@
 // What the rules and the code that is proved to follow them have in common. The rules themselves are definitions, in specs/.
+#![tactic(auto)]
 
 // A slot, the one of the three sorts that a packet holds; addresses, capabilities, and how each is compared, are in the crate sorts.
 #[derive(Drop)]
