@@ -1,6 +1,8 @@
 // The three sorts of numbers, each compared with its own sort and opened here; what a discipline holds a packet's numbers to (`disciplines`);
 // and the count of packets turned away (`counts`). A slot, which a packet holds, is declared in the crate rules. Every function takes any
 // input.
+#![tactic(auto)]
+
 ghost use Rattle.std.specs.Prelude.{◌-◌, ◌≡◌, leb, ltb, eqb};
 
 use rules::Slot;
