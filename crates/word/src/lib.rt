@@ -1,5 +1,7 @@
 // Up to 64 stations as one word, station i in listed order at bit i: set, cleared and tested by shifts and masks, counted by a count of ones,
 // the first found by trailing zeros. Every function takes any input.
+#![tactic(auto)]
+
 ghost use Rattle.std.specs.Prelude.{◌≡◌, ◌^◌, cond, ltb};
 ghost use Rattle.word.specs.Word.{bits, bit_at, set_at, clear_at, count_of, lowest_of};
 
