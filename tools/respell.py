@@ -1,7 +1,8 @@
 """Run once, after the kit's port.py: the names that this repository declares in specs/ and proofs/ in snake case, in every crate, edit and page.
 
 A name is turned where it is declared in an .antt file of crates/: one in lower camel case, or with a dash. Names of Rust's items, names of the
-kit's library and names that the prover makes keep their spelling. Two names that would fall together are parted by TOLD_APART."""
+kit's library and names that the prover makes keep their spelling. Two names that would fall together are parted by TOLD_APART. With --again
+names in snake case stay, for a tree that was turned before."""
 import collections
 import glob
 import os
@@ -11,10 +12,21 @@ import sys
 KIT = "/opt/rattle/rattle"
 WORD = re.compile(r"[A-Za-z][\w'-]*")
 DECLARED = re.compile(
-    r"^\s*(?:(?:abbrev|unfoldable|opaque|pub|private|inductive|where) )*([A-Za-z][\w'-]*)(?:\s+\{[^}]*\}|\s+\([^)]*\))*\s*:\s+(.*)$"
+    r"^\s*(?:(?:abbrev|unfoldable|opaque|pub|private|inductive|where) )*([A-Za-z][\w'-]*)(?:\s+\{[^}]*\}|\s+\([^)]*\))*\s*:(?:\s+(.*))?$"
 )
 # Of two names that fall together the one on the left gets the name on the right.
 TOLD_APART = {
+    "after-word": "word_passed",
+    "arrival-taken": "arrival_was_taken",
+    "contender-on": "contender_still_on",
+    "handed-back": "is_handed_back",
+    "hands-back": "hands_it_back",
+    "in-turn": "turn_kept",
+    "is-refused": "refused_is",
+    "said-by": "said_so_by",
+    "settings-said": "settings_are_said",
+    "station-taken": "station_was_taken",
+    "with-arrival": "with_one_arrival",
     "addressesApart": "addresses_all_apart",
     "begun-form": "begun_whole",
     "bit-at": "bit_at_remainder",
@@ -101,7 +113,7 @@ def declared():
         for line in read(path).split("\n"):
             it = DECLARED.match(re.sub(r"--.*", "", line))
             if it:
-                (made if it[2].startswith(("tie.", "goal.")) else found).add(it[1])
+                (made if (it[2] or "").startswith(("tie.", "goal.")) else found).add(it[1])
     return found - made
 
 
@@ -118,7 +130,7 @@ def renames():
     taken = library()
     names = {}
     for name in sorted(own):
-        if name in TOLD_APART:
+        if name in TOLD_APART and ("--again" not in sys.argv or re.search("-|[a-z][A-Z]", name)):
             names[name] = TOLD_APART[name]
         elif name in taken or not (name[0].islower() or "-" in name):
             continue

@@ -26,10 +26,10 @@ use Rattle.bus.specs.Parts.{queue_form, first_place, refusal_tests, refusal_at, 
 use Rattle.state.proofs.Rows.{among_values}
 use Rattle.bus.proofs.FirstPlace.{first_place_holds, first_place_before}
 use Rattle.state.proofs.Form.{parts_padded, queue_length, to_form}
-use Rattle.bus.proofs.Coded.{handed-admission, admit_bears, standing_exactly_admission}
-use Rattle.bus.proofs.QueueLaws.{form-joined, with_queue}
+use Rattle.bus.proofs.Coded.{handed_admission, admit_bears, standing_exactly_admission}
+use Rattle.bus.proofs.QueueLaws.{form_joined, with_queue}
 use Rattle.state.proofs.Stands.{Lent}
-use Rattle.bus.proofs.Changed.{queue_formed, address_of, own-address, recounted, requeued, requeued_held, requeued_padded, stations-now}
+use Rattle.bus.proofs.Changed.{queue_formed, address_of, own_address, recounted, requeued, requeued_held, requeued_padded, stations_now}
 
 -- ---- a test of some value
 
@@ -101,11 +101,11 @@ module _ (s : State) (address : Address) where
       here)
 
   -- and no other
-  named-at :
+  named_at :
       Standing (meaning s) → address_place s address < s.segment.settings.n → (j : ℕ) → j < s.segment.settings.n
       → named_by s address j ≡ eqb j (address_place s address)
-  named-at h here j there =
-      ap (λ a. eqb a (address_of s j)) (has_it here) ∙ own-address s h (address_place s address) j here there
+  named_at h here j there =
+      ap (λ a. eqb a (address_of s j)) (has_it here) ∙ own_address s h (address_place s address) j here there
 
 -- the state with another count of admitted packets
 abbrev pub counted : State → ℕ → State
@@ -139,16 +139,16 @@ module _ (s : State) (r : Lent s) (place : ℕ) (address : Address) (sought : pl
 
   module _ (here : place < s.segment.settings.n) where
     named_here : (j : ℕ) → j < s.segment.settings.n → named arrival (station_at s j) ≡ eqb j place
-    named_here j there = named-at s address r.stands (omega arith) j there ∙ ap (eqb j) (sym sought)
+    named_here j there = named_at s address r.stands (omega arith) j there ∙ ap (eqb j) (sym sought)
 
     has_name : named arrival (station_at s place) ≡ true
     has_name = named_here place here ∙ eq-eqb place place refl
 
     -- a test that no other station passes
-    tested-here :
+    tested_here :
         (test : Station → Bool) → ((j : ℕ) → named arrival (station_at s j) ≡ false → test (station_at s j) ≡ false)
         → some_of test (stations_of s) ≡ test (station_at s place)
-    tested-here test others =
+    tested_here test others =
         one_passes
         test
         (station_at s)
@@ -160,12 +160,12 @@ module _ (s : State) (r : Lent s) (place : ℕ) (address : Address) (sought : pl
         (λ j l m other. others j (named_here j (omega arith) ∙ ne_eqb j place other))
 
     some_named : some_of (named arrival) (stations_of s) ≡ true
-    some_named = tested-here (named arrival) (λ j other. other) ∙ has_name
+    some_named = tested_here (named arrival) (λ j other. other) ∙ has_name
 
     -- a test of the station with the address
     some_such : (test : Station → Bool) → some_of (λ x. named arrival x && test x) (stations_of s) ≡ test (station_at s place)
     some_such test =
-        tested-here (λ x. named arrival x && test x) (λ j other. ap (λ u. u && test (station_at s j)) other)
+        tested_here (λ x. named arrival x && test x) (λ j other. ap (λ u. u && test (station_at s j)) other)
         ∙ ap (λ u. u && test (station_at s place)) has_name
 
     waiting_here : length (queue_at s.queues place) ≡ get_or s.queues.lengths place 0
@@ -197,10 +197,10 @@ module _ (s : State) (r : Lent s) (place : ℕ) (address : Address) (sought : pl
       longer = queue_at s.queues place ++ (packet ∷ [])
 
       -- each station is as the rules have it
-      station-joined :
+      station_joined :
           (j : ℕ) → j < s.segment.settings.n
           → station_with s.segment j (cond (eqb j place) longer (queue_at s.queues j)) ≡ joined (meaning s) arrival (station_at s j)
-      station-joined j there =
+      station_joined j there =
           go (eqb j place) refl
           ∙ ap (λ u. cond u (queued (new_packet (meaning s) arrival) (station_at s j)) (station_at s j)) (sym (named_here j there))
         where
@@ -221,7 +221,7 @@ module _ (s : State) (r : Lent s) (place : ℕ) (address : Address) (sought : pl
       means : meaning (requeued (counted s number) place longer) ≡ with_packet (meaning s) arrival
       means =
           let f = joined (meaning s) arrival in
-          let stations = stations-now (counted s number) r.held r.zeros r.few place here longer fits f (station_at s) station-joined in
+          let stations = stations_now (counted s number) r.held r.zeros r.few place here longer fits f (station_at s) station_joined in
           λ i. recounted (meaning s) (stations i) (next i) (meaning s).lost (meaning s).contention
 
       pub state_joined : requeued (counted s number) place longer ≡ form (with_packet (meaning s) arrival)
@@ -261,14 +261,14 @@ accepted s a =
 abbrev pub refused_in : State → ℕ → Admission
 refused_in s refusal = admission_result (record { refusal = refusal; number = 0 }, state_turned s (turned_after refusal s.segment.turned))
 
-handed-back :
+is_handed_back :
     (s : State) → Held s → (a : Arrival) (refusal : ℕ) → (coded_admit s a).0.refusal ≡ refusal → ¬ (refusal ≡ 0)
     → refused_in s refusal ≡ admission_result (coded_admit s a)
-handed-back s held a refusal e given =
-    sym (ap admission_result (handed-admission s held a (λ z. given (sym e ∙ z))) ∙ ap (refused_in s) e)
+is_handed_back s held a refusal e given =
+    sym (ap admission_result (handed_admission s held a (λ z. given (sym e ∙ z))) ∙ ap (refused_in s) e)
 
 pub gives_1 : (s : State) → Held s → (a : Arrival) → standing s ≡ false → refused_in s 1 ≡ admission_result (coded_admit s a)
-gives_1 s held a e = handed-back s held a 1 ((standing_exactly_admission s a).1 e) (λ z. omega arith)
+gives_1 s held a e = is_handed_back s held a 1 ((standing_exactly_admission s a).1 e) (λ z. omega arith)
 
 module _ (s : State) (r : Lent s) (a : Arrival) where
   -- it is the call of the rules
@@ -278,10 +278,10 @@ module _ (s : State) (r : Lent s) (a : Arrival) where
       (λ t. cond t ((admit (meaning s) a).0, form (admit (meaning s) a).1) (record { refusal = 1; number = 0 }, s))
       (parts_padded s r.zeros)
 
-  pub gives-refusal :
+  pub gives_refusal :
       (refusal : ℕ) → refusal ≡ admission_refusal (meaning s) a → ¬ (refusal ≡ 0) → refused_in s refusal ≡ admission_result (coded_admit s a)
-  gives-refusal refusal e =
-      handed-back s r.held a refusal (ap (λ (o : Admitted × State). o.0.refusal) of_rules ∙ admit_bears (meaning s) a ∙ sym e)
+  gives_refusal refusal e =
+      is_handed_back s r.held a refusal (ap (λ (o : Admitted × State). o.0.refusal) of_rules ∙ admit_bears (meaning s) a ∙ sym e)
 
   takes_in : admission_refusal (meaning s) a ≡ 0 → accepted s a ≡ admission_result (coded_admit s a)
   takes_in none! =
@@ -291,18 +291,18 @@ module _ (s : State) (r : Lent s) (a : Arrival) where
 -- ---- the packet joins in place
 
 -- a store within a part of a list
-set-part :
+set_part :
     (xs : List Packet) (f m j : ℕ) (p : Packet) → f + m ≤ length xs → j < m
     → set xs (f + j) p ≡ take f xs ++ set (take m (drop f xs)) j p ++ drop (f + m) xs
-set-part xs zero m j p h l =
+set_part xs zero m j p h l =
     ap (λ n. set xs n p) (zero-add j)
     ∙ ap (λ ys. set ys j p) (sym (take-append-drop m xs))
     ∙ set-append_left (take m xs) (drop m xs) j p (omega (arith, length-take-le m xs (omega arith)))
     ∙ ap (λ n. set (take m xs) j p ++ drop n xs) (sym (zero-add m))
-set-part [] (suc f) m j p h l = absurd (omega arith)
-set-part (x ∷ xs) (suc f) m j p h l =
+set_part [] (suc f) m j p h l = absurd (omega arith)
+set_part (x ∷ xs) (suc f) m j p h l =
     ap (λ n. set (x ∷ xs) n p) (suc-add f j)
-    ∙ ap (λ ys. x ∷ ys) (set-part xs f m j p (omega arith) l)
+    ∙ ap (λ ys. x ∷ ys) (set_part xs f m j p (omega arith) l)
     ∙ ap (λ n. (x ∷ (take f xs ++ set (take m (drop f xs)) j p)) ++ drop n (x ∷ xs)) (sym (suc-add f m))
 
 -- the row in which a packet has taken the first free place of station i's
@@ -314,15 +314,15 @@ row_with qs i p =
     }
 
 -- it is the row with the longer queue put back
-pub row-joined :
+pub row_joined :
     (qs : Queues) (i : ℕ) (p : Packet) → i < 64 → length qs.packets ≡ 1024 → queue_of qs i ≡ queue_form (queue_at qs i)
     → get_or qs.lengths i 0 < 16 → row_with qs i p ≡ with_queue qs i (queue_form (queue_at qs i ++ (p ∷ [])))
-row-joined qs i p h row e room =
+row_joined qs i p h row e room =
     let n = get_or qs.lengths i 0 in
     let m = ap (λ (queue : Queue). queue.length) e in
-    let here = set-part qs.packets (16 * i) 16 n p (omega arith) room in
+    let here = set_part qs.packets (16 * i) 16 n p (omega arith) room in
     ap (λ ps. made_row (set qs.lengths i (n + 1)) ps) here
-    ∙ ap (with_queue qs i) (form-joined (queue_of qs i) (queue_at qs i) p e (omega arith))
+    ∙ ap (with_queue qs i) (form_joined (queue_of qs i) (queue_at qs i) p e (omega arith))
   where
     made_row : List ℕ → List Packet → Queues
     made_row lengths packets = record { lengths = lengths; packets = packets }
@@ -358,14 +358,14 @@ module _
     pub room_at : get_or s.queues.lengths place 0 < 16
     room_at = room_left s r place address sought value len here! none!
 
-    pub joined-in-place :
+    pub joined_in_place :
         (number : ℕ) → number ≡ s.segment.admitted + 1
         → taken number (joined_at s place number value len) ≡ admission_result (coded_admit s (arrival_of address value len))
-    joined-in-place number e =
+    joined_in_place number e =
         let next = e ∙ add-one s.segment.admitted in
         let packet : Packet = record { number = number; value = value; length = len; admission = s.segment.clock } in
         let formed = queue_formed s r.held r.zeros place within_row in
         ap (λ queues. taken number (record { segment = (counted s number).segment; queues = queues }))
-        (row-joined s.queues place packet within_row r.held.packets formed room_at)
+        (row_joined s.queues place packet within_row r.held.packets formed room_at)
         ∙ ap₂ taken next (state_joined s r place address sought value len here! number next room_at)
         ∙ takes_in s r (arrival_of address value len) none!

@@ -41,7 +41,7 @@ before_more j i n = go (ltb j i) refl
 -- ---- a station's place among the contenders
 
 -- it contends if a packet is found and it does not sit out
-pub contender-on :
+pub contender_still_on :
     (g : Settings) (clock : Slot) (round : Round) (l : Listed) (o : Option Packet)
     → contender_on g clock round l o
     ≡ cond
@@ -55,8 +55,8 @@ pub contender-on :
       packet = (chosen_form o).packet;
     }))
     no_contender
-contender-on g clock round l none = refl
-contender-on g clock round l (some p) = refl
+contender_still_on g clock round l none = refl
+contender_still_on g clock round l (some p) = refl
 
 -- it does not if it sits out
 sitting :
@@ -70,13 +70,13 @@ abbrev pub place_for : Segment → Queues → ℕ → Contender
 place_for g qs j = contender_for g.settings g.clock g.round (get_or g.listed j nobody) (queue_at qs j)
 
 -- with no packet, or where it sits out, it does not contend
-pub nothing-offered :
+pub nothing_offered :
     (g : Segment) (qs : Queues) (j : ℕ)
     → (eqb (get_or qs.lengths j 0) 0
     || sits_out (discipline_of g.settings.discipline) (last_of g.round) (get_or g.listed j nobody).capability.0)
     ≡ true
     → place_for g qs j ≡ no_contender
-nothing-offered g qs j = go (eqb (get_or qs.lengths j 0) 0) refl
+nothing_offered g qs j = go (eqb (get_or qs.lengths j 0) 0) refl
   where
     l : Listed
     l = get_or g.listed j nobody
@@ -185,21 +185,21 @@ some_chosen d p ps = go (choice d ps)
     go none = (p, refl)
     go (some o) = (cond (goes_before d o p) o p, refl)
 
-pub offered-contends :
+pub offered_contends :
     (g : Settings) (clock : Slot) (round : Round) (l : Listed) (ps : List Packet) → ¬ (length ps ≡ 0)
     → sits_out (discipline_of g.discipline) (last_of round) l.capability.0 ≡ false → (contender_for g clock round l ps).contends ≡ true
-offered-contends g clock round l [] n sits = absurd (n refl)
-offered-contends g clock round l (p ∷ ps) n sits =
+offered_contends g clock round l [] n sits = absurd (n refl)
+offered_contends g clock round l (p ∷ ps) n sits =
     let some-packet = some_chosen (discipline_of g.discipline) p ps in
     ap (λ o. (contender_on g clock round l o).contends) some-packet.1 ∙ rw sits
 
 -- ---- late packets leave the queues of the stations before n
 
 -- where no packet is late, the queues are as they were
-none-late :
+none_late :
     (f : Packet → Bool) (qs : Queues) (n : ℕ) → ((p : Packet) → f p ≡ true) → ((j : ℕ) → j < 64 → queue_of qs j ≡ queue_form (queue_at qs j))
     → LeftIn f qs 0 n qs
-none-late f qs n stay all j l = go (in_range 0 n j)
+none_late f qs n stay all j l = go (in_range 0 n j)
   where
     go : (t : Bool) → queue_of qs j ≡ queue_if t f qs j
     go true = all j l ∙ ap queue_form (sym (keep_all f (queue_at qs j) (λ p i. stay p)))
@@ -223,24 +223,24 @@ dropping_few d n = go (eqb d 1)
     go false = omega arith
 
 -- then late packets have left the queues of all stations before n: outside RTDG there are none
-pub left-late :
+pub left_late :
     (d : ℕ) (clock : Slot) (qs : Queues) (n : ℕ) (rest : Queues) → ((j : ℕ) → j < 64 → queue_of qs j ≡ queue_form (queue_at qs j))
     → LeftIn (stays (Late d clock)) qs 0 (dropping_to d n) rest → LeftIn (stays (Late d clock)) qs 0 n rest
-left-late d clock qs n rest all left = go (eqb d 1) refl left
+left_late d clock qs n rest all left = go (eqb d 1) refl left
   where
     go :
         (t : Bool) → eqb d 1 ≡ t → LeftIn (stays (Late d clock)) qs 0 (cond t n 0) rest → LeftIn (stays (Late d clock)) qs 0 n rest
     go true e now j l = now j l
     go false e now j l =
         left_out (stays (Late d clock)) qs 0 0 rest now j l (λ a b. omega arith)
-        ∙ none-late (stays (Late d clock)) qs n (on_time d clock (eqb-false d 1 e)) all j l
+        ∙ none_late (stays (Late d clock)) qs n (on_time d clock (eqb-false d 1 e)) all j l
 
 -- ---- a place among the contenders is zero or contends, and its offer is the offer of the rules
 
-place-padded :
+place_padded :
     (g : Settings) (clock : Slot) (round : Round) (l : Listed) (o : Option Packet) → contender_padded (contender_on g clock round l o) ≡ true
-place-padded g clock round l none = refl
-place-padded g clock round l (some p) = go (sits_out (discipline_of g.discipline) (last_of round) l.capability.0)
+place_padded g clock round l none = refl
+place_padded g clock round l (some p) = go (sits_out (discipline_of g.discipline) (last_of round) l.capability.0)
   where
     contending : Contender
     contending = record { contends = true; parameter = parameter_for (discipline_of g.discipline) g clock l.capability p; packet = p }
@@ -250,13 +250,13 @@ place-padded g clock round l (some p) = go (sits_out (discipline_of g.discipline
     go false = refl
 
 module _ (s : State) (i : ℕ) where
-  parameter-same :
+  parameter_same :
       (d : Discipline) (p : Packet)
       → parameter_for d s.segment.settings s.segment.clock (get_or s.segment.listed i nobody).capability p
       ≡ parameter_of d (meaning s) (station_at s i) p
-  parameter-same PRI p = refl
-  parameter-same RTDG p = refl
-  parameter-same RTVC p = refl
+  parameter_same PRI p = refl
+  parameter_same RTDG p = refl
+  parameter_same RTVC p = refl
 
   offer_same :
       (o : Option Packet)
@@ -264,7 +264,7 @@ module _ (s : State) (i : ℕ) where
       ≡ offers (meaning s) (station_at s i) o
   offer_same none = refl
   offer_same (some p) =
-      go (sits_out (meaning s).discipline (meaning s).last (station_at s i).capability) (parameter-same (meaning s).discipline p)
+      go (sits_out (meaning s).discipline (meaning s).last (station_at s i).capability) (parameter_same (meaning s).discipline p)
     where
       go :
           (t : Bool) {m n : ℕ} → m ≡ n
@@ -297,12 +297,12 @@ abbrev pub in_time_at : State → Packet → Bool
 in_time_at s = stays (Late s.segment.settings.discipline s.segment.clock)
 
 -- a sum over places whose terms are those of another sum, and more of something
-total-more :
+total_more :
     {X : Type 0} (f g : ℕ → ℕ) (more : X → ℕ) (x : ℕ → X) (i k : ℕ) → ((j : ℕ) → i ≤ j → j < i + k → f j ≡ g j + more (x j))
     → total (λ n. n) (values_from f i k) ≡ total (λ n. n) (values_from g i k) + total more (values_from x i k)
-total-more f g more x i zero h = refl
-total-more f g more x i (suc k) h =
-    omega (arith, h i (omega arith) (omega arith), total-more f g more x (suc i) k (λ j l m. h j (omega arith) (omega arith)))
+total_more f g more x i zero h = refl
+total_more f g more x i (suc k) h =
+    omega (arith, h i (omega arith) (omega arith), total_more f g more x (suc i) k (λ j l m. h j (omega arith) (omega arith)))
 
 module _ (s : State) (r : Lent s) where
   -- its queues are the forms of their packets
@@ -353,7 +353,7 @@ module _ (s : State) (r : Lent s) where
         where
           go : (t : Bool) → contender_padded (cond t (place_for s.segment rest j) no_contender) ≡ true
           go true =
-              place-padded
+              place_padded
               s.segment.settings
               s.segment.clock
               s.segment.round
@@ -425,14 +425,14 @@ module _ (s : State) (r : Lent s) where
     -- ---- what is dropped
 
     -- those waiting before are those waiting after and those dropped
-    pub waiting-dropped :
+    pub waiting_dropped :
         length rest.lengths ≡ 64
         → total (λ n. n) (take s.segment.settings.n s.queues.lengths)
         ≡ total (λ n. n) (take s.segment.settings.n rest.lengths) + drops_of (meaning s)
-    waiting-dropped ls =
+    waiting_dropped ls =
         let n = s.segment.settings.n in
         ap (total (λ k. k)) (values_take s.queues.lengths 0 n (omega (arith, r.held.lengths)))
-        ∙ total-more
+        ∙ total_more
         (λ j. get_or s.queues.lengths j 0)
         (λ j. get_or rest.lengths j 0)
         late_in
@@ -455,24 +455,24 @@ module _ (s : State) (r : Lent s) where
             )
 
     -- the same as the code counts them
-    pub late-counted :
+    pub late_counted :
         length rest.lengths ≡ 64
         → waiting_in s.queues.lengths s.segment.settings.n
         ≡ waiting_in rest.lengths s.segment.settings.n + drops_of (meaning s)
-    late-counted ls =
+    late_counted ls =
         let n = s.segment.settings.n in
         rw (
           held_whole s.queues.lengths n (λ i l. few_packets s r i (omega (arith, r.few))),
           held_whole rest.lengths n room_left,
         )
-        (waiting-dropped ls)
+        (waiting_dropped ls)
 
     -- ---- it is the state of the rules
 
-    pub begun-is :
+    pub begun_is :
         (drops : ℕ) → drops ≡ drops_of (meaning s) → length rest.lengths ≡ 64 → length rest.packets ≡ 1024
         → begun_state s rest drops ≡ form (begin (meaning s))
-    begun-is drops e ls ps =
+    begun_is drops e ls ps =
         to_form
         (begun_state s rest drops)
         (begin (meaning s))

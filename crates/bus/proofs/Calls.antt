@@ -25,9 +25,9 @@ use Rattle.state.specs.State.{Held, tie_of, values_from, station_at, meaning, fo
 use Rattle.bus.specs.Coded.{Begun, coded_begin, coded_probe, begin_result, step_result, is_shown, address_shown, number_shown, parameter_shown, begun_form, shown_at, begun_of}
 use Rattle.bus.specs.Parts.{shown_of}
 use Rattle.state.proofs.Form.{parts_padded}
-use Rattle.state.proofs.Rows.{values_length, values-ext, row_at, row_same, row_replicate}
+use Rattle.state.proofs.Rows.{values_length, values_ext, row_at, row_same, row_replicate}
 use Rattle.state.proofs.Stands.{Lent}
-use Rattle.bus.proofs.Coded.{hands-back-begin, hands-back-probe, begin_bears, probe_bears, standing_exactly_begin, standing_exactly_probe}
+use Rattle.bus.proofs.Coded.{hands_back_begin, hands_back_probe, begin_bears, probe_bears, standing_exactly_begin, standing_exactly_probe}
 use Rattle.bus.proofs.ProbedSlot.{open_of}
 use Rattle.bus.proofs.Steps.{goes_on}
 use Rattle.bus.proofs.InPlace.{Sound}
@@ -75,19 +75,19 @@ module _ (s : State) (r : Lent s) where
       ap (λ t. cond t ((probe_call (meaning s)).0, form (probe_call (meaning s)).1) (refused_answer 1, s)) (parts_padded s r.zeros)
 
   -- a begin that is not refused
-  pub begins-now :
+  pub begins_now :
       s.segment.contention.begun ≡ false → begin_result (begun_answer (meaning s), form (begin (meaning s))) ≡ begin_result (coded_begin s)
-  begins-now between =
+  begins_now between =
       sym
       (ap begin_result begin_of_rules
       ∙ ap (λ (o : Step.Begun × Bus). begin_result (o.0, form o.1))
       (begin_is (meaning s) (begin_accepts (meaning s) r.stands (ap lent_contention between))))
 
   -- a probe that is not refused
-  pub probes-now :
+  pub probes_now :
       s.segment.contention.begun ≡ true → ltb last_slot s.segment.clock.0 ≡ false
       → step_result ((probe (open_of s 0)).0, form (probe (open_of s 0)).1) ≡ step_result (coded_probe s)
-  probes-now begun early =
+  probes_now begun early =
       let ok : step_refusal (meaning s) ≡ 0 = ap₂ (λ t u. verdict t 1 (verdict u 17 0)) stands! early in
       let under : ¬ ((meaning s).contention ≡ none) = λ e. is_some (sym (ap lent_contention begun) ∙ e) in
       sym
@@ -103,23 +103,23 @@ held : (t : Bool) (s : State) → Sound t s → Held s
 held true s r = r.held
 held false s r = r.0
 
-pub begin-away :
+pub begin_away :
     (t : Bool) (s : State) → Sound t s → (refusal : ℕ) → refusal ≡ begin_refused t s → ¬ (refusal ≡ 0)
     → begin_result (refused_begun refusal, s) ≡ begin_result (coded_begin s)
-begin-away t s r refusal e n =
+begin_away t s r refusal e n =
     let same = e ∙ sym (number t r) in
-    ap (λ k. begin_result (refused_begun k, s)) same ∙ sym (ap begin_result (hands-back-begin s (held t s r) (λ z. n (same ∙ z))))
+    ap (λ k. begin_result (refused_begun k, s)) same ∙ sym (ap begin_result (hands_back_begin s (held t s r) (λ z. n (same ∙ z))))
   where
     number : (t : Bool) → Sound t s → (coded_begin s).0.refusal ≡ begin_refused t s
     number true r = ap (λ (o : Step.Begun × State). o.0.refusal) (begin_of_rules s r) ∙ begin_bears (meaning s) ∙ begin-refusal! s r
     number false r = (standing_exactly_begin s).1 r.1
 
-pub probe-away :
+pub probe_away :
     (t : Bool) (s : State) → Sound t s → (refusal : ℕ) → refusal ≡ probe_refused t s → ¬ (refusal ≡ 0)
     → step_result (refused_answer refusal, s) ≡ step_result (coded_probe s)
-probe-away t s r refusal e n =
+probe_away t s r refusal e n =
     let same = e ∙ sym (number t r) in
-    ap (λ k. step_result (refused_answer k, s)) same ∙ sym (ap step_result (hands-back-probe s (held t s r) (λ z. n (same ∙ z))))
+    ap (λ k. step_result (refused_answer k, s)) same ∙ sym (ap step_result (hands_back_probe s (held t s r) (λ z. n (same ∙ z))))
   where
     number : (t : Bool) → Sound t s → (coded_probe s).0.refusal ≡ probe_refused t s
     number true r = ap (λ (o : Answer × State). o.0.refusal) (probe_of_rules s r) ∙ probe_bears (meaning s) ∙ probe-refusal! s r
@@ -127,26 +127,26 @@ probe-away t s r refusal e n =
 
 -- ---- a call that is not refused
 
-pub begin-on :
+pub begin_on :
     (t : Bool) (s : State) → Sound t s → (refusal : ℕ) → refusal ≡ begin_refused t s → refusal ≡ 0 → (Lent s) × (s.segment.contention.begun ≡ false)
-begin-on true s r refusal e z = (r, go s.segment.contention.begun (sym e ∙ z))
+begin_on true s r refusal e z = (r, go s.segment.contention.begun (sym e ∙ z))
   where
     go : (t : Bool) → ◌≡◌ {A = ℕ} (cond t 25 0) 0 → t ≡ false
     go true f = absurd (omega arith)
     go false f = refl
-begin-on false s r refusal e z = absurd (omega arith)
+begin_on false s r refusal e z = absurd (omega arith)
 
-pub probe-on :
+pub probe_on :
     (t : Bool) (s : State) → Sound t s → (refusal : ℕ) → refusal ≡ probe_refused t s → refusal ≡ 0
     → (Lent s) × (s.segment.contention.begun ≡ true) × (ltb last_slot s.segment.clock.0 ≡ false)
-probe-on true s r refusal e z =
+probe_on true s r refusal e z =
     let both = go s.segment.contention.begun (ltb last_slot s.segment.clock.0) (sym e ∙ z) in (r, both.0, both.1)
   where
     go : (t u : Bool) → ◌≡◌ {A = ℕ} (cond t (cond u 17 0) 26) 0 → (t ≡ true) × (u ≡ false)
     go true true f = absurd (omega arith)
     go true false f = (refl, refl)
     go false u f = absurd (omega arith)
-probe-on false s r refusal e z = absurd (omega arith)
+probe_on false s r refusal e z = absurd (omega arith)
 
 -- ---- what a begin shows
 
@@ -282,7 +282,7 @@ answer_shown b n e few = λ k.
 
     all : (begun_answer b).contenders ≡ values_from (shown_at (begun_form (begun_answer b))) 0 n
     all =
-        values-ext (shown_at (begun_form (begun_answer b))) 0 n (begun_answer b).contenders none long
+        values_ext (shown_at (begun_form (begun_answer b))) 0 n (begun_answer b).contenders none long
         (λ j l. sym (ap (shown_at (begun_form (begun_answer b))) (zero-add j) ∙ shown_read (begun_answer b) j (omega arith)))
 
 refused_shown : (n k : ℕ) → ¬ (k ≡ 0) → begun_of n (begun_form (refused_begun k)) ≡ refused_begun k

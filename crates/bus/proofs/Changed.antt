@@ -20,13 +20,13 @@ use Rattle.state.specs.Parts.{queue_of, packets_of}
 use Rattle.bus.specs.Parts.{queue_form}
 use Rattle.state.proofs.Rows.{values_map, values_same, among_values}
 use Rattle.state.proofs.Form.{Padded, places_length}
-use Rattle.bus.proofs.QueueLaws.{packets_of_form, form_places, form_padded, with-queue-lengths, queue-of-with, padded-form-of, with_queue}
+use Rattle.bus.proofs.QueueLaws.{packets_of_form, form_places, form_padded, with_queue_lengths, queue_of_with, padded_form_of, with_queue}
 
 -- ---- queues with zero padding
 
 -- a queue with zero padding is the form of its packets
 pub queue_formed : (s : State) → Held s → Padded s → (i : ℕ) → i < most_stations → queue_of s.queues i ≡ queue_form (queue_at s.queues i)
-queue_formed s h p i l = padded-form-of (queue_of s.queues i) (places_length s h i l) (p.queues i l)
+queue_formed s h p i l = padded_form_of (queue_of s.queues i) (places_length s h i l) (p.queues i l)
 
 -- ---- no two stations have one address
 
@@ -50,9 +50,9 @@ module _ (s : State) (h : Standing (meaning s)) where
   addresses_apart =
       subst Distinct (values_map (λ x. x.address) (station_at s) 0 s.segment.settings.n) (set_up_stands (meaning s) h).addresses_apart
 
-  pub own-address :
+  pub own_address :
       (i j : ℕ) → i < s.segment.settings.n → j < s.segment.settings.n → eqb (address_of s i) (address_of s j) ≡ eqb j i
-  own-address i j here there = go (eqb j i) refl (ltb i j) refl
+  own_address i j here there = go (eqb j i) refl (ltb i j) refl
     where
       n : ℕ
       n = s.segment.settings.n
@@ -107,11 +107,11 @@ module _
   where
     queue_now : (j : ℕ) → j < most_stations → queue_of (requeued s i ps).queues j ≡ cond (eqb j i) (queue_form ps) (queue_of s.queues j)
     queue_now j l =
-        queue-of-with s.queues i j (queue_form ps) (omega arith) l h.lengths h.packets (form_places ps room)
+        queue_of_with s.queues i j (queue_form ps) (omega arith) l h.lengths h.packets (form_places ps room)
 
     pub requeued_held : Held (requeued s i ps)
     requeued_held =
-        let qs = with-queue-lengths s.queues i (queue_form ps) (omega arith) h.lengths h.packets (form_places ps room) in
+        let qs = with_queue_lengths s.queues i (queue_form ps) (omega arith) h.lengths h.packets (form_places ps room) in
         record { listed = h.listed; contenders = h.contenders; lengths = qs.0; packets = qs.1 }
 
     queue_zeros :
@@ -151,20 +151,20 @@ module _
         }
 
     -- what station j has
-    pub station-now :
+    pub station_now :
         (j : ℕ) → j < most_stations → station_at (requeued s i ps) j ≡ station_with s.segment j (cond (eqb j i) ps (queue_at s.queues j))
-    station-now j l = ap (station_with s.segment j) (ap packets_of (queue_now j l) ∙ go (eqb j i))
+    station_now j l = ap (station_with s.segment j) (ap packets_of (queue_now j l) ∙ go (eqb j i))
       where
         go : (t : Bool) → packets_of (cond t (queue_form ps) (queue_of s.queues j)) ≡ cond t ps (queue_at s.queues j)
         go true = packets_of_form ps
         go false = refl
 
     -- the stations, where each is made of another one
-    pub stations-now :
+    pub stations_now :
         (f : Station → Station) (old : ℕ → Station)
         → ((j : ℕ) → j < s.segment.settings.n → station_with s.segment j (cond (eqb j i) ps (queue_at s.queues j)) ≡ f (old j))
         → stations_of (requeued s i ps) ≡ map f (values_from old 0 s.segment.settings.n)
-    stations-now f old same =
+    stations_now f old same =
         let n = s.segment.settings.n in
-        values_same (station_at (requeued s i ps)) (λ j. f (old j)) 0 n (λ j l k. station-now j (omega arith) ∙ same j (omega arith))
+        values_same (station_at (requeued s i ps)) (λ j. f (old j)) 0 n (λ j l k. station_now j (omega arith) ∙ same j (omega arith))
         ∙ sym (values_map f old 0 n)

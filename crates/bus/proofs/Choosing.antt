@@ -81,11 +81,11 @@ test_of : (test : Packet → Bool) (t : Bool) (p q : Packet) → test (cond t p 
 test_of test true p q = refl
 test_of test false p q = refl
 
-pub better-first :
+pub better_first :
     (d : Discipline) (best p : Packet) (rest : Option Packet)
     → chosen d best (chosen d p rest) ≡ chosen d (cond (goes_before d p best) p best) rest
-better-first d best p none = refl
-better-first d best p (some q) =
+better_first d best p none = refl
+better_first d best p (some q) =
     ap some
     (ap (λ t. cond t (cond (goes_before d q p) q p) best) (test_of (λ r. goes_before d r best) (goes_before d q p) q p)
     ∙ go (goes_whether d q p) (goes_whether d p best) (goes_whether d q best)
@@ -123,12 +123,12 @@ same_test : {t : Bool} (p q : ℕ) → Whether (p < q) t → t ≡ ltb p q
 same_test p q (holds l) = sym (lt-ltb p q l)
 same_test p q (fails n) = sym (le-ltb p q (omega arith))
 
-pub rank-tells :
+pub rank_tells :
     (d : Discipline) → ¬ (d ≡ RTVC) → (p q : Packet) → p.number < 2 ^ 32 → q.number < 2 ^ 32
     → goes_before d p q ≡ ltb (rank_of p) (rank_of q)
-rank-tells PRI n p q a b = same_test (rank_of p) (rank_of q) (rank_whether p q a b)
-rank-tells RTDG n p q a b = same_test (rank_of p) (rank_of q) (rank_whether p q a b)
-rank-tells RTVC n p q a b = absurd (n refl)
+rank_tells PRI n p q a b = same_test (rank_of p) (rank_of q) (rank_whether p q a b)
+rank_tells RTDG n p q a b = same_test (rank_of p) (rank_of q) (rank_whether p q a b)
+rank_tells RTVC n p q a b = absurd (n refl)
 
 -- ---- numbers of a rising queue
 
@@ -143,12 +143,12 @@ numbers_at_most n m (p ∷ queue) h = all_cons p (rising_le p.number m queue h.1
 -- ---- how many packets are looked at
 
 -- the choice among those looked at is the choice among all
-pub looked-choice :
+pub looked_choice :
     (d len looked m : ℕ) (ps : List Packet) → looked ≡ cond (ltb d 2) len 1 → 0 < len → Rising 0 m (take len ps)
     → choice (discipline_of d) (take looked ps) ≡ choice (discipline_of d) (take len ps)
-looked-choice zero len looked m ps e some! rises = ap (λ k. choice PRI (take k ps)) e
-looked-choice (suc zero) len looked m ps e some! rises = ap (λ k. choice RTDG (take k ps)) e
-looked-choice (suc (suc d)) len looked m ps e some! rises =
+looked_choice zero len looked m ps e some! rises = ap (λ k. choice PRI (take k ps)) e
+looked_choice (suc zero) len looked m ps e some! rises = ap (λ k. choice RTDG (take k ps)) e
+looked_choice (suc (suc d)) len looked m ps e some! rises =
     ap (λ k. choice RTVC (take k ps)) (e ∙ ap (λ t. cond t len 1) (le-ltb (suc (suc d)) 2 (omega arith))) ∙ go len ps some! rises
   where
     go : (k : ℕ) (qs : List Packet) → 0 < k → Rising 0 m (take k qs) → choice RTVC (take 1 qs) ≡ choice RTVC (take k qs)
@@ -158,12 +158,12 @@ looked-choice (suc (suc d)) len looked m ps e some! rises =
 
 -- ---- where the packet offered is in time all are
 
-pub in-time-all :
+pub in_time_all :
     (d : Discipline) (clock : ℕ) (ps : List Packet) (q : Packet) → choice d ps ≡ some q → late d clock q.value ≡ false
     → (p : Packet) → Among p ps → late d clock p.value ≡ false
-in-time-all PRI clock ps q e h p i = refl
-in-time-all RTVC clock ps q e h p i = refl
-in-time-all RTDG clock ps q e h p i =
+in_time_all PRI clock ps q e h p i = refl
+in_time_all RTVC clock ps q e h p i = refl
+in_time_all RTDG clock ps q e h p i =
     let first = (subst (ChosenOf RTDG ps) e (chosen_first RTDG ps)).1 p i in
     le-ltb p.value clock (earlier first (ltb-false q.value clock h))
   where

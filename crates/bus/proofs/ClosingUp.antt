@@ -17,7 +17,7 @@ use Rattle.state.specs.State.{no_packet, places_at, queue_at}
 use Rattle.state.specs.Parts.{queue_of, packets_of}
 use Rattle.state.proofs.Places.{places_count, place_at}
 use Rattle.bus.specs.Parts.{queue_form}
-use Rattle.bus.proofs.QueueLaws.{kept-one, kept_length, kept_room, form_places, with-queue-lengths, queue-of-with, with_queue}
+use Rattle.bus.proofs.QueueLaws.{kept_one, kept_length, kept_room, form_places, with_queue_lengths, queue_of_with, with_queue}
 
 -- ---- the places from `at` on: each packet is taken out, and one that stays is put back in the first free place
 
@@ -78,7 +78,7 @@ module _ (f : Packet → Bool) (xs : List Packet) (at : ℕ) where
 
     kept_next : (t : Bool) → f (get_or ys (at + j) no_packet) ≡ t → kept_to (j + 1) ≡ kept_to j ++ kept t (get_or ys (at + j) no_packet) []
     kept_next t e =
-        kept-one f (drop at xs) j (omega (arith, length-drop at xs))
+        kept_one f (drop at xs) j (omega (arith, length-drop at xs))
         ∙ ap (λ p. kept_to j ++ kept (f p) p []) (get_or-drop at xs j no_packet ∙ sym next_at)
         ∙ ap (λ u. kept_to j ++ kept u (get_or ys (at + j) no_packet) []) e
 
@@ -104,10 +104,10 @@ module _ (f : Packet → Bool) (xs : List Packet) (at : ℕ) where
         )
 
     -- one that stays
-    pub closed-stays :
+    pub closed_stays :
         f (get_or ys (at + j) no_packet) ≡ true
         → ClosedUp (j + 1) (set (set ys (at + j) no_packet) (at + filled) (get_or ys (at + j) no_packet)) (filled + 1)
-    closed-stays yes! =
+    closed_stays yes! =
         let p = get_or ys (at + j) no_packet in
         let before = take at xs ++ kept_to j in
         let more = kept_next true yes! in
@@ -245,10 +245,10 @@ module _ (f : Packet → Bool) (qs : Queues) (from : ℕ) where
   pub left_here : (i : ℕ) (next : Queues) → i < 64 → LeftIn f qs from i next → queue_of next i ≡ queue_of qs i
   left_here i next h left = left_out i next left i h (λ a b. omega arith)
 
-  pub left-formed :
+  pub left_formed :
       (i : ℕ) (next : Queues) → i < 64 → LeftIn f qs from i next → queue_of qs i ≡ queue_form (queue_at qs i)
       → queue_of next i ≡ queue_form (queue_at next i)
-  left-formed i next h left form =
+  left_formed i next h left form =
       let same = left_here i next h left in same ∙ form ∙ ap (λ (queue : Queue). queue_form (packets_of queue)) (sym same)
 
   -- one station more
@@ -263,7 +263,7 @@ module _ (f : Packet → Bool) (qs : Queues) (from : ℕ) where
       full = form_places stay (kept_room f next i room)
 
       one_more : LeftIn f qs from (i + 1) (with_queue next i (queue_form stay))
-      one_more j l = queue-of-with next i j (queue_form stay) k l ls ps full ∙ go (eqb j i) refl
+      one_more j l = queue_of_with next i j (queue_form stay) k l ls ps full ∙ go (eqb j i) refl
         where
           go : (t : Bool) → eqb j i ≡ t → cond t (queue_form stay) (queue_of next j) ≡ queue_if (in_range from (i + 1) j) f qs j
           go true e =
@@ -275,11 +275,11 @@ module _ (f : Packet → Bool) (qs : Queues) (from : ℕ) where
               let other = eqb-false j i e in
               left j l ∙ ap (λ t. queue_if t f qs j) (range_same from i (i + 1) j (λ a b. omega arith) (λ a b. omega arith))
 
-      pub left-more :
+      pub left_more :
           (after : Queues) → after ≡ with_queue next i (queue_form stay)
           → (length after.lengths ≡ 64) × (length after.packets ≡ 1024) × LeftIn f qs from (i + 1) after
-      left-more after e =
-          let n = with-queue-lengths next i (queue_form stay) k ls ps full in
+      left_more after e =
+          let n = with_queue_lengths next i (queue_form stay) k ls ps full in
           subst
           (λ rs. (length rs.lengths ≡ 64) × (length rs.packets ≡ 1024) × LeftIn f qs from (i + 1) rs)
           (sym e)
@@ -293,10 +293,10 @@ module _ (f : Packet → Bool) (qs : Queues) (from : ℕ) where
 -- ---- the queues of one station
 
 -- rows with the same queues are the same
-queues-same :
+queues_same :
     (qs rs : Queues) → length qs.lengths ≡ 64 → length qs.packets ≡ 1024 → length rs.lengths ≡ 64 → length rs.packets ≡ 1024
     → ((j : ℕ) → j < 64 → queue_of qs j ≡ queue_of rs j) → qs ≡ rs
-queues-same qs rs ls ps ms rows same = λ k. record { lengths = counts k; packets = places k }
+queues_same qs rs ls ps ms rows same = λ k. record { lengths = counts k; packets = places k }
   where
     counts : qs.lengths ≡ rs.lengths
     counts = ext_get_or 0 qs.lengths rs.lengths (ls ∙ sym ms) (λ j l. ap (λ (queue : Queue). queue.length) (same j (omega arith)))
@@ -320,5 +320,5 @@ pub left_one :
     → r ≡ with_queue qs i (queue_form (keep f (queue_at qs i)))
 left_one f qs r i h ls ps ms rows room left =
     let one = with_queue qs i (queue_form (keep f (queue_at qs i))) in
-    let more = left-more f qs i i qs (omega arith) h ls ps room (left_none f qs i) one refl in
-    queues-same r one ms rows more.0 more.1 (λ j l. left j l ∙ sym (more.2 j l))
+    let more = left_more f qs i i qs (omega arith) h ls ps room (left_none f qs i) one refl in
+    queues_same r one ms rows more.0 more.1 (λ j l. left j l ∙ sym (more.2 j l))

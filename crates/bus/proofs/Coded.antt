@@ -32,7 +32,7 @@ use Rattle.rules.proofs.TurnedAway.{turned_refused, not_counted, is_counted}
 use Rattle.rules.proofs.Refusals as Refusals
 use Rattle.rules.proofs.Refusals.{probe_number, probed_number, hands_back}
 use Rattle.rules.proofs.Keeps.{begin_stands}
-use Rattle.rules.proofs.Step.{step-ways, step_made}
+use Rattle.rules.proofs.Step.{step_ways, step_made}
 use Rattle.rules.proofs.Reach as Reach
 use Rattle.rules.proofs.Reach.{standing_reached}
 use Rattle.rules.proofs.Promises.{promised}
@@ -91,19 +91,19 @@ coded_step_form b fits =
     by_second true = refl
     by_second false = refl
 
-    by-begin :
+    by_begin :
         (t : Bool)
         → cond t (probed_after (form b) begun.0.drops (coded_probe (form begun.1))) (refused_answer begun.0.refusal, form b)
         ≡ held (cond t (probed_after b begun.0.drops after) (refused_answer begun.0.refusal, b))
-    by-begin true =
+    by_begin true =
         ap (probed_after (form b) begun.0.drops) (coded_probe_form begun.1 (begun_fits b fits)) ∙ by_second (eqb after.0.refusal 0)
-    by-begin false = refl
+    by_begin false = refl
 
     by_first :
         (t : Bool)
         → cond t (begun_then coded (form b) (coded_begin (form b))) ((probe_call b).0, form (probe_call b).1)
         ≡ held (cond t (begun_then machine b begun) (probe_call b))
-    by_first true = ap (begun_then coded (form b)) (coded_begin_form b fits) ∙ by-begin (eqb begun.0.refusal 0)
+    by_first true = ap (begun_then coded (form b)) (coded_begin_form b fits) ∙ by_begin (eqb begun.0.refusal 0)
     by_first false = refl
 
 coded_reply : (b : Bus) → Fits b → (c : Call) → reply coded (form b) c ≡ reply machine b c
@@ -121,22 +121,22 @@ coded_next b fits one-step =
     ap (λ (o : Answer × State). o.1) (coded_step_form b fits) ∙ sym (ap (λ (o : Answer × Bus). form o.1) (step_made b))
 
 -- and so are calls, while the machine's states fit
-coded-after :
+coded_after :
     (b : Bus) (calls : List Call) → ((earlier : List Call) → Fits (after machine b earlier))
     → after coded (form b) calls ≡ form (after machine b calls)
-coded-after b [] fits = refl
-coded-after b (c ∷ calls) fits =
-    ap (λ s. after coded s calls) (coded_next b (fits []) c) ∙ coded-after (next machine b c) calls (λ earlier. fits (c ∷ earlier))
+coded_after b [] fits = refl
+coded_after b (c ∷ calls) fits =
+    ap (λ s. after coded s calls) (coded_next b (fits []) c) ∙ coded_after (next machine b c) calls (λ earlier. fits (c ∷ earlier))
 
-coded-replies :
+coded_replies :
     (b : Bus) (calls : List Call) → ((earlier : List Call) → Fits (after machine b earlier))
     → replies coded (form b) calls ≡ replies machine b calls
-coded-replies b [] fits = refl
-coded-replies b (c ∷ calls) fits =
+coded_replies b [] fits = refl
+coded_replies b (c ∷ calls) fits =
     ap₂
     ◌∷◌
     (coded_reply b (fits []) c)
-    (ap (λ s. replies coded s calls) (coded_next b (fits []) c) ∙ coded-replies (next machine b c) calls (λ earlier. fits (c ∷ earlier)))
+    (ap (λ s. replies coded s calls) (coded_next b (fits []) c) ∙ coded_replies (next machine b c) calls (λ earlier. fits (c ∷ earlier)))
 
 pub coded_closing_form : (b : Bus) → Fits b → coded_closing (form b) ≡ closing_call b
 coded_closing_form b fits =
@@ -152,13 +152,13 @@ fits_reached r calls = go (standing_reached r calls)
 
 -- after any set-up and any calls the coded state is the form of the machine's
 pub reached_coded : (r : Request) (calls : List Call) → reach coded r calls ≡ form (reach machine r calls)
-reached_coded r calls = coded-after (set_up r).1 calls (fits_reached r)
+reached_coded r calls = coded_after (set_up r).1 calls (fits_reached r)
 
 pub demand2_coded : Demand2 coded
 demand2_coded =
     record {
       set_ups = λ r. refl;
-      calls = λ r calls own. coded-replies (set_up r).1 calls (fits_reached r);
+      calls = λ r calls own. coded_replies (set_up r).1 calls (fits_reached r);
       closes = λ r calls own. ap coded_closing (reached_coded r calls) ∙ coded_closing_form (reach machine r calls) (fits_reached r calls);
     }
 
@@ -174,10 +174,10 @@ module _ {X : Type 0} (number : X → ℕ) (refused : ℕ → X) (call : Bus →
   abbrev by_padding : State → Bool → X × State
   by_padding s t = cond t ((call (meaning s)).0, form (call (meaning s)).1) (refused 1, s)
 
-  hands-back :
+  hands_it_back :
       (s : State) → Held s → ¬ (number (on_meaning call (refused 1) s).0 ≡ 0)
       → on_meaning call (refused 1) s ≡ (refused (number (on_meaning call (refused 1) s).0), s)
-  hands-back s held = go (padded s) refl
+  hands_it_back s held = go (padded s) refl
     where
       go : (t : Bool) → padded s ≡ t → ¬ (number (by_padding s t).0 ≡ 0) → by_padding s t ≡ (refused (number (by_padding s t).0), s)
       go true e h =
@@ -189,11 +189,11 @@ module _ {X : Type 0} (number : X → ℕ) (refused : ℕ → X) (call : Bus →
 handed_form : (s : State) → Held s → padded s ≡ true → (n : ℕ) → form (handed_back (meaning s) n) ≡ state_turned s (turned_after n s.segment.turned)
 handed_form s held e n = ap (λ (lent : State). state_turned lent (turned_after n s.segment.turned)) (form_meaning s held e)
 
-pub handed-admission :
+pub handed_admission :
     (s : State) → Held s → (a : Arrival) → ¬ ((coded_admit s a).0.refusal ≡ 0)
     → coded_admit s a
     ≡ (record { refusal = (coded_admit s a).0.refusal; number = 0 }, state_turned s (turned_after (coded_admit s a).0.refusal s.segment.turned))
-handed-admission s held a = go (padded s) refl
+handed_admission s held a = go (padded s) refl
   where
     result : Bool → Admitted × State
     result t = cond t ((admit (meaning s) a).0, form (admit (meaning s) a).1) (record { refusal = 1; number = 0 }, s)
@@ -202,36 +202,36 @@ handed-admission s held a = go (padded s) refl
         (t : Bool) → padded s ≡ t → ¬ ((result t).0.refusal ≡ 0)
         → result t ≡ (record { refusal = (result t).0.refusal; number = 0 }, state_turned s (turned_after (result t).0.refusal s.segment.turned))
     go true e h =
-        ap (λ (o : Admitted × Bus). (o.0, form o.1)) (Refusals.handed-admission (meaning s) a h)
+        ap (λ (o : Admitted × Bus). (o.0, form o.1)) (Refusals.handed_admission (meaning s) a h)
         ∙ ap (λ (lent : State). (record { refusal = (admit (meaning s) a).0.refusal; number = 0 }, lent)) (handed_form s held e (admit (meaning s) a).0.refusal)
     go false e h = refl
 
-pub hands-back-admission :
+pub hands_back_admission :
     (s : State) → Held s → (a : Arrival) → ¬ ((coded_admit s a).0.refusal ≡ 0) → ¬ TurnsAway (coded_admit s a).0.refusal
     → coded_admit s a ≡ (record { refusal = (coded_admit s a).0.refusal; number = 0 }, s)
-hands-back-admission s held a h other =
-    handed-admission s held a h
+hands_back_admission s held a h other =
+    handed_admission s held a h
     ∙ ap (λ (n : ℕ). (record { refusal = (coded_admit s a).0.refusal; number = 0 }, state_turned s n)) (not_counted _ s.segment.turned other)
 
-pub turns-away-admission :
+pub turns_away_admission :
     (s : State) → Held s → (a : Arrival) → TurnsAway (coded_admit s a).0.refusal
     → coded_admit s a ≡ (record { refusal = (coded_admit s a).0.refusal; number = 0 }, turned_in s)
-turns-away-admission s held a t =
-    handed-admission s held a (turned_refused _ t)
+turns_away_admission s held a t =
+    handed_admission s held a (turned_refused _ t)
     ∙ ap (λ (n : ℕ). (record { refusal = (coded_admit s a).0.refusal; number = 0 }, state_turned s n)) (is_counted _ s.segment.turned t)
 
-pub hands-back-begin :
+pub hands_back_begin :
     (s : State) → Held s → ¬ ((coded_begin s).0.refusal ≡ 0) → coded_begin s ≡ (refused_begun (coded_begin s).0.refusal, s)
-hands-back-begin = hands-back (λ (x : Begun). x.refusal) refused_begun begin_call refl hands_back.begin
+hands_back_begin = hands_it_back (λ (x : Begun). x.refusal) refused_begun begin_call refl hands_back.begin
 
-pub hands-back-probe :
+pub hands_back_probe :
     (s : State) → Held s → ¬ ((coded_probe s).0.refusal ≡ 0) → coded_probe s ≡ (refused_answer (coded_probe s).0.refusal, s)
-hands-back-probe = hands-back (λ (x : Answer). x.refusal) refused_answer probe_call refl hands_back.probe
+hands_back_probe = hands_it_back (λ (x : Answer). x.refusal) refused_answer probe_call refl hands_back.probe
 
-pub hands-back-step :
+pub hands_back_step :
     (s : State) → Held s → ¬ ((coded_step s).0.refusal ≡ 0) → coded_step s ≡ (refused_answer (coded_step s).0.refusal, s)
-hands-back-step s held =
-    step-ways coded s (λ o. ¬ (o.0.refusal ≡ 0) → o ≡ (refused_answer o.0.refusal, s)) (λ e. hands-back-probe s held) (λ n h. refl) (λ n h. refl)
+hands_back_step s held =
+    step_ways coded s (λ o. ¬ (o.0.refusal ≡ 0) → o ≡ (refused_answer o.0.refusal, s)) (λ e. hands_back_probe s held) (λ n h. refl) (λ n h. refl)
     (λ b z h. absurd (h z))
 
 -- ---- refusal 1 is given exactly where the standing conditions fail
@@ -251,10 +251,10 @@ not_given (v ∷ tests) e =
     go false h k = k
 
 -- where the first test alone bears 1, 1 is given exactly when the first holds
-one-first :
+one_first :
     {n : ℕ} (t : Bool) (tests : List (ℕ × Bool)) → none_bears tests ≡ true → n ≡ first_of 0 ((1, not t) ∷ tests) → (n ≡ 1) ↔ (t ≡ false)
-one-first true tests e k = ((λ z. absurd (not_given tests e (sym k ∙ z))), (λ z. clash refl z))
-one-first false tests e k = ((λ z. refl), (λ z. k))
+one_first true tests e k = ((λ z. absurd (not_given tests e (sym k ∙ z))), (λ z. clash refl z))
+one_first false tests e k = ((λ z. refl), (λ z. k))
 
 -- the answer of a call bears the refusal's number, 0 where the call is accepted
 bears :
@@ -288,7 +288,7 @@ module _ {X : Type 0} (number : X → ℕ) (refused : X) (call : Bus → X × Bu
       result t = cond t ((call (meaning s)).0, form (call (meaning s)).1) (refused, s)
 
       go : (t : Bool) → (number (result t).0 ≡ 1) ↔ ((t && stands (meaning s)) ≡ false)
-      go true = one-first (stands (meaning s)) (tests (meaning s)) (others (meaning s)) (given (meaning s))
+      go true = one_first (stands (meaning s)) (tests (meaning s)) (others (meaning s)) (given (meaning s))
       go false = ((λ z. refl), (λ z. one))
 
 pub standing_exactly_admission : (s : State) (a : Arrival) → ((coded_admit s a).0.refusal ≡ 1) ↔ (standing s ≡ false)
@@ -327,12 +327,12 @@ next_stands s (admission a) e = stands_on (λ b. admit b a) _ (λ b h. Reach.nex
 next_stands s one-begin e = next_begun s e
 next_stands s one-probe e = next_probed s e
 next_stands s one-step e =
-    step-ways coded s (λ o. standing o.1 ≡ true) (λ f. next_probed s e) (λ n. e) (λ n. e) (λ b z. next_probed (coded_begin s).1 (next_begun s e))
+    step_ways coded s (λ o. standing o.1 ≡ true) (λ f. next_probed s e) (λ n. e) (λ n. e) (λ b z. next_probed (coded_begin s).1 (next_begun s e))
 
 -- a step is refused with 1 exactly where a probe is
 pub standing_exactly_step : (s : State) → ((coded_step s).0.refusal ≡ 1) ↔ (standing s ≡ false)
 standing_exactly_step s = (
-  step-ways coded s (λ o. o.0.refusal ≡ 1 → standing s ≡ false) (λ f. (standing_exactly_probe s).0) (λ n. (standing_exactly_begin s).0)
+  step_ways coded s (λ o. o.0.refusal ≡ 1 → standing s ≡ false) (λ f. (standing_exactly_probe s).0) (λ n. (standing_exactly_begin s).0)
       (λ n one. go (standing s) refl one) (λ b z one. absurd (omega (arith, z, one))),
   (λ e.
       let one = (standing_exactly_probe s).1 e in
@@ -400,7 +400,7 @@ read a h = ap (ending a) (ended_bit a.ended h)
 pub answer_read : (s : State) → answer_of (answer_form (coded_step s).0) ≡ (coded_step s).0
 answer_read s =
     read (coded_step s).0
-    (step-ways coded s (λ o. o.0.ended ≤ 1) (λ f. probe_ended s) (λ n. omega arith) (λ n. omega arith) (λ b z. probe_ended (coded_begin s).1))
+    (step_ways coded s (λ o. o.0.ended ≤ 1) (λ f. probe_ended s) (λ n. omega arith) (λ n. omega arith) (λ b z. probe_ended (coded_begin s).1))
 
 pub probe_read : (s : State) → answer_of (answer_form (coded_probe s).0) ≡ (coded_probe s).0
 probe_read s = read (coded_probe s).0 (probe_ended s)
@@ -414,7 +414,7 @@ pub step_both :
     × ((coded_probe (coded_begin s).1).0.refusal ≡ 0)
     × (coded_step s ≡ (dropping (coded_begin s).0.drops (coded_probe (coded_begin s).1).0, (coded_probe (coded_begin s).1).1)))
 step_both s =
-    step-ways coded s
+    step_ways coded s
     (λ o.
     o.0.refusal ≡ 0
     → (o ≡ coded_probe s)

@@ -8,9 +8,9 @@ use native.Mathlib.Omega.{arith}
 use Rattle.state.proofs.Rows.{rest_suc, rest_none, here_or_later}
 use Rattle.bus.specs.Parts.{first_place}
 
-pub first-place-turn :
+pub first_place_turn :
     (test : ℕ → Bool) (i n : ℕ) → i < n → first_place test i (n - i) ≡ cond (test i) i (first_place test (suc i) (n - suc i))
-first-place-turn test i n h = ap (first_place test i) (rest_suc i n h)
+first_place_turn test i n h = ap (first_place test i) (rest_suc i n h)
 
 pub first_place_end : (test : ℕ → Bool) (i n : ℕ) → n ≤ i → first_place test i (n - i) ≡ i
 first_place_end test i n h = ap (first_place test i) (rest_none i n h)

@@ -12,7 +12,7 @@ use Rattle.rules.specs.Probe.{success}
 use Rattle.bus.specs.Types.{Segment, State}
 use Rattle.bus.specs.Parts.{Moved, transmitters_in, with_moved, Sole, no_sole, sole_at, sole_of, heard_in, moved_in}
 use Rattle.state.proofs.Stands.{Lent}
-use Rattle.bus.proofs.ProbedSlot.{probed, sole_more, first-in, first_sends, sent_short, sent_counted}
+use Rattle.bus.proofs.ProbedSlot.{probed, sole_more, first_in, first_sends, sent_short, sent_counted}
 
 -- ---- the parts of a probe
 
@@ -38,7 +38,7 @@ lowest_in w = go (members w) refl
   where
     go : (ms : List ℕ) → members w ≡ ms → length ms ≡ 1 → first_or ms < 64
     go [] e one = absurd (omega arith)
-    go (i ∷ ms) e one = omega (arith, (first-in (bit_at w) 0 64 e).1)
+    go (i ∷ ms) e one = omega (arith, (first_in (bit_at w) 0 64 e).1)
 
 -- ---- what `moved` requires, of a state that stands with a contention under way
 

@@ -37,15 +37,15 @@ use Rattle.state.proofs.Form.{form_meaning, standing_fits, held_form, parts_padd
 use Rattle.state.proofs.Stands.{form_stands}
 use Rattle.bus.proofs.Coded.{coded_next, next_stands}
 use Rattle.state.proofs.Stands.{Lent, lent_held, few_packets}
-use Rattle.bus.proofs.Admitting.{refusal_is, refused_in, gives_1, gives-refusal, joined_at, within_row, room_at, joined-in-place, address_place}
+use Rattle.bus.proofs.Admitting.{refusal_is, refused_in, gives_1, gives_refusal, joined_at, within_row, room_at, joined_in_place, address_place}
 use Rattle.bus.proofs.SingleCalls.{next_same}
 use Rattle.bus.proofs.ClosingUp.{LeftIn, left_one}
-use Rattle.bus.proofs.BeginningLaws.{in_time_at, dropping_to, dropping_few, left-late, all_formed, room_left, late-counted, lost_counted, begun_state, begun-is, waiting-dropped}
+use Rattle.bus.proofs.BeginningLaws.{in_time_at, dropping_to, dropping_few, left_late, all_formed, room_left, late_counted, lost_counted, begun_state, begun_is, waiting_dropped}
 use Rattle.bus.proofs.Steps as Steps
 use Rattle.bus.proofs.Steps.{gives_17, goes_on, begins, probes}
 use Rattle.bus.proofs.ProbedSlot.{Probed, probed, queues_after, slot_with, stepped, winner_there, probed_is, open_of}
 use Rattle.bus.proofs.HeardLaws.{answer_moved, segment_moved, winner_moved, sole_short, sole_counted}
-use Rattle.bus.proofs.Stretched.{So-far, at_first, row-due, took, stepped-on}
+use Rattle.bus.proofs.Stretched.{So-far, at_first, row_due, took, stepped_on}
 use Rattle.bus.proofs.QueueLaws.{with_queue}
 
 -- the state of these parts
@@ -102,22 +102,22 @@ module _ (s : State) (address : Address) (value len : ℕ) where
     of_rules : refusal ≡ admission_refusal (meaning s) arrival
     of_rules = refusal_is s r (address_place s address) address refl value len
 
-    is-refused :
+    refused_is :
         ¬ (refusal ≡ 0)
         → ◌≡◌ {A = Admission} (record { answer = answered refusal s.segment.admitted; state = (refused_in s refusal).state })
         (admission_result (coded_admit s arrival))
-    is-refused n =
+    refused_is n =
         ap
         (λ (t : Bool). record { answer = record { refusal = refusal; number = cond t (s.segment.admitted + 1) 0 }; state = (refused_in s refusal).state })
         (ne_eqb refusal 0 n)
-        ∙ gives-refusal s r arrival refusal of_rules n
+        ∙ gives_refusal s r arrival refusal of_rules n
 
   -- the call is refused
-  pub asked-away :
+  pub asked_away :
       (t : Bool) → Sound t s → (o : Asked) → o ≡ asked_of t → ¬ (o.answer.refusal ≡ 0) → (count : ℕ)
       → count ≡ turned_after o.answer.refusal s.segment.turned
       → ◌≡◌ {A = Admission} (record { answer = o.answer; state = state_turned s count }) (admission_result (coded_admit s arrival))
-  asked-away t r o e n count k =
+  asked_away t r o e n count k =
       ap (λ (m : ℕ). record { answer = o.answer; state = state_turned s m }) k
       ∙ ap (λ (x : Asked). record { answer = x.answer; state = (refused_in s x.answer.refusal).state }) e
       ∙ go t r (λ z. n (ap (λ (x : Asked). x.answer.refusal) e ∙ z))
@@ -126,7 +126,7 @@ module _ (s : State) (address : Address) (value len : ℕ) where
           (t : Bool) → Sound t s → ¬ ((asked_of t).answer.refusal ≡ 0)
           → ◌≡◌ {A = Admission} (record { answer = (asked_of t).answer; state = (refused_in s (asked_of t).answer.refusal).state })
           (admission_result (coded_admit s arrival))
-      go true r n = is-refused r n
+      go true r n = refused_is r n
       go false r n = gives_1 s r.0 arrival r.1
 
   -- or the packet has its place
@@ -138,11 +138,11 @@ module _ (s : State) (address : Address) (value len : ℕ) where
         (admission_result (coded_admit s arrival))
 
   -- an accepted packet is not counted as turned away
-  pub taken-uncounted :
+  pub taken_uncounted :
       (o : Asked) → Taken o → o.answer.refusal ≡ 0 → (count : ℕ) → count ≡ turned_after o.answer.refusal s.segment.turned
       → ◌≡◌ {A = Admission} (record { answer = o.answer; state = joined_at (state_turned s count) o.place o.answer.number value len })
       (admission_result (coded_admit s arrival))
-  taken-uncounted o taken z count k =
+  taken_uncounted o taken z count k =
       ap (λ (m : ℕ). record { answer = o.answer; state = joined_at (state_turned s m) o.place o.answer.number value len })
       (k ∙ ap (λ (n : ℕ). turned_after n s.segment.turned) z)
       ∙ taken.is
@@ -162,7 +162,7 @@ module _ (s : State) (address : Address) (value len : ℕ) where
               state = joined_at s place (answered k s.segment.admitted).number value len;
             })
             z
-            ∙ joined-in-place s r place address refl value len none! (s.segment.admitted + 1) refl;
+            ∙ joined_in_place s r place address refl value len none! (s.segment.admitted + 1) refl;
       }
 
   pub asked_in : (t : Bool) → Sound t s → (o : Asked) → o ≡ asked_of t → o.answer.refusal ≡ 0 → Taken o
@@ -175,25 +175,25 @@ module _ (s : State) (address : Address) (value len : ℕ) where
 abbrev pub step_refused : Bool → State → ℕ
 step_refused t s = cond t (cond (ltb last_slot s.segment.clock.0) 17 0) 1
 
-pub step-away :
+pub step_away :
     (t : Bool) (s : State) → Sound t s → (refusal : ℕ) → refusal ≡ step_refused t s → ¬ (refusal ≡ 0)
     → step_result (refused_answer refusal, s) ≡ step_result (coded_step s)
-step-away true s r refusal e n = go (ltb last_slot s.segment.clock.0) refl
+step_away true s r refusal e n = go (ltb last_slot s.segment.clock.0) refl
   where
     go : (u : Bool) → ltb last_slot s.segment.clock.0 ≡ u → step_result (refused_answer refusal, s) ≡ step_result (coded_step s)
     go true f = ap (λ (k : ℕ). step_result (refused_answer k, s)) (e ∙ ap (λ (u : Bool). cond u 17 0) f) ∙ gives_17 s r f
     go false f = absurd (n (e ∙ ap (λ (u : Bool). cond u 17 0) f))
-step-away false s r refusal e n = ap (λ (k : ℕ). step_result (refused_answer k, s)) e ∙ Steps.gives_1 s r.0 r.1
+step_away false s r refusal e n = ap (λ (k : ℕ). step_result (refused_answer k, s)) e ∙ Steps.gives_1 s r.0 r.1
 
-pub step-on :
+pub step_on :
     (t : Bool) (s : State) → Sound t s → (refusal : ℕ) → refusal ≡ step_refused t s → refusal ≡ 0
     → (Lent s) × (ltb last_slot s.segment.clock.0 ≡ false)
-step-on true s r refusal e z = (r, go (ltb last_slot s.segment.clock.0) refl)
+step_on true s r refusal e z = (r, go (ltb last_slot s.segment.clock.0) refl)
   where
     go : (u : Bool) → ltb last_slot s.segment.clock.0 ≡ u → ltb last_slot s.segment.clock.0 ≡ false
     go true f = let given = sym (e ∙ ap (λ (u : Bool). cond u 17 0) f) ∙ z in absurd (omega arith)
     go false f = f
-step-on false s r refusal e z = absurd (omega arith)
+step_on false s r refusal e z = absurd (omega arith)
 
 -- ---- the contention is under way, or has just begun
 
@@ -239,28 +239,28 @@ pub was_open : (s : State) → Lent s → s.segment.contention.begun ≡ true �
 was_open s r e = opened_with s s 0 (had_begun s r e) refl refl
 
 -- the same, of equal things
-pub opened-as :
+pub opened_as :
     {s : State} {g g' : Segment} {queues queues' : Queues} {drops drops' : ℕ} → g' ≡ g → queues' ≡ queues → drops' ≡ drops
     → Opened s g queues drops → Opened s g' queues' drops'
-opened-as {s} {g} {g'} {queues} {queues'} {drops} {drops'} a b c o =
+opened_as {s} {g} {g'} {queues} {queues'} {drops} {drops'} a b c o =
     subst (λ (k : ℕ). Opened s g' queues' k) (sym c)
     (subst (λ (q : Queues). Opened s g' q drops) (sym b) (subst (λ (h : Segment). Opened s h queues drops) (sym a) o))
 
 -- it has just begun
-now-open :
+now_open :
     (s : State) → Lent s → s.segment.contention.begun ≡ false → (x : State) → x ≡ form (begin (meaning s))
     → x.segment.settings ≡ s.segment.settings → x.segment.listed ≡ s.segment.listed → (drops : ℕ) → drops ≡ drops_of (meaning s) → Opened s x.segment x.queues drops
-now-open s r e x f set_up_call same drops d =
+now_open s r e x f set_up_call same drops d =
     opened_with s x drops (begun_as f d (just_begun s r e)) set_up_call same
 
 -- the packets that are left
 module _ (s : State) (r : Lent s) (between : s.segment.contention.begun ≡ false) (rest : Queues)
     (kept : LeftIn (in_time_at s) s.queues 0 s.segment.settings.n rest) (ls : length rest.lengths ≡ 64) (ps : length rest.packets ≡ 1024) where
-  pub begun-open :
+  pub begun_open :
       (drops : ℕ) → drops ≡ drops_of (meaning s) → (g : Segment) → g ≡ begun_with s.segment rest drops → Opened s g rest drops
-  begun-open drops e g f =
-      opened-as f refl refl
-      (now-open s r between (begun_state s rest drops) (begun-is s r rest kept drops e ls ps) refl refl drops e)
+  begun_open drops e g f =
+      opened_as f refl refl
+      (now_open s r between (begun_state s rest drops) (begun_is s r rest kept drops e ls ps) refl refl drops e)
 
 -- late packets leave, and each station offers one: what `begin` does in place, and a `step` that begins
 module _ (s : State) (r : Lent s) (to : ℕ) (to! : to ≡ dropping_to s.segment.settings.discipline s.segment.settings.n) where
@@ -268,32 +268,32 @@ module _ (s : State) (r : Lent s) (to : ℕ) (to! : to ≡ dropping_to s.segment
   n = s.segment.settings.n
 
   -- `without` may be called
-  pub may-leave :
+  pub may_leave :
       (to ≤ 64)
       × (((j : ℕ) → j < 64 → queue_of s.queues j ≡ queue_form (queue_at s.queues j))
       × ((j : ℕ) → j < 64 → get_or s.queues.lengths j 0 ≤ 16))
-  may-leave = (omega (arith, to!, dropping_few s.segment.settings.discipline n, r.few), (all_formed s r, few_packets s r))
+  may_leave = (omega (arith, to!, dropping_few s.segment.settings.discipline n, r.few), (all_formed s r, few_packets s r))
 
   module _ (rest : Queues) (gone : LeftIn (in_time_at s) s.queues 0 to rest) (arrays : (length rest.lengths ≡ 64) × (length rest.packets ≡ 1024)) where
     kept_in_time : LeftIn (in_time_at s) s.queues 0 n rest
     kept_in_time =
-        left-late s.segment.settings.discipline s.segment.clock s.queues n rest (all_formed s r)
+        left_late s.segment.settings.discipline s.segment.clock s.queues n rest (all_formed s r)
         (subst (λ (k : ℕ). LeftIn (in_time_at s) s.queues 0 k rest) to! gone)
 
     -- `dropped` may be called
     pub fewer_wait : waiting_in rest.lengths n ≤ waiting_in s.queues.lengths n
-    fewer_wait = omega (arith, late-counted s r rest kept_in_time arrays.0)
+    fewer_wait = omega (arith, late_counted s r rest kept_in_time arrays.0)
 
     module _ (drops : ℕ) (drops! : drops ≡ waiting_in s.queues.lengths n - waiting_in rest.lengths n) where
       pub all_dropped : drops ≡ drops_of (meaning s)
-      all_dropped = omega (arith, drops!, late-counted s r rest kept_in_time arrays.0)
+      all_dropped = omega (arith, drops!, late_counted s r rest kept_in_time arrays.0)
 
       -- `begun` may be called
-      pub may-begin :
+      pub may_begin :
           (n ≤ 64)
           × (((i : ℕ) → i < n → get_or rest.lengths i 0 ≤ 16)
           × ((1 ≤ s.segment.settings.q) × ((1 ≤ s.segment.settings.d) × (s.segment.lost + drops ≤ 18446744073709551615))))
-      may-begin =
+      may_begin =
           let spaces = set_up_stands (meaning s) r.stands in
           let count = lost_counted s r in
           let dropped! = all_dropped in
@@ -303,18 +303,18 @@ module _ (s : State) (r : Lent s) (to : ℕ) (to! : to ≡ dropping_to s.segment
       module _ (g : Segment) (g! : g ≡ begun_with s.segment rest drops) where
         pub begun_whole : whole g rest ≡ form (begin (meaning s))
         begun_whole =
-            ap (λ (x : Segment). whole x rest) g! ∙ begun-is s r rest kept_in_time drops all_dropped arrays.0 arrays.1
+            ap (λ (x : Segment). whole x rest) g! ∙ begun_is s r rest kept_in_time drops all_dropped arrays.0 arrays.1
 
         pub late_gone : s.segment.contention.begun ≡ false → Opened s g rest drops
-        late_gone between = begun-open s r between rest kept_in_time arrays.0 arrays.1 drops all_dropped g g!
+        late_gone between = begun_open s r between rest kept_in_time arrays.0 arrays.1 drops all_dropped g g!
 
 -- no packet leaves where all are in time
-pub offered-open :
+pub offered_open :
     (s : State) (r : Lent s) → s.segment.contention.begun ≡ false → LeftIn (in_time_at s) s.queues 0 s.segment.settings.n s.queues
     → (g : Segment) → g ≡ begun_with s.segment s.queues 0 → Opened s g s.queues 0
-offered-open s r between kept g f =
-    let none : 0 ≡ drops_of (meaning s) = omega (arith, waiting-dropped s r s.queues kept r.held.lengths) in
-    begun-open s r between s.queues kept r.held.lengths r.held.packets 0 none g f
+offered_open s r between kept g f =
+    let none : 0 ≡ drops_of (meaning s) = omega (arith, waiting_dropped s r s.queues kept r.held.lengths) in
+    begun_open s r between s.queues kept r.held.lengths r.held.packets 0 none g f
 
 -- ---- a probe in place
 
@@ -356,9 +356,9 @@ module _ (g : Segment) (m : Moved) where
             rest;
       }
 
-  contenders-of :
+  contenders_of :
       {ended : Bool} → m.answer.ended ≡ ended → (rest : Queues) → placed (cond ended no_contenders (recorded_in g)) rest ≡ after rest
-  contenders-of f rest = ap (λ (t : Bool). placed (cond t no_contenders (recorded_in g)) rest) (sym f)
+  contenders_of f rest = ap (λ (t : Bool). placed (cond t no_contenders (recorded_in g)) rest) (sym f)
 
   cleared : (rest : Queues) → placed zeroed rest ≡ placed no_contenders rest
   cleared rest = ap (λ (os : Recorded). placed os rest) none_recorded
@@ -402,11 +402,11 @@ module _ (g : Segment) (queues : Queues) (drops : ℕ) (ready : Lent (whole g qu
   winner_placed k = omega (arith, winner! k, winner_there (whole g queues) ready drops p refl)
 
   -- the winner's packet leaves its queue
-  probed-sent :
+  probed_sent :
       m.answer.event ≡ success → (rest : Queues)
       → rest ≡ with_queue queues sole.place (queue_form (keep (stays (Sent m.answer.number)) (queue_at queues sole.place)))
       → after g m rest ≡ stepped (probe (open_of (whole g queues) drops))
-  probed-sent k rest f =
+  probed_sent k rest f =
       after_is true
       (eq-eqb p.answer.event success (sym (ap (λ (x : Answer). x.event) answer!) ∙ k))
       rest
@@ -422,10 +422,10 @@ module _ (g : Segment) (queues : Queues) (drops : ℕ) (ready : Lent (whole g qu
   it = whole g queues
 
   -- `heard_in` may be called
-  pub may-probe :
+  pub may_probe :
       (g.clock.0 ≤ 1073741824)
       × (((sole_of g (heard_in g)).packet.length ≤ 4096) × (count_of (transmitters_in g) ≡ 1 → g.sent < 4294967295))
-  may-probe = (ready.stands.clock_in, (sole_short it ready begun, sole_counted it ready begun))
+  may_probe = (ready.stands.clock_in, (sole_short it ready begun, sole_counted it ready begun))
 
   module _ (h : Heard) (h! : h ≡ heard_of g drops) where
     event! : h.answer.event ≡ (moved_in g drops).answer.event
@@ -449,17 +449,17 @@ module _ (g : Segment) (queues : Queues) (drops : ℕ) (ready : Lent (whole g qu
           )
 
       -- `without` may be called
-      pub may-send :
+      pub may_send :
           (h.place + 1 ≤ 64)
           × (((j : ℕ) → j < 64 → queue_of queues j ≡ queue_form (queue_at queues j)) × ((j : ℕ) → j < 64 → get_or queues.lengths j 0 ≤ 16))
-      may-send = (omega (arith, winner_there!), (all_formed it ready, few_packets it ready))
+      may_send = (omega (arith, winner_there!), (all_formed it ready, few_packets it ready))
 
-      pub one-won :
+      pub one_won :
           (rest : Queues) → LeftIn (stays (Sent h.answer.number)) queues h.place (h.place + 1) rest
           → (length rest.lengths ≡ 64) × (length rest.packets ≡ 1024) → heard_with h rest ≡ stepped (probe (open_of it drops))
-      one-won rest gone arrays =
+      one_won rest gone arrays =
           ap (λ (x : Heard). heard_with x rest) h!
-          ∙ probed-sent g queues drops ready begun (sole_of g (heard_in g)) refl (moved_in g drops) refl (sym event! ∙ won) rest
+          ∙ probed_sent g queues drops ready begun (sole_of g (heard_in g)) refl (moved_in g drops) refl (sym event! ∙ won) rest
           (left_one (stays (Sent h.answer.number)) queues rest h.place winner_there! ready.held.lengths ready.held.packets arrays.0 arrays.1
           (few_packets it ready h.place winner_there!)
           gone
@@ -475,28 +475,28 @@ module _ (s : State) (r : Lent s) (on_time : ltb last_slot s.segment.clock.0 ≡
   none_sent : ¬ (m.answer.event ≡ success) → after g m queues ≡ step_result (coded_step s)
   none_sent n = probed_unsent g queues drops o.ready o.begun sole h m e n ∙ of_step
 
-  one-sent :
+  one_sent :
       m.answer.event ≡ success → (rest : Queues)
       → rest ≡ with_queue queues sole.place (queue_form (keep (stays (Sent m.answer.number)) (queue_at queues sole.place)))
       → after g m rest ≡ step_result (coded_step s)
-  one-sent k rest f = probed-sent g queues drops o.ready o.begun sole h m e k rest f ∙ of_step
+  one_sent k rest f = probed_sent g queues drops o.ready o.begun sole h m e k rest f ∙ of_step
 
   pub winner_in : m.answer.event ≡ success → sole.place < most_stations
   winner_in = winner_placed g queues drops o.ready o.begun sole h m e
 
   -- the contention goes on; or it ends, without a winner or with one
   pub still_on : m.answer.ended ≡ false → placed g m (recorded_in g) queues ≡ step_result (coded_step s)
-  still_on f = contenders-of g m f queues ∙ none_sent (unended g.settings (progress_of g) drops (count_of (transmitters_in g)) sole m e f)
+  still_on f = contenders_of g m f queues ∙ none_sent (unended g.settings (progress_of g) drops (count_of (transmitters_in g)) sole m e f)
 
-  pub ends-unheard :
+  pub ends_unheard :
       m.answer.ended ≡ true → ¬ (m.answer.event ≡ success) → placed g m zeroed queues ≡ step_result (coded_step s)
-  ends-unheard f n = cleared g m queues ∙ contenders-of g m f queues ∙ none_sent n
+  ends_unheard f n = cleared g m queues ∙ contenders_of g m f queues ∙ none_sent n
 
-  pub ends-won :
+  pub ends_won :
       m.answer.ended ≡ true → m.answer.event ≡ success → (rest : Queues)
       → rest ≡ with_queue queues sole.place (queue_form (keep (stays (Sent m.answer.number)) (queue_at queues sole.place)))
       → placed g m zeroed rest ≡ step_result (coded_step s)
-  ends-won f k rest h' = cleared g m rest ∙ contenders-of g m f rest ∙ one-sent k rest h'
+  ends_won f k rest h' = cleared g m rest ∙ contenders_of g m f rest ∙ one_sent k rest h'
 
 -- ---- what a stretch has come to, in place
 
@@ -515,26 +515,26 @@ module _ (stands : Bool) (x : Arrivals) (places : length x.row ≡ 64) (s : Stat
   abbrev coming : Arrival
   coming = get_or x.row taken no_arrival
 
-  pub with-arrival :
+  pub with_one_arrival :
       (ltb taken x.length && due g.clock.0 coming) ≡ true → (admission : Admission)
       → admission ≡ admission_result (coded_admit (whole g queues) (asks coming)) → (r : Report)
       → r ≡ arrival_report (whole g queues) coming admission.answer
       → Going stands s x steps admission.state.segment admission.state.queues (set reports made r) (made + 1) (taken + 1) left
-  with-arrival e admission f r h =
+  with_one_arrival e admission f r h =
       record {
         so_far = took x places s steps (whole g queues) reports made taken left y.so_far m t l e admission f r h;
         sound = subst (λ (o : Admission). Sound stands o.state) (sym f) (sound_next stands (whole g queues) y.sound (Engine.admission (asks coming)));
         few = omega arith;
-        here = omega (arith, row-due x places taken (due g.clock.0 coming) t e);
+        here = omega (arith, row_due x places taken (due g.clock.0 coming) t e);
       }
 
-  pub with-step :
+  pub with_step :
       (ltb taken x.length && due g.clock.0 coming) ≡ false → (o : Stepped) → o ≡ step_result (coded_step (whole g queues)) → (r : Report)
       → r ≡ step_report (whole g queues) o.answer
       → Going stands s x steps o.state.segment o.state.queues (set reports made r) (made + 1) taken (left - 1)
-  with-step e o f r h =
+  with_step e o f r h =
       record {
-        so_far = stepped-on x places s steps (whole g queues) reports made taken left y.so_far m t l e o f r h;
+        so_far = stepped_on x places s steps (whole g queues) reports made taken left y.so_far m t l e o f r h;
         sound = subst (λ (u : Stepped). Sound stands u.state) (sym f) (sound_next stands (whole g queues) y.sound Engine.one-step);
         few = omega arith;
         here = y.here;

@@ -26,9 +26,9 @@ use Rattle.state.proofs.Places.{places_count, place_at}
 use Rattle.state.proofs.Form.{at_place}
 use Rattle.state.proofs.Tested.{left_turn, left_end}
 use Rattle.state.proofs.Stands.{Lent, few_packets}
-use Rattle.bus.proofs.Choosing.{better-first, rank-tells, numbers_at_most, looked-choice, in-time-all}
+use Rattle.bus.proofs.Choosing.{better_first, rank_tells, numbers_at_most, looked_choice, in_time_all}
 use Rattle.bus.proofs.ClosingUp.{in_range, range_tells, queue_if, LeftIn}
-use Rattle.bus.proofs.BeginningLaws.{in_time_at, place_for, places_to, contending_at, places_none, places_more, places_same, nothing-offered, nobody_recorded, all_formed}
+use Rattle.bus.proofs.BeginningLaws.{in_time_at, place_for, places_to, contending_at, places_none, places_more, places_same, nothing_offered, nobody_recorded, all_formed}
 
 module _ (s : State) where
   abbrev f : ℕ → Contender
@@ -105,9 +105,9 @@ module _ (s : State) (r : Lent s) where
     own = r.stands.each_station (station_at s i) (among_values (station_at s) 0 (n s) i (omega arith) (omega arith))
 
     -- one station more is in time
-    in-time-more :
+    in_time_more :
         InTimeTo s i → ((p : Packet) → Among p (queue_at s.queues i) → late (d s) s.segment.clock.0 p.value ≡ false) → InTimeTo s (i + 1)
-    in-time-more before now j m p a = go (eqb j i) refl
+    in_time_more before now j m p a = go (eqb j i) refl
       where
         go : (t : Bool) → eqb j i ≡ t → late (d s) s.segment.clock.0 p.value ≡ false
         go true e = now p (subst (λ k. Among p (queue_at s.queues k)) (eqb-true j i e) a)
@@ -115,10 +115,10 @@ module _ (s : State) (r : Lent s) where
 
     -- it offers nothing
     pub offering_same : (eqb len 0 || sits) ≡ true → offering_to s i ≡ offering_to s (i + 1)
-    offering_same h = ap (with_contenders s) (places_same (f s) i (nothing-offered s.segment s.queues i h))
+    offering_same h = ap (with_contenders s) (places_same (f s) i (nothing_offered s.segment s.queues i h))
 
     pub in_time_same : (eqb len 0 || sits) ≡ true → InTimeTo s i → InTimeTo s (i + 1)
-    in_time_same h before = in-time-more before (go (eqb len 0) refl (d s) refl h)
+    in_time_same h before = in_time_more before (go (eqb len 0) refl (d s) refl h)
       where
         go :
             (t : Bool) → eqb len 0 ≡ t → (k : Discipline) → (d s) ≡ k → (t || sits_out k (last_of s.segment.round) l.capability.0) ≡ true
@@ -139,7 +139,7 @@ module _ (s : State) (r : Lent s) where
       room! = few_packets s r i within_row
 
       -- its packet recorded is its place
-      pub offering-more :
+      pub offering_more :
           (p : Packet) → choice (d s) (queue_at s.queues i) ≡ some p
           → (with_contenders s)
           (contending_at
@@ -147,20 +147,20 @@ module _ (s : State) (r : Lent s) where
           i
           (record { contends = true; parameter = parameter_for (d s) s.segment.settings s.segment.clock l.capability p; packet = p }))
           ≡ offering_to s (i + 1)
-      offering-more p e =
-          ap (λ (c : Contender). (with_contenders s) (contending_at (places_to (f s) i) i c)) (sym its-place)
-          ∙ ap (with_contenders s) (places_more (f s) i within_row (ap (λ (c : Contender). c.contends) its-place))
+      offering_more p e =
+          ap (λ (c : Contender). (with_contenders s) (contending_at (places_to (f s) i) i c)) (sym its_place)
+          ∙ ap (with_contenders s) (places_more (f s) i within_row (ap (λ (c : Contender). c.contends) its_place))
         where
-          its-place :
+          its_place :
               f s i ≡ record { contends = true; parameter = parameter_for (d s) s.segment.settings s.segment.clock l.capability p; packet = p }
-          its-place =
+          its_place =
               ap (contender_on s.segment.settings s.segment.clock s.segment.round l) e
               ∙ rw (or-false (eqb len 0) sits offers).1
 
-      pub in-time-offered :
+      pub in_time_offered :
           (p : Packet) → choice (d s) (queue_at s.queues i) ≡ some p → late (d s) s.segment.clock.0 p.value ≡ false → InTimeTo s i
           → InTimeTo s (i + 1)
-      in-time-offered p e h before = in-time-more before (in-time-all (d s) s.segment.clock.0 (queue_at s.queues i) p e h)
+      in_time_offered p e h before = in_time_more before (in_time_all (d s) s.segment.clock.0 (queue_at s.queues i) p e h)
 
       -- the search, of so many of its packets
       module _ (looked : ℕ) (looked! : looked ≡ cond (ltb s.segment.settings.discipline 2) len 1) where
@@ -214,14 +214,14 @@ module _ (s : State) (r : Lent s) where
           tells =
               let back : 16 * i + (place - 16 * i) ≡ place = omega (arith, best.0) in
               let its = subst (λ k. (packet k).number < 2 ^ 32) back (short (place - 16 * i) (omega (arith, best.0, best.1))) in
-              rank-tells (d s) searched (packet (16 * i + j)) (packet place) (short j (omega (arith, looked_some.1))) its
+              rank_tells (d s) searched (packet (16 * i + j)) (packet place) (short j (omega (arith, looked_some.1))) its
               ∙ ap (λ m. ltb (rank_of (packet (16 * i + j))) m) (sym best.3)
 
           -- the choice among the better of the two and those after place j
-          looked-at :
+          looked_at :
               {t : Bool} → goes_before (d s) (packet (16 * i + j)) (packet place) ≡ t
               → choice (d s) (take looked ps) ≡ chosen (d s) (cond t (packet (16 * i + j)) (packet place)) (choice (d s) (slice (j + 1) looked ps))
-          looked-at e =
+          looked_at e =
               best.4
               ∙ ap
               (λ qs. chosen (d s) (packet place) (choice (d s) qs))
@@ -229,7 +229,7 @@ module _ (s : State) (r : Lent s) where
               ∙ ap
               (λ (q : Packet). chosen (d s) (packet place) (chosen (d s) q (choice (d s) (slice (j + 1) looked ps))))
               (place_at s.queues i j (omega (arith, looked_some.1, room!)))
-              ∙ better-first (d s) (packet place) (packet (16 * i + j)) (choice (d s) (slice (j + 1) looked ps))
+              ∙ better_first (d s) (packet place) (packet (16 * i + j)) (choice (d s) (slice (j + 1) looked ps))
               ∙ ap (λ t. chosen (d s) (cond t (packet (16 * i + j)) (packet place)) (choice (d s) (slice (j + 1) looked ps))) e
 
           pub best_better : {rank : ℕ} → rank ≡ rank_of (packet (16 * i + j)) → rank < least → best_so_far (16 * i + j) rank (j + 1)
@@ -238,7 +238,7 @@ module _ (s : State) (r : Lent s) where
             omega (arith, looked_some.1),
             omega arith,
             e,
-            looked-at (tells ∙ lt-ltb (rank_of (packet (16 * i + j))) least (omega arith)),
+            looked_at (tells ∙ lt-ltb (rank_of (packet (16 * i + j))) least (omega arith)),
             omega arith,
           )
 
@@ -248,13 +248,13 @@ module _ (s : State) (r : Lent s) where
             best.1,
             omega arith,
             best.3,
-            looked-at (tells ∙ le-ltb (rank_of (packet (16 * i + j))) least (omega arith)),
+            looked_at (tells ∙ le-ltb (rank_of (packet (16 * i + j))) least (omega arith)),
             omega arith,
           )
 
         -- at its end the best is the packet that the station offers
         pub best_offered : (place least j : ℕ) → best_so_far place least j → looked ≤ j → choice (d s) (queue_at s.queues i) ≡ some (packet place)
         best_offered place least j best done =
-            sym (looked-choice s.segment.settings.discipline len looked s.segment.admitted ps looked! some! own.rises)
+            sym (looked_choice s.segment.settings.discipline len looked s.segment.admitted ps looked! some! own.rises)
             ∙ best.4
             ∙ ap (λ qs. chosen (d s) (packet place) (choice (d s) qs)) (left_end looked ps j done)

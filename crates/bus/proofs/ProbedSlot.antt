@@ -35,7 +35,7 @@ use Rattle.state.proofs.Contenders.{recorded_held, place_recorded}
 use Rattle.state.proofs.Form.{Padded, parts_padded, to_form, bits_past_n}
 use Rattle.bus.proofs.QueueLaws.{kept_length, with_queue}
 use Rattle.state.proofs.Stands.{Lent}
-use Rattle.bus.proofs.Changed.{own-address, requeued, requeued_held, requeued_padded, stations-now}
+use Rattle.bus.proofs.Changed.{own_address, requeued, requeued_held, requeued_padded, stations_now}
 
 -- the bus as it is probed, with the contention that has begun
 abbrev pub open_of : State → ℕ → Probe.Open
@@ -69,10 +69,10 @@ probed_by g drops places =
     (moved_by g.settings (progress_of g) drops (length places) (sole_of g places).listed (sole_of g places).packet)
     (sole_of g places).place
 
-probed-more :
+probed_more :
     (g : Segment) (drops i j : ℕ) (places : List ℕ)
     → probed_by g drops (i ∷ j ∷ places) ≡ probed_with g (collided_on g.settings.a (progress_of g) drops) 0
-probed-more g drops i j places =
+probed_more g drops i j places =
     ap
     (λ (x : Sole). probed_with g (moved_by g.settings (progress_of g) drops (suc (suc (length places))) x.listed x.packet) x.place)
     (sole_more g i j places)
@@ -97,10 +97,10 @@ probed g drops = probed_by g drops (heard_in g)
 -- ---- who transmits
 
 -- the first of the places for which a test holds is one of them
-pub first-in :
+pub first_in :
     (f : ℕ → Bool) (i k : ℕ) {m : ℕ} {ms : List ℕ} → places_from f i k ≡ m ∷ ms → (i ≤ m) × (m < i + k) × (f m ≡ true)
-first-in f i zero e = let n = ap length e in absurd (omega arith)
-first-in f i (suc k) {m} {ms} e = go (f i) refl e (first-in f (suc i) k)
+first_in f i zero e = let n = ap length e in absurd (omega arith)
+first_in f i (suc k) {m} {ms} e = go (f i) refl e (first_in f (suc i) k)
   where
     go :
         (t : Bool) → f i ≡ t → placed t i (places_from f (suc i) k) ≡ m ∷ ms
@@ -218,7 +218,7 @@ module _ (s : State) where
 
     -- the first of them is a station that transmits
     pub first_sends : {m : ℕ} {ms : List ℕ} → heard_in s.segment ≡ m ∷ ms → (m < n) × (transmits_at m ≡ true)
-    first_sends e = let r = first-in transmits_at 0 n (sym members_are ∙ e) in (omega (arith, r.1), r.2)
+    first_sends e = let r = first_in transmits_at 0 n (sym members_are ∙ e) in (omega (arith, r.1), r.2)
 
 -- ---- what a probe makes of a bus: other stations, clock, sent count, last winner and contention
 
@@ -444,7 +444,7 @@ module _ (s : State) (r : Lent s) where
         record {
           address = (station_at s j).address;
           capability = (station_at s j).capability;
-          queue = (go (eqb j i) refl ∙ sym (ap (λ t. cond t (staying j) (queue_at s.queues j)) (own-address s r.stands i j here l))) k;
+          queue = (go (eqb j i) refl ∙ sym (ap (λ t. cond t (staying j) (queue_at s.queues j)) (own_address s r.stands i j here l))) k;
           offer = offer_of (nobody_contends j (omega arith) k);
         }
       where
@@ -462,7 +462,7 @@ module _ (s : State) (r : Lent s) where
         (λ k.
         moved
         (meaning s)
-        (stations-now next held zeros r.few i here (staying i) room (left winner) (station_at s) left_is k)
+        (stations_now next held zeros r.few i here (staying i) room (left winner) (station_at s) left_is k)
         clock
         (add-one s.segment.sent k)
         (last-is (meaning s).discipline its_capability winner refl k)
@@ -494,11 +494,11 @@ phase_is c = go c.tied
     go true = refl
     go false = refl
 
-answer-is :
+answer_is :
     (s : State) (drops event : ℕ) (address : Address) (number length wait ended : ℕ)
     → answer_at (progress_of s.segment) drops event address number length wait (not (eqb ended 0))
     ≡ answer_form (answered (open_of s drops) event address.0 number length wait ended)
-answer-is s drops event address number length wait ended =
+answer_is s drops event address number length wait ended =
     λ i.
     record {
       refusal = 0;
@@ -534,7 +534,7 @@ winner_there s r drops p is =
     go : (ms : List ℕ) → heard_in s.segment ≡ ms → (side : Side) → (probed_by s.segment drops ms).winner < most_stations
     go [] e side = by_side (its_side s drops)
     go (i ∷ []) e side = omega (arith, (first_sends s r e).0, r.few)
-    go (i ∷ j ∷ ms) e side = subst (λ (q : Probed). q.winner < most_stations) (sym (probed-more s.segment drops i j ms)) (omega arith)
+    go (i ∷ j ∷ ms) e side = subst (λ (q : Probed). q.winner < most_stations) (sym (probed_more s.segment drops i j ms)) (omega arith)
 
 module _ (s : State) (r : Lent s) (begun : s.segment.contention.begun ≡ true) where
   -- the window is placed in the space of the phase
@@ -577,13 +577,13 @@ module _ (s : State) (r : Lent s) (begun : s.segment.contention.begun ≡ true) 
         omega (arith, r.stands.counts, r.stands.admitted_in)
 
   module _ (drops : ℕ) where
-    unheard-is :
+    unheard_is :
         (side : Side) → slot_of s (probed_with s.segment (unheard_on (progress s drops) drops side) 0) ≡ stepped (Probe.unheard (open_of s drops) side)
-    unheard-is Left =
+    unheard_is Left =
         let c = now s in
         λ i.
         record {
-          answer = answer-is s drops idle (record { 0 = 0 }) 0 0 0 0 i;
+          answer = answer_is s drops idle (record { 0 = 0 }) 0 0 0 0 i;
           state =
               goes_on
               s
@@ -594,20 +594,20 @@ module _ (s : State) (r : Lent s) (begun : s.segment.contention.begun ≡ true) 
               (ap (λ w. some (record { window = w; tie = tie_of c })) (moved_right_free window_placed.0 c.window window_placed.1))
               i;
         }
-    unheard-is Right =
+    unheard_is Right =
         λ i.
         record {
-          answer = answer-is s drops idle (record { 0 = 0 }) 0 0 0 1 i;
+          answer = answer_is s drops idle (record { 0 = 0 }) 0 0 0 1 i;
           state = unwon_is s r i;
         }
 
-    collided-is :
+    collided_is :
         slot_of s (probed_with s.segment (collided_on s.segment.settings.a (progress s drops) drops) 0)
         ≡ stepped (unsent (open_of s drops) collision 0, going_further (meaning s) (split (meaning s) (under_way s)))
-    collided-is =
+    collided_is =
         λ i.
         record {
-          answer = answer-is s drops collision (record { 0 = 0 }) 0 0 0 0 i;
+          answer = answer_is s drops collision (record { 0 = 0 }) 0 0 0 0 i;
           state = goes_on s r (split_now s) (split (meaning s) (under_way s)) (split_padded s r) (split_is s) i;
         }
 
@@ -625,7 +625,7 @@ module _ (s : State) (r : Lent s) (begun : s.segment.contention.begun ≡ true) 
         λ i.
         record {
           answer =
-              answer-is
+              answer_is
               s
               drops
               success
@@ -648,6 +648,6 @@ module _ (s : State) (r : Lent s) (begun : s.segment.contention.begun ≡ true) 
         go :
             (ms : List ℕ) → heard_in s.segment ≡ ms
             → slot_of s (probed_by s.segment drops ms) ≡ stepped (heard (open_of s drops) (map (contender_at s.segment) ms))
-        go [] e = unheard-is (its_side s drops)
+        go [] e = unheard_is (its_side s drops)
         go (k ∷ []) e = sent_is k (first_sends s r e).0
-        go (k ∷ j ∷ ms) e = ap (slot_of s) (probed-more s.segment drops k j ms) ∙ collided-is
+        go (k ∷ j ∷ ms) e = ap (slot_of s) (probed_more s.segment drops k j ms) ∙ collided_is

@@ -70,27 +70,27 @@ pub stands_after : (s : State) (c : Call) → standing s ≡ true → standing (
 stands_after = Coded.next_stands
 
 -- refused calls hand back the state as lent, and zeros; 14 and 15 all of it but the count of packets turned away, which is one higher, up to its stop
-pub hands-back-admission :
+pub hands_back_admission :
     (s : State) → Held s → (a : Arrival) → ¬ ((coded_admit s a).0.refusal ≡ 0) → ¬ TurnsAway (coded_admit s a).0.refusal
     → coded_admit s a ≡ (record { refusal = (coded_admit s a).0.refusal; number = 0 }, s)
-hands-back-admission = Coded.hands-back-admission
+hands_back_admission = Coded.hands_back_admission
 
-pub turns-away-admission :
+pub turns_away_admission :
     (s : State) → Held s → (a : Arrival) → TurnsAway (coded_admit s a).0.refusal
     → coded_admit s a ≡ (record { refusal = (coded_admit s a).0.refusal; number = 0 }, turned_in s)
-turns-away-admission = Coded.turns-away-admission
+turns_away_admission = Coded.turns_away_admission
 
-pub hands-back-begin :
+pub hands_back_begin :
     (s : State) → Held s → ¬ ((coded_begin s).0.refusal ≡ 0) → coded_begin s ≡ (refused_begun (coded_begin s).0.refusal, s)
-hands-back-begin = Coded.hands-back-begin
+hands_back_begin = Coded.hands_back_begin
 
-pub hands-back-probe :
+pub hands_back_probe :
     (s : State) → Held s → ¬ ((coded_probe s).0.refusal ≡ 0) → coded_probe s ≡ (refused_answer (coded_probe s).0.refusal, s)
-hands-back-probe = Coded.hands-back-probe
+hands_back_probe = Coded.hands_back_probe
 
-pub hands-back-step :
+pub hands_back_step :
     (s : State) → Held s → ¬ ((coded_step s).0.refusal ≡ 0) → coded_step s ≡ (refused_answer (coded_step s).0.refusal, s)
-hands-back-step = Coded.hands-back-step
+hands_back_step = Coded.hands_back_step
 
 -- an answer in the code's sorts says all that the engine's answer says, and so do the totals; that to a begin, of as many stations as the state has
 pub answer_read : (s : State) → answer_of (answer_form (coded_step s).0) ≡ (coded_step s).0
@@ -122,33 +122,33 @@ step_both = Coded.step_both
 -- ---- a stretch, from any state: single calls, one after the other. `Called s c` has the calls of the course c from s, with what they
 -- hand back and reply.
 
-pub stretch-called :
+pub stretch_called :
     (calls : ℕ) (s : State) (arrivals : List Timed) (more : Bool) (left : ℕ) → Called s (course calls s arrivals more left)
-stretch-called = SingleCalls.called
+stretch_called = SingleCalls.called
 
 -- from a state that calls have reached it comes to a state that calls reach, and what it reports is what is replied to them
-pub stretch-reached :
+pub stretch_reached :
     (r : Request) (calls : List Call) (n : ℕ) (arrivals : List Timed) (more : Bool) (left : ℕ)
     → (later : List Call)
     × ((course n (reach coded r calls) arrivals more left).state ≡ reach coded r (calls ++ later))
     × (map reply_of (course n (reach coded r calls) arrivals more left).reports ≡ replies coded (reach coded r calls) later)
-stretch-reached = SingleCalls.still-reached
+stretch_reached = SingleCalls.still_reached
 
 -- from a state that stands it comes to a state that stands
-pub stretch-stands :
+pub stretch_stands :
     (calls : ℕ) (s : State) (arrivals : List Timed) (more : Bool) (left : ℕ) → standing s ≡ true
     → standing (course calls s arrivals more left).state ≡ true
-stretch-stands = SingleCalls.still_stands
+stretch_stands = SingleCalls.still_stands
 
 -- any other state it hands back as lent, and each of its calls is refused with 1
-pub stretch-refused :
+pub stretch_refused :
     (calls : ℕ) (s : State) (arrivals : List Timed) (more : Bool) (left : ℕ) → Held s → standing s ≡ false
     → ((course calls s arrivals more left).state ≡ s)
     × All (λ r. refusal_in (reply_of r) ≡ 1) (course calls s arrivals more left).reports
-stretch-refused = SingleCalls.stays-refused
+stretch_refused = SingleCalls.stays_refused
 
 -- where no arrival comes it is that many steps
-pub stretch-steps :
+pub stretch_steps :
     (calls steps : ℕ) (s : State) → steps ≤ calls
     → course calls s [] false steps ≡ record { reports = step_reports steps s; taken = 0; left = 0; state = after_steps steps s }
-stretch-steps = SingleCalls.steps-alone
+stretch_steps = SingleCalls.steps_alone

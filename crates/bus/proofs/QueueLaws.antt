@@ -27,10 +27,10 @@ abbrev pub made : List Packet → ℕ → Queue
 made packets n = record { packets = packets; length = n }
 
 -- one packet more takes the first free place
-pub form-joined :
+pub form_joined :
     (q : Queue) (ps : List Packet) (p : Packet) → q ≡ queue_form ps → length ps < 16
     → made (set q.packets q.length p) (q.length + 1) ≡ queue_form (ps ++ (p ∷ []))
-form-joined q ps p e h =
+form_joined q ps p e h =
     let rest = replicate (16 - length (ps ++ (p ∷ []))) no_packet in
     let n = length-append ps (p ∷ []) in
     let free : 16 - length ps ≡ suc (16 - length (ps ++ (p ∷ []))) = omega arith in
@@ -47,10 +47,10 @@ keep_append f (p ∷ ps) qs = go (f p) (keep_append f ps qs)
     go false e = e
 
 -- those kept of one place more
-pub kept-one :
+pub kept_one :
     (f : Packet → Bool) (ps : List Packet) (j : ℕ) → j < length ps
     → keep f (take (j + 1) ps) ≡ keep f (take j ps) ++ kept (f (get_or ps j no_packet)) (get_or ps j no_packet) []
-kept-one f ps j h = rw (add-one, take-suc ps j no_packet h) (keep_append f (take j ps) (get_or ps j no_packet ∷ []))
+kept_one f ps j h = rw (add-one, take-suc ps j no_packet h) (keep_append f (take j ps) (get_or ps j no_packet ∷ []))
 
 -- no more are kept than were there
 pub kept_length : (f : Packet → Bool) (ps : List Packet) → length (keep f ps) ≤ length ps
@@ -125,20 +125,20 @@ module _ (qs : Queues) (i : ℕ) (queue : Queue) (here : i < 64) (row : length q
       ∙ ap (take 16) (drop-drop (16 * j - length both) (16 * i + 16) qs.packets ∙ ap (λ k. drop k qs.packets) there)
 
 -- The row keeps its lengths.
-pub with-queue-lengths :
+pub with_queue_lengths :
     (qs : Queues) (i : ℕ) (queue : Queue) → i < 64 → length qs.lengths ≡ 64 → length qs.packets ≡ 1024 → length queue.packets ≡ 16
     → (length (with_queue qs i queue).lengths ≡ 64) × (length (with_queue qs i queue).packets ≡ 1024)
-with-queue-lengths qs i queue here counts row full =
+with_queue_lengths qs i queue here counts row full =
     let both = take (16 * i) qs.packets ++ queue.packets in
     let n = front_and_queue qs i queue here row full in
     let m = length-drop (16 * i + 16) qs.packets in
     (length-set qs.lengths i queue.length ∙ counts, omega (arith, length-append both (drop (16 * i + 16) qs.packets)))
 
 -- Station j's queue after station i's is put back.
-pub queue-of-with :
+pub queue_of_with :
     (qs : Queues) (i j : ℕ) (queue : Queue) → i < 64 → j < 64 → length qs.lengths ≡ 64 → length qs.packets ≡ 1024
     → length queue.packets ≡ 16 → queue_of (with_queue qs i queue) j ≡ cond (eqb j i) queue (queue_of qs j)
-queue-of-with qs i j queue h k ls ps full = go (eqb j i) refl
+queue_of_with qs i j queue h k ls ps full = go (eqb j i) refl
   where
     elsewhere : (j ≡ i → ⊥) → (t : Bool) → ltb j i ≡ t → places_at (with_queue qs i queue) j ≡ places_at qs j
     elsewhere other true e = places_before qs i queue h ps full j (ltb-true j i e)
@@ -167,9 +167,9 @@ form_padded ps h =
     let free = replicate (16 - length ps) no_packet in
     true-and (le-leb (length ps) 16 h) (ap (each_of has_no_packet) (drop-append_seam ps free) ∙ no_packets (16 - length ps))
 
-pub padded-form-of :
+pub padded_form_of :
     (queue : Queue) → length queue.packets ≡ 16 → queue_padded queue.length queue.packets ≡ true → queue ≡ queue_form (packets_of queue)
-padded-form-of queue full e =
+padded_form_of queue full e =
     let free = drop queue.length queue.packets in
     let a = and-true (leb queue.length 16) (each_of has_no_packet free) e in
     let within : queue.length ≤ length queue.packets = omega (arith, leb-true queue.length 16 a.0) in

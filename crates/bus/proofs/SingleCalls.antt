@@ -20,18 +20,18 @@ use Rattle.bus.specs.Types.{State, Arrival}
 use Rattle.state.specs.State.{Held, standing}
 use Rattle.bus.specs.Coded.{coded_admit, coded_step, coded}
 use Rattle.bus.specs.Stretch.{Course, asks, due, arrival_report, rests, after, step_then, course, step_reports, after_steps, reply_of, refusal_in, Called}
-use Rattle.bus.proofs.Coded.{hands-back-admission, hands-back-begin, hands-back-probe, hands-back-step, standing_exactly_admission, standing_exactly_begin, standing_exactly_probe, standing_exactly_step, next_stands, answer_read}
+use Rattle.bus.proofs.Coded.{hands_back_admission, hands_back_begin, hands_back_probe, hands_back_step, standing_exactly_admission, standing_exactly_begin, standing_exactly_probe, standing_exactly_step, next_stands, answer_read}
 
 -- ---- where no arrival comes, a stretch is that many steps, one after the other
 
-pub steps-alone :
+pub steps_alone :
     (calls steps : ℕ) (s : State) → steps ≤ calls
     → course calls s [] false steps ≡ record { reports = step_reports steps s; taken = 0; left = 0; state = after_steps steps s }
 unfolding course
-steps-alone zero zero s h = refl
-steps-alone zero (suc steps) s h = absurd (omega arith)
-steps-alone (suc calls) zero s h = refl
-steps-alone (suc calls) (suc steps) s h = ap (step_then s) (steps-alone calls steps (coded_step s).1 (omega arith))
+steps_alone zero zero s h = refl
+steps_alone zero (suc steps) s h = absurd (omega arith)
+steps_alone (suc calls) zero s h = refl
+steps_alone (suc calls) (suc steps) s h = ap (step_then s) (steps_alone calls steps (coded_step s).1 (omega arith))
 
 -- ---- a stretch is single calls, one after the other, and its reports are what they reply
 
@@ -43,10 +43,10 @@ by_step s c x =
       replied = ap₂ (λ (r : Reply) (rs : List Reply). r ∷ rs) (ap probed (answer_read s)) x.replied;
     }
 
-by-arrival :
+by_arrival :
     (s : State) (a : Arrival) (c : Course) → Called (coded_admit s (asks a)).1 c
     → Called s (after (arrival_report s a (coded_admit s (asks a)).0 ∷ []) 1 c)
-by-arrival s a c x =
+by_arrival s a c x =
     record {
       calls = admission (asks a) ∷ x.calls;
       state = x.state;
@@ -83,16 +83,16 @@ called (suc calls) s (a ∷ arrivals) more (suc left) =
         1
         (course calls (coded_admit s (asks a)).1 arrivals more (suc left)))
         (step_then s (course calls (coded_step s).1 (a ∷ arrivals) more left)))
-    go true x y = by-arrival s a (course calls (coded_admit s (asks a)).1 arrivals more (suc left)) x
+    go true x y = by_arrival s a (course calls (coded_admit s (asks a)).1 arrivals more (suc left)) x
     go false x y = by_step s (course calls (coded_step s).1 (a ∷ arrivals) more left) y
 
 -- a stretch from a state that calls have reached comes to a state that calls reach
-pub still-reached :
+pub still_reached :
     (r : Request) (calls : List Call) (n : ℕ) (arrivals : List Arrival) (more : Bool) (left : ℕ)
     → (later : List Call)
     × ((course n (reach coded r calls) arrivals more left).state ≡ reach coded r (calls ++ later))
     × (map reply_of (course n (reach coded r calls) arrivals more left).reports ≡ replies coded (reach coded r calls) later)
-still-reached r calls n arrivals more left =
+still_reached r calls n arrivals more left =
     let x = called n (reach coded r calls) arrivals more left in
     (x.calls, x.state ∙ sym (after_more coded (coded.set_up r).1 calls x.calls), x.replied)
 
@@ -127,10 +127,10 @@ accepted_stands s c z = go (standing s) refl
 module _ (s : State) (held : Held s) (e : standing s ≡ false) where
   pub next_same : (c : Call) → Engine.next coded s c ≡ s
   next_same (admission a) =
-      ap (λ (o : Admitted × State). o.1) (hands-back-admission s held a (not_accepted (reply_refused s e (admission a))) (one_turns_none (reply_refused s e (admission a))))
-  next_same one-begin = ap (λ (o : Begun × State). o.1) (hands-back-begin s held (not_accepted (reply_refused s e one-begin)))
-  next_same one-probe = ap (λ (o : Answer × State). o.1) (hands-back-probe s held (not_accepted (reply_refused s e one-probe)))
-  next_same one-step = ap (λ (o : Answer × State). o.1) (hands-back-step s held (not_accepted (reply_refused s e one-step)))
+      ap (λ (o : Admitted × State). o.1) (hands_back_admission s held a (not_accepted (reply_refused s e (admission a))) (one_turns_none (reply_refused s e (admission a))))
+  next_same one-begin = ap (λ (o : Begun × State). o.1) (hands_back_begin s held (not_accepted (reply_refused s e one-begin)))
+  next_same one-probe = ap (λ (o : Answer × State). o.1) (hands_back_probe s held (not_accepted (reply_refused s e one-probe)))
+  next_same one-step = ap (λ (o : Answer × State). o.1) (hands_back_step s held (not_accepted (reply_refused s e one-step)))
 
   after_same : (calls : List Call) → Engine.after coded s calls ≡ s
   after_same [] = refl
@@ -147,11 +147,11 @@ module _ (calls : ℕ) (s : State) (arrivals : List Arrival) (more : Bool) (left
   pub still_stands : standing s ≡ true → standing (course calls s arrivals more left).state ≡ true
   still_stands e = let x = called calls s arrivals more left in ap standing x.state ∙ after_stands s x.calls e
 
-  pub stays-refused :
+  pub stays_refused :
       Held s → standing s ≡ false
       → ((course calls s arrivals more left).state ≡ s)
       × All (λ r. refusal_in (reply_of r) ≡ 1) (course calls s arrivals more left).reports
-  stays-refused held e =
+  stays_refused held e =
       let x = called calls s arrivals more left in
       let refused = subst (All (λ r. refusal_in r ≡ 1)) (sym x.replied) (all_refused s held e x.calls) in (
         x.state ∙ after_same s held e x.calls,

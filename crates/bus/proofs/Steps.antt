@@ -18,20 +18,20 @@ use Rattle.bus.specs.Types.{State}
 use Rattle.state.specs.State.{Held, tie_of, meaning, form, padded, standing}
 use Rattle.bus.specs.Coded.{on_meaning, coded_step, step_result}
 use Rattle.state.proofs.Form.{form_meaning, parts_padded, Fits, standing_fits, meaning_form}
-use Rattle.bus.proofs.Coded.{coded_step_form, hands-back-step, step_bears, standing_exactly_step}
+use Rattle.bus.proofs.Coded.{coded_step_form, hands_back_step, step_bears, standing_exactly_step}
 use Rattle.state.proofs.Stands.{Lent, lent_held}
 use Rattle.bus.proofs.ProbedSlot.{open_of}
 
 -- ---- a refused step gives its number, and the state as lent
 
-handed-back :
+is_handed_back :
     (s : State) → Held s → (refusal : ℕ) → (coded_step s).0.refusal ≡ refusal → ¬ (refusal ≡ 0)
     → step_result (refused_answer refusal, s) ≡ step_result (coded_step s)
-handed-back s held refusal e given =
-    sym (ap step_result (hands-back-step s held (λ z. given (sym e ∙ z))) ∙ ap (λ n. step_result (refused_answer n, s)) e)
+is_handed_back s held refusal e given =
+    sym (ap step_result (hands_back_step s held (λ z. given (sym e ∙ z))) ∙ ap (λ n. step_result (refused_answer n, s)) e)
 
 pub gives_1 : (s : State) → Held s → standing s ≡ false → step_result (refused_answer 1, s) ≡ step_result (coded_step s)
-gives_1 s held e = handed-back s held 1 ((standing_exactly_step s).1 e) (λ z. omega arith)
+gives_1 s held e = is_handed_back s held 1 ((standing_exactly_step s).1 e) (λ z. omega arith)
 
 -- the bus that is probed, by whether a contention is under way
 abbrev opened_from : State → Bool → Open
@@ -52,7 +52,7 @@ module _ (s : State) (r : Lent s) where
 
   pub gives_17 : ltb last_slot s.segment.clock.0 ≡ true → step_result (refused_answer 17, s) ≡ step_result (coded_step s)
   gives_17 late! =
-      handed-back
+      is_handed_back
       s
       r.held
       17
@@ -98,4 +98,4 @@ step_of_paper s held = go (standing s) refl
         of_rules s r ∙ sym (ap result (parts_padded s r.zeros))
     go false e =
         let one = (standing_exactly_step s).1 e in
-        hands-back-step s held (λ z. omega (arith, z, one)) ∙ ap (λ n. (refused_answer n, s)) one ∙ refused (padded s) refl e
+        hands_back_step s held (λ z. omega (arith, z, one)) ∙ ap (λ n. (refused_answer n, s)) one ∙ refused (padded s) refl e

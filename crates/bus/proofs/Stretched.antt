@@ -24,9 +24,9 @@ after_none : (c : Course) → c ≡ after [] 0 c
 after_none c =
     ap (λ (taken : ℕ). record { reports = c.reports; taken = taken; left = c.left; state = c.state }) (sym (zero-add c.taken))
 
-after-after :
+after_after :
     (rs os : List Report) (n m : ℕ) (c : Course) → after rs n (after os m c) ≡ after (rs ++ os) (n + m) c
-after-after rs os n m c =
+after_after rs os n m c =
     let many : n + (m + c.taken) ≡ n + m + c.taken = omega arith in
     ap₂ (λ (reports : List Report) (taken : ℕ). record { reports = reports; taken = taken; left = c.left; state = c.state })
     (sym (append_assoc rs os c.reports))
@@ -40,11 +40,11 @@ pub record So-far (s : State) (arrivals : List Arrival) (more : Bool) (steps : �
   pub goes : course most_calls s arrivals more steps ≡ after said taken (course (most_calls - made) state (drop taken arrivals) more left)
 
 -- the same, of equal things
-pub so-far-of :
+pub so_far_of :
     {s : State} {arrivals : List Arrival} {more : Bool} {steps : ℕ} {state state' : State} {reports reports' : List Report} {made taken taken' left left' : ℕ}
     → state' ≡ state → reports' ≡ reports → taken' ≡ taken → left' ≡ left → So-far s arrivals more steps state reports made taken left
     → So-far s arrivals more steps state' reports' made taken' left'
-so-far-of {s} {arrivals} {more} {steps} {state} {state'} {reports} {reports'} {made} {taken} {taken'} {left} {left'} a b c d x =
+so_far_of {s} {arrivals} {more} {steps} {state} {state'} {reports} {reports'} {made} {taken} {taken'} {left} {left'} a b c d x =
     record {
       said = x.said;
       filled = b ∙ x.filled;
@@ -65,11 +65,11 @@ none_due more state (a ∷ later) = due state.segment.clock.0 a ≡ false
 
 module _ (s : State) (arrivals : List Arrival) (more : Bool) (steps : ℕ) where
   -- one report more in the row
-  row-fills :
+  row_fills :
       (said : List Report) (reports : List Report) (made : ℕ) (r : Report) → reports ≡ said ++ replicate (most_calls - made) no_report
       → length said ≡ made → made < most_calls
       → set reports made r ≡ (said ++ (r ∷ [])) ++ replicate (most_calls - (made + 1)) no_report
-  row-fills said reports made r e n l =
+  row_fills said reports made r e n l =
       let rest = most_calls - (made + 1) in
       let free : most_calls - made ≡ suc rest = omega arith in
       ap (λ (row : List Report). set row made r) (e ∙ ap (λ (k : ℕ). said ++ replicate k no_report) free)
@@ -94,17 +94,17 @@ module _ (s : State) (arrivals : List Arrival) (more : Bool) (steps : ℕ) where
       e
 
   -- where none comes, and there are no more
-  goes-alone :
+  goes_alone :
       (calls : ℕ) (state : State) (left : ℕ) → more ≡ false
       → course (suc calls) state [] more (suc left) ≡ step_then state (course calls (coded_step state).1 [] more left)
   unfolding course
-  goes-alone calls state left e =
+  goes_alone calls state left e =
       ap (λ (t : Bool). cond t (rests state (suc left)) (step_then state (course calls (coded_step state).1 [] more left))) e
 
   steps_on :
       (calls : ℕ) (state : State) (coming : List Arrival) (left : ℕ) → none_due more state coming
       → course (suc calls) state coming more (suc left) ≡ step_then state (course calls (coded_step state).1 coming more left)
-  steps_on calls state [] left e = goes-alone calls state left e
+  steps_on calls state [] left e = goes_alone calls state left e
   steps_on calls state (a ∷ later) left e = goes_by calls state a later left e
 
   -- the calls and the steps that are left, one of each taken off
@@ -128,18 +128,18 @@ module _ (s : State) (arrivals : List Arrival) (more : Bool) (steps : ℕ) where
         let c = course (most_calls - (made + 1)) next (drop (taken + n) arrivals) more left' in
         record {
           said = x.said ++ (r ∷ []);
-          filled = row-fills x.said reports made r x.filled x.many m;
+          filled = row_fills x.said reports made r x.filled x.many m;
           many = length-append x.said (r ∷ []) ∙ ap (λ (k : ℕ). k + 1) x.many;
-          goes = x.goes ∙ ap (after x.said taken) e ∙ after-after x.said (r ∷ []) taken n c;
+          goes = x.goes ∙ ap (after x.said taken) e ∙ after_after x.said (r ∷ []) taken n c;
         }
 
     -- an arrival is taken
-    pub one-arrival :
+    pub one_arrival :
         taken < length arrivals → due state.segment.clock.0 (get_or arrivals taken no_arrival) ≡ true → (r : Report) (next : State)
         → r ≡ arrival_report state (get_or arrivals taken no_arrival) (coded_admit state (asks (get_or arrivals taken no_arrival))).0
         → next ≡ (coded_admit state (asks (get_or arrivals taken no_arrival))).1
         → So-far s arrivals more steps next (set reports made r) (made + 1) (taken + 1) left
-    one-arrival t e r next f g =
+    one_arrival t e r next f g =
         let rest = most_calls - (made + 1) in
         let a = get_or arrivals taken no_arrival in
         let later = drop (suc taken) arrivals in
@@ -158,7 +158,7 @@ module _ (s : State) (arrivals : List Arrival) (more : Bool) (steps : ℕ) where
         → next ≡ (coded_step state).1 → So-far s arrivals more steps next (set reports made r) (made + 1) taken (left - 1)
     one-step e r next f g =
         let rest = most_calls - (made + 1) in
-        so-far-of refl refl (sym (add-zero taken)) refl
+        so_far_of refl refl (sym (add-zero taken)) refl
         (told r next 0 (left - 1)
         (opened state (drop taken arrivals) made left m l
         ∙ steps_on rest state (drop taken arrivals) (left - 1) e
@@ -166,10 +166,10 @@ module _ (s : State) (arrivals : List Arrival) (more : Bool) (steps : ℕ) where
         (ap₂ (λ (o : State) (k : ℕ). course rest o (drop k arrivals) more (left - 1)) (sym g) (sym (add-zero taken)))))
 
   -- the course of a stretch that does not go on
-  no-calls :
+  no_calls :
       (state : State) (calls left : ℕ) (os : List Arrival) → calls ≡ 0 → course calls state os more left ≡ rests state left
   unfolding course
-  no-calls state calls left os e = ap (λ (k : ℕ). course k state os more left) e
+  no_calls state calls left os e = ap (λ (k : ℕ). course k state os more left) e
 
   no_steps :
       (state : State) (calls left : ℕ) (os : List Arrival) → left ≡ 0 → course calls state os more left ≡ rests state left
@@ -177,12 +177,12 @@ module _ (s : State) (arrivals : List Arrival) (more : Bool) (steps : ℕ) where
   no_steps state zero left os e = refl
   no_steps state (suc calls) left os e = ap (course (suc calls) state os more) e ∙ ap (rests state) (sym e)
 
-  no-arrivals :
+  no_arrivals :
       (state : State) (calls left : ℕ) (os : List Arrival) → os ≡ [] → more ≡ true → course calls state os more left ≡ rests state left
   unfolding course
-  no-arrivals state zero left os e f = refl
-  no-arrivals state (suc calls) zero os e f = refl
-  no-arrivals state (suc calls) (suc left) os e f = ap₂ (λ (o : List Arrival) (t : Bool). course (suc calls) state o t (suc left)) e f
+  no_arrivals state zero left os e f = refl
+  no_arrivals state (suc calls) zero os e f = refl
+  no_arrivals state (suc calls) (suc left) os e f = ap₂ (λ (o : List Arrival) (t : Bool). course (suc calls) state o t (suc left)) e f
 
   stops :
       (state : State) (made taken left : ℕ) → length arrivals ≤ 64 → (64 ≤ taken → more ≡ true)
@@ -192,10 +192,10 @@ module _ (s : State) (arrivals : List Arrival) (more : Bool) (steps : ℕ) where
       ⊎_elim
       (λ f.
       ⊎_elim
-      (λ g. let h = ltb-false made 512 g in no-calls state (most_calls - made) left (drop taken arrivals) (omega arith))
+      (λ g. let h = ltb-false made 512 g in no_calls state (most_calls - made) left (drop taken arrivals) (omega arith))
       (λ g.
       let h = ltb-false taken 64 g in
-      no-arrivals state (most_calls - made) left (drop taken arrivals) (drop_of_length-le arrivals {i = taken} (omega arith)) (full h))
+      no_arrivals state (most_calls - made) left (drop taken arrivals) (drop_of_length-le arrivals {i = taken} (omega arith)) (full h))
       (and-false (ltb made 512) (ltb taken 64) f))
       (λ f. let h = ltb-false 0 left f in no_steps state (most_calls - made) left (drop taken arrivals) (omega arith))
       (and-false (ltb made 512 && ltb taken 64) (ltb 0 left) e)
@@ -246,11 +246,11 @@ module _ (x : Arrivals) (places : length x.row ≡ 64) where
   row_full taken h k = le-leb 64 x.length (omega (arith, length-take x.length x.row))
 
   -- no arrival is due where the row has been used up and was not full, or its next one is not due
-  pub row-waits :
+  pub row_waits :
       (state : State) (taken : ℕ) → taken < 64
       → (ltb taken x.length && due state.segment.clock.0 (get_or x.row taken no_arrival)) ≡ false
       → none_due (may_be_more x) state (drop taken (in_row x))
-  row-waits state taken h e = go (ltb taken x.length) refl
+  row_waits state taken h e = go (ltb taken x.length) refl
     where
       go : (there : Bool) → ltb taken x.length ≡ there → none_due (may_be_more x) state (drop taken (in_row x))
       go true f =
@@ -268,9 +268,9 @@ module _ (x : Arrivals) (places : length x.row ≡ 64) where
           (sym (drop_of_length-le (in_row x) {i = taken} (omega (arith, length-take x.length x.row))))
           (lt-leb 64 x.length (omega arith))
 
-  pub row-due :
+  pub row_due :
       (taken : ℕ) (now! : Bool) → taken < 64 → (ltb taken x.length && now!) ≡ true → taken < length (in_row x)
-  row-due taken now! t e = row_there taken (ltb-true taken x.length (and-true (ltb taken x.length) now! e).0) t
+  row_due taken now! t e = row_there taken (ltb-true taken x.length (and-true (ltb taken x.length) now! e).0) t
 
   -- one turn of a loop: an arrival is taken, or a step is made
   module _ (s : State) (steps : ℕ) (state : State) (reports : List Report) (made taken left : ℕ)
@@ -286,7 +286,7 @@ module _ (x : Arrivals) (places : length x.row ≡ 64) where
         let now! = and-true (ltb taken x.length) (due state.segment.clock.0 coming) e in
         let there = ltb-true taken x.length now!.0 in
         let is = row_at taken there in
-        one-arrival s (in_row x) (may_be_more x) steps state reports made taken left y m l (row_there taken there t)
+        one_arrival s (in_row x) (may_be_more x) steps state reports made taken left y m l (row_there taken there t)
         (ap (due state.segment.clock.0) is ∙ now!.1)
         r
         admission.state
@@ -295,12 +295,12 @@ module _ (x : Arrivals) (places : length x.row ≡ 64) where
         ∙ ap (λ (o : Arrival). arrival_report state o (coded_admit state (asks o)).0) (sym is))
         (ap (λ (o : Admission). o.state) f ∙ ap (λ (o : Arrival). (coded_admit state (asks o)).1) (sym is))
 
-    pub stepped-on :
+    pub stepped_on :
         (ltb taken x.length && due state.segment.clock.0 coming) ≡ false → (stepped : Stepped)
         → stepped ≡ step_result (coded_step state) → (r : Report) → r ≡ step_report state stepped.answer
         → So-far s (in_row x) (may_be_more x) steps stepped.state (set reports made r) (made + 1) taken (left - 1)
-    stepped-on e stepped f r g =
-        one-step s (in_row x) (may_be_more x) steps state reports made taken left y m l (row-waits state taken t e)
+    stepped_on e stepped f r g =
+        one-step s (in_row x) (may_be_more x) steps state reports made taken left y m l (row_waits state taken t e)
         r
         stepped.state
         (g ∙ ap (λ (o : Stepped). step_report state o.answer) f)

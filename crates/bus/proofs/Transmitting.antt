@@ -106,10 +106,10 @@ module _ (discipline : ℕ) (clock : Slot) (contenders : ℕ) (values : List ℕ
         (λ i l. ap (λ (t : Bool). t && (lies i && timely i)) (ap (λ (w : ℕ). bit_at w i) e ∙ bit_none i))
         ∙ word_none 64)
 
-    pub untied-transmit :
+    pub untied_transmit :
         {able lying : ℕ} → contention.tied ≡ false → able ≡ word_of able_at 64
         → lying ≡ word_of (parameter_in contention.window) 64 → bit_and able lying ≡ all
-    untied-transmit t a b =
+    untied_transmit t a b =
         ap₂ bit_and a b ∙ both_of able_at (parameter_in contention.window) 64
         ∙ word_same (λ i. able_at i && parameter_in contention.window i) _ 64
         (λ i l.
@@ -124,10 +124,10 @@ module _ (discipline : ℕ) (clock : Slot) (contenders : ℕ) (values : List ℕ
         order true l w = and_comm l w
         order false l w = refl
 
-    pub tied-transmit :
+    pub tied_transmit :
         {able same lying : ℕ} → contention.tied ≡ true → able ≡ word_of able_at 64
         → same ≡ word_of (parameter_in only) 64 → lying ≡ word_of address_in 64 → bit_and (bit_and able same) lying ≡ all
-    tied-transmit t a b c =
+    tied_transmit t a b c =
         (λ j. bit_and (bit_and (a j) (b j)) (c j))
         ∙ ap (λ (w : ℕ). bit_and w (word_of address_in 64)) (both_of able_at (parameter_in only) 64)
         ∙ both_of (λ i. able_at i && parameter_in only i) address_in 64

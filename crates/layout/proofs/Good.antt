@@ -19,8 +19,8 @@ use Rattle.words.specs.Words.{lines_of}
 use Rattle.layout.specs.Layout.{in_stations, after_run, place_fault, Plan, start, request_in, Taken, take_line}
 use Rattle.layout.specs.Layout.{Saying, wrong, says, ended, read_lines, layout_says}
 use Rattle.layout.proofs.Order.{all_count, all_each, all_order}
-use Rattle.packing.proofs.Promises.{written-size}
-use Rattle.layout.proofs.Steps.{size_with, Manned, Step, by_nothing, by_bus, by-station, by-arrivals, by_run, line_is_taken}
+use Rattle.packing.proofs.Promises.{written_size}
+use Rattle.layout.proofs.Steps.{size_with, Manned, Step, by_nothing, by_bus, by_station, by_arrivals, by_run, line_is_taken}
 
 -- what a plan is held to. Before the bus it has no stations, before the arrivals none of them, and from then on a station.
 record Sound (p : Plan) : Type 0 where
@@ -77,7 +77,7 @@ step_sound p line after s (by_bus g e z n q) =
       short = omega (arith, s.short, s.first z);
       steps = s.steps;
     })
-step_sound p line after s (by-station a e z l v q) =
+step_sound p line after s (by_station a e z l v q) =
     subst
     Sound
     (sym e)
@@ -93,7 +93,7 @@ step_sound p line after s (by-station a e z l v q) =
       short = omega (arith, s.early (omega arith));
       steps = s.steps;
     })
-step_sound p line after s (by-arrivals more e m f l q) =
+step_sound p line after s (by_arrivals more e m f l q) =
     subst
     Sound
     (sym e)
@@ -144,7 +144,7 @@ ended_fine line p s = go (eqb p.stage after_run) refl
           fit = s.fit;
           order = s.order;
           few = s.steps;
-          short = omega (arith, written-size (request_in p) p.arrivals p.steps, s.stations, s.short);
+          short = omega (arith, written_size (request_in p) p.arrivals p.steps, s.stations, s.short);
         }
     go false e = tt
 

@@ -16,7 +16,7 @@ use Rattle.text.specs.Text.{bytes}
 use Rattle.words.specs.Words.{same, first_word, after_word, word_span, number_of, number_form}
 use Rattle.words.specs.declared.Span.{Span}
 use Rattle.words.specs.declared.Number.{Number}
-use Rattle.words.proofs.Spans.{span_ends, span_within, span-word, span_after}
+use Rattle.words.proofs.Spans.{span_ends, span_within, span_word, span_after}
 use Rattle.layout.specs.declared.Label.{Label}
 use Rattle.layout.specs.Layout.{label_table, label_bytes, labels_table, labels_of, Fields, field_in, fields_in, faulty, with_value, wordless, word_missing, goes_on}
 use Rattle.layout.specs.declared.fields.Field.{Field}
@@ -88,7 +88,7 @@ spanned line at s e h =
     (record {
       ordered = span_ends line at;
       within = span_within line at h;
-      word = span-word line at;
+      word = span_word line at;
       after = span_after line at;
       empty = empty_word (word_span line at).from (first_word (drop at line));
     })
@@ -214,16 +214,16 @@ module _ (codes rest values left : List ℕ) (i : ℕ) (f : Found codes rest val
   word_next = drop-cons codes i 0 h
 
   -- the next word says so much
-  pub found-said :
+  pub found_said :
       (x : Field) (next : List ℕ) → ((later : List ℕ) → fields_in (get_or codes i 0 ∷ later) left ≡ field_said x (fields_in later next))
       → fields_in codes rest ≡ before f.numbers (field_said x (fields_in (drop (suc i) codes) next))
-  found-said x next said = f.said ∙ ap (before f.numbers) (ap (λ cs. fields_in cs left) word_next ∙ said (drop (suc i) codes))
+  found_said x next said = f.said ∙ ap (before f.numbers) (ap (λ cs. fields_in cs left) word_next ∙ said (drop (suc i) codes))
 
   -- and with its number one more is found
-  pub found-more :
+  pub found_more :
       (x : Field) (next : List ℕ) → ((later : List ℕ) → fields_in (get_or codes i 0 ∷ later) left ≡ field_said x (fields_in later next))
       → x.fault ≡ 0 → length codes ≤ 6 → Found codes rest (set values i x.value) next (suc i)
-  found-more x next said fine few =
+  found_more x next said fine few =
       record {
         numbers = f.numbers ++ (x.value ∷ []);
         counted = length-append f.numbers (x.value ∷ []) ∙ ap (λ n. n + 1) f.counted ∙ add-one i;
@@ -232,7 +232,7 @@ module _ (codes rest values left : List ℕ) (i : ℕ) (f : Found codes rest val
             ∙ ap (λ j. set (padded f.numbers) j x.value) (sym f.counted)
             ∙ padded_next f.numbers x.value (omega (arith, f.counted));
         said =
-            found-said x next said
+            found_said x next said
             ∙ ap (λ t. before f.numbers (cond t (with_value x.value (fields_in (drop (suc i) codes) next)) (faulty x.fault))) (eq-eqb x.fault 0 fine)
             ∙ more f.numbers x.value (fields_in (drop (suc i) codes) next);
       }
@@ -241,10 +241,10 @@ module _ (codes rest values left : List ℕ) (i : ℕ) (f : Found codes rest val
       more numbers n y = ap (λ vs. record { fault = y.fault; values = vs }) (sym (append_assoc numbers (n ∷ []) y.values))
 
 -- past the last word comes the end of the line
-pub found-end :
+pub found_end :
     (codes rest values left : List ℕ) (i : ℕ) (f : Found codes rest values left i) (t : Bool) → length codes ≤ i → wordless left ≡ t
     → fields_in codes rest ≡ before f.numbers (cond t (faulty 0) (faulty goes_on))
-found-end codes rest values left i f t h e =
+found_end codes rest values left i f t h e =
     f.said
     ∙ ap (λ cs. before f.numbers (fields_in cs left)) (drop_of_length-le codes h)
     ∙ ap (λ t. before f.numbers (cond t (faulty 0) (faulty goes_on))) e

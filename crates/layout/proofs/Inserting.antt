@@ -37,17 +37,17 @@ onward false held left = inserted held left
 abbrev pub no_arrival : Arrival
 no_arrival = arrival_of 0 0 0 0
 
-onward-stays :
+onward_stays :
     (moved : Bool) (held x : Arrival) (left : List Arrival) → (moved || ltb held.time.0 x.time.0) ≡ false
     → onward moved held (x ∷ left) ≡ x ∷ onward moved held left
-onward-stays true held x left e = absurd (true≢false e)
-onward-stays false held x left e = rw e
+onward_stays true held x left e = absurd (true≢false e)
+onward_stays false held x left e = rw e
 
-onward-moves :
+onward_moves :
     (moved : Bool) (held x : Arrival) (left : List Arrival) → (moved || ltb held.time.0 x.time.0) ≡ true
     → onward moved held (x ∷ left) ≡ held ∷ x ∷ left
-onward-moves true held x left e = refl
-onward-moves false held x left e = rw e
+onward_moves true held x left e = refl
+onward_moves false held x left e = rw e
 
 onward_last : (moved : Bool) (held : Arrival) → onward moved held [] ≡ held ∷ []
 onward_last true held = refl
@@ -70,13 +70,13 @@ module _ (n : ℕ) (rows : List Arrival) (held : Arrival) (moved : Bool) (i : �
 
     pub standing_stays : (moved || ltb held.time.0 x.time.0) ≡ false → standing n rows held moved i ≡ standing n rows held moved (i + 1)
     standing_stays e =
-        turn ∙ ap (λ xs. take i rows ++ xs) (onward-stays moved held x left e) ∙ sym (append_snoc (take i rows) x (onward moved held left))
+        turn ∙ ap (λ xs. take i rows ++ xs) (onward_stays moved held x left e) ∙ sym (append_snoc (take i rows) x (onward moved held left))
         ∙ ap (λ xs. xs ++ onward moved held left) (sym (take-suc rows i no_arrival (omega arith)) ∙ ap (λ k. take k rows) (sym (add-one i)))
 
-    pub standing-moves :
+    pub standing_moves :
         (moved || ltb held.time.0 x.time.0) ≡ true → standing n rows held moved i ≡ standing n (set rows i held) x true (i + 1)
-    standing-moves e =
-        turn ∙ ap (λ xs. take i rows ++ xs) (onward-moves moved held x left e) ∙ sym (append_snoc (take i rows) held (x ∷ left))
+    standing_moves e =
+        turn ∙ ap (λ xs. take i rows ++ xs) (onward_moves moved held x left e) ∙ sym (append_snoc (take i rows) held (x ∷ left))
         ∙ ap₂
         (λ xs ys. xs ++ x ∷ ys)
         (sym (take-suc-set rows i held (omega arith)) ∙ ap (λ k. take k (set rows i held)) (sym (add-one i)))
@@ -110,10 +110,10 @@ abbrev pub arrival_at : ℕ → ℕ → ℕ → ℕ → ℕ → Arrival
 arrival_at discipline address value long time = arrival_of time address (value_at discipline value time) long
 
 -- one of them inserted: those after it are left
-pub every-turn :
+pub every_turn :
     (n time every : ℕ) (at : ℕ → Arrival) (xs : List Arrival) {ys : List Arrival} {a : Arrival} → a ≡ at time → ys ≡ inserted a xs
     → inserted_all (repeated (suc n) time every at) xs ≡ inserted_all (repeated n (time + every) every at) ys
-every-turn n time every at xs same e = ap (inserted_all (repeated n (time + every) every at)) (ap (λ a. inserted a xs) (sym same) ∙ sym e)
+every_turn n time every at xs same e = ap (inserted_all (repeated n (time + every) every at)) (ap (λ a. inserted a xs) (sym same) ∙ sym e)
 
 -- one less left
 pub one_less : (n every : ℕ) → 0 < n → n * every ≡ (n - 1) * every + every

@@ -38,9 +38,9 @@ module _ (n kind : ℕ) where
   pub later_here : (is_arrival kind || eqb kind run_line) ≡ true → (t : Bool) → eqb n 0 ≡ t → cond t 6 0 ≡ stations_place n kind
   later_here e t f = ap₂ (λ u t. cond u (cond t 6 0) (cond (eqb kind station_line) 0 (cond t has_no_station no_record))) (sym e) (sym f)
 
-  pub other-here :
+  pub other_here :
       (is_arrival kind || eqb kind run_line) ≡ false → (s t : Bool) → eqb kind station_line ≡ s → eqb n 0 ≡ t
       → cond s 0 (cond t has_no_station no_record) ≡ stations_place n kind
-  other-here e s t f g =
+  other_here e s t f g =
       ap₂ (λ s t. cond s 0 (cond t has_no_station no_record)) (sym f) (sym g)
       ∙ ap (λ u. cond u (cond (eqb n 0) 6 0) (cond (eqb kind station_line) 0 (cond (eqb n 0) has_no_station no_record))) (sym e)

@@ -19,14 +19,14 @@ use Rattle.state.specs.declared.Arrival.{Arrival}
 use Rattle.state.specs.declared.Listed.{Listed}
 use Rattle.state.specs.declared.Settings.{Settings}
 use Rattle.state.specs.SetUp.{asked_of, request_with}
-use Rattle.rules.proofs.Tests.{none-held, equal, below, ◌then◌}
+use Rattle.rules.proofs.Tests.{none_held, equal, below, ◌then◌}
 use Rattle.scenario.specs.Reading.{most_bytes, set_up_bytes, station_bytes, arrival_bytes, run_bytes}
 use Rattle.words.specs.Words.{first_word, after_word}
 use Rattle.layout.specs.declared.plan.Plan as Coded
 use Rattle.layout.specs.Layout.{Plan, Taken, taken, counted, Fields, settings_said, bus_fault, with_bus, take_bus, with_station, request_in, take_station, in_stations, in_arrivals, value_fits, too_long, inserted_all, with_arrivals, later, value_at, arrivals_tests, take_said}
 use Rattle.layout.specs.Layout.{kind_of, bus_line, labels_of, discipline_named, fields_in, wordless, place_fault, take_fields, take_kind, take_line}
 use Rattle.layout.specs.Parts.{padded, plan_of, PlanFits}
-use Rattle.layout.proofs.Steps.{size_with, arrival-tried}
+use Rattle.layout.proofs.Steps.{size_with, arrival_tried}
 use Rattle.layout.proofs.InLine.{padded_get_d}
 use Rattle.layout.specs.contracts.plan.Plan as coded
 
@@ -50,10 +50,10 @@ taken_fine fault p q h = ap (λ f. taken f p q) (sym h)
 -- ---- a station more
 
 -- it comes after those before it
-pub asked-more :
+pub asked_more :
     (stations : List Listed) (n : ℕ) (l : Listed) → n < length stations
     → map asked_of (take (n + 1) (set stations n l)) ≡ map asked_of (take n stations) ++ (asked_of l ∷ [])
-asked-more stations n l h =
+asked_more stations n l h =
     ap (λ k. map asked_of (take k (set stations n l))) (add-one n)
     ∙ ap (map asked_of) (take-suc-set stations n l h)
     ∙ map-append asked_of (take n stations) (l ∷ [])
@@ -66,30 +66,30 @@ module _ (p : Plan) (s : Asked) where
       (λ t. taken (cond t 6 (set_up_verdict (request_in (with_station p s))).refusal) p (with_station p s))
       (sym (le-leb most_stations p.settings.n h))
 
-  pub station-tried :
+  pub station_tried :
       (fault : ℕ) → p.settings.n < most_stations → fault ≡ (set_up_verdict (request_in (with_station p s))).refusal
       → taken fault p (with_station p s) ≡ take_station p s
-  station-tried fault h e =
+  station_tried fault h e =
       ap₂ (λ t f. taken (cond t 6 f) p (with_station p s)) (sym (lt-leb most_stations p.settings.n h)) e
 
 -- what the code sets up is what is asked for with it
-pub station-asked :
+pub station_asked :
     (p : Coded.Plan) (l : Listed) → p.settings.n < length p.stations
     → request_with (counted (p.settings.n + 1) p.settings) (map asked_of (take (p.settings.n + 1) (set p.stations p.settings.n l)))
     ≡ request_in (with_station (plan_of p) (asked_of l))
-station-asked p l h =
-    ap₂ (λ k row. request_with (counted k p.settings) row) (add-one p.settings.n) (asked-more p.stations p.settings.n l h)
+station_asked p l h =
+    ap₂ (λ k row. request_with (counted k p.settings) row) (add-one p.settings.n) (asked_more p.stations p.settings.n l h)
 
 -- the plan with it
-pub station-planned :
+pub station_planned :
     (p : Coded.Plan) (l : Listed) → p.settings.n < length p.stations
     → plan_of (record { stage = p.stage; settings = counted (p.settings.n + 1) p.settings; stations = set p.stations p.settings.n l; arrivals = p.arrivals; count = p.count; steps = p.steps })
     ≡ with_station (plan_of p) (asked_of l)
-station-planned p l h =
+station_planned p l h =
     ap₂
     (λ k row. record { stage = p.stage; settings = counted k p.settings; asked = row; arrivals = take p.count p.arrivals; steps = p.steps })
     (add-one p.settings.n)
-    (asked-more p.stations p.settings.n l h)
+    (asked_more p.stations p.settings.n l h)
 
 -- ---- the bus
 
@@ -115,10 +115,10 @@ module _ (p : Plan) (discipline : ℕ) (x : Fields) where
       (sym (ne_eqb x.fault 0 (λ z. f (e ∙ z))))
       ∙ named h
 
-  pub bus-said :
+  pub bus_said :
       (discipline ≡ 3 → ⊥) → x.fault ≡ 0
       → taken (bus_fault (settings_said discipline x.values)) p (with_bus p (settings_said discipline x.values)) ≡ take_bus p discipline x
-  bus-said h e =
+  bus_said h e =
       ap
       (λ t. cond t (taken (bus_fault (settings_said discipline x.values)) p (with_bus p (settings_said discipline x.values))) (taken x.fault p p))
       (sym (eq-eqb x.fault 0 e))
@@ -128,10 +128,10 @@ module _ (p : Plan) (discipline : ℕ) (x : Fields) where
 pub value_said : (values vs : List ℕ) (i : ℕ) → values ≡ padded vs → get_or values i 0 ≡ get_or vs i 0
 value_said values vs i e = ap (λ xs. get_or xs i 0) e ∙ padded_get_d vs (6 - length vs) i
 
-pub settings-said :
+pub settings_are_said :
     (discipline named : ℕ) (values vs : List ℕ) → discipline ≡ named → values ≡ padded vs
     → record { discipline = discipline; d = get_or values 0 0; a = get_or values 1 0; q = get_or values 2 0; n = 0 } ≡ settings_said named vs
-settings-said discipline named values vs e f = ap₂ settings_here e f ∙ same
+settings_are_said discipline named values vs e f = ap₂ settings_here e f ∙ same
   where
     settings_here : ℕ → List ℕ → Settings
     settings_here discipline values = record { discipline = discipline; d = get_or values 0 0; a = get_or values 1 0; q = get_or values 2 0; n = 0 }
@@ -139,11 +139,11 @@ settings-said discipline named values vs e f = ap₂ settings_here e f ∙ same
     same : settings_here named (padded vs) ≡ settings_said named vs
     same = simp (value_said (padded vs) vs 0 refl, value_said (padded vs) vs 1 refl, value_said (padded vs) vs 2 refl)
 
-pub bus-planned :
+pub bus_planned :
     (p : Coded.Plan) (g h : Settings) → p.settings.n ≡ 0 → g.n ≡ 0 → g ≡ h
     → plan_of (record { stage = in_stations; settings = g; stations = p.stations; arrivals = p.arrivals; count = p.count; steps = p.steps })
     ≡ with_bus (plan_of p) h
-bus-planned p g h e f same =
+bus_planned p g h e f same =
     ap₂
     (λ (g : Settings) k. record { stage = in_stations; settings = g; asked = map asked_of (take k p.stations); arrivals = take p.count p.arrivals; steps = p.steps })
     same
@@ -153,22 +153,22 @@ bus-planned p g h e f same =
 
 -- what the code's tests say of a plan with these settings and so many arrivals
 module _ (p : Plan) where
-  pub value-tried :
+  pub value_tried :
       (g : Settings) (value : ℕ) {r t : Bool} → p.settings ≡ g → r ≡ value_is_fit (discipline_of g.discipline) g.d value → not r ≡ t
       → not (value_fits p value) ≡ t
-  value-tried g value e f h =
+  value_tried g value e f h =
       ap (λ (g : Settings). not (value_is_fit (discipline_of g.discipline) g.d value)) e ∙ ap not (sym f) ∙ h
 
-  pub long-counted :
+  pub long_counted :
       (n count more : ℕ) {r t : Bool} → p.settings.n ≡ n → length p.arrivals ≡ count
       → r ≡ ltb most_bytes (set_up_bytes + station_bytes * n + arrival_bytes * (count + more) + run_bytes) → r ≡ t → too_long p more ≡ t
-  long-counted n count more e f h r =
+  long_counted n count more e f h r =
       ap₂ (λ n k. ltb most_bytes (set_up_bytes + station_bytes * n + arrival_bytes * (k + more) + run_bytes)) e f ∙ sym h ∙ r
 
   pub long_tried :
       (g : Settings) (count more : ℕ) {r t : Bool} → p.settings ≡ g → length p.arrivals ≡ count
       → r ≡ ltb most_bytes (set_up_bytes + station_bytes * g.n + arrival_bytes * (count + more) + run_bytes) → r ≡ t → too_long p more ≡ t
-  long_tried g count more e f h r = long-counted g.n count more (ap (λ (g : Settings). g.n) e) f h r
+  long_tried g count more e f h r = long_counted g.n count more (ap (λ (g : Settings). g.n) e) f h r
 
 pub length_tried : (long : ℕ) {r t : Bool} → r ≡ length_fits long → not r ≡ t → not (length_fits long) ≡ t
 length_tried long e h = ap not (sym e) ∙ h
@@ -182,21 +182,21 @@ pub arrivals_counted : (p : Coded.Plan) → PlanFits p → length p.arrivals ≡
 arrivals_counted p fits e = length-take-le p.count p.arrivals (omega (arith, fits.short))
 
 -- the plan with more of them
-pub arrivals-planned :
+pub arrivals_planned :
     (p q : Coded.Plan) (rows more : List Arrival) (count : ℕ)
     → q ≡ record { stage = in_arrivals; settings = p.settings; stations = p.stations; arrivals = rows; count = count; steps = p.steps }
     → take count rows ≡ inserted_all more (take p.count p.arrivals) → plan_of q ≡ with_arrivals (plan_of p) more
-arrivals-planned p q rows more count e h =
+arrivals_planned p q rows more count e h =
     ap plan_of e
     ∙ ap
     (λ xs. record { stage = in_arrivals; settings = p.settings; asked = map asked_of (take p.settings.n p.stations); arrivals = xs; steps = p.steps })
     h
 
 -- where it is not too long, it fits
-pub arrivals-fit :
+pub arrivals_fit :
     (p q : Coded.Plan) (more : ℕ) → PlanFits p → length p.arrivals ≡ 4096 → q.settings ≡ p.settings → q.count ≡ p.count + more
     → q.stage ≡ in_arrivals → ¬ (most_bytes < size_with (plan_of p) more) → PlanFits q
-arrivals-fit p q more fits long e f g h =
+arrivals_fit p q more fits long e f g h =
     let n : q.settings.n ≡ p.settings.n = ap (λ (s : Settings). s.n) e in
     let k = arrivals_counted p fits long in
     record {
@@ -219,10 +219,10 @@ pub repeats :
 repeats p every from to address value long e =
     let largest = value_at p.settings.discipline value (from + later every from to * every) in
     let none =
-    none-held
+    none_held
     0
     (λ v. v)
-    (equal every 0 then below to from then arrival-tried p address largest long (suc (later every from to)))
+    (equal every 0 then below to from then arrival_tried p address largest long (suc (later every from to)))
     refl
     e in
     record {
@@ -288,9 +288,9 @@ module _ (p : Plan) (line : List ℕ) where
   some_word : wordless line ≡ false → cond (eqb misplaced 0) by_kind (taken misplaced p p) ≡ take_line p line
   some_word e = ap (λ t. cond t (taken 0 p p) (cond (eqb misplaced 0) by_kind (taken misplaced p p))) (sym e)
 
-  pub line-misplaced :
+  pub line_misplaced :
       (fault : ℕ) → wordless line ≡ false → fault ≡ misplaced → (fault ≡ 0 → ⊥) → record { fault = fault; plan = p } ≡ take_line p line
-  line-misplaced fault e f h =
+  line_misplaced fault e f h =
       taken_faulty fault p p h
       ∙ ap (λ n. taken n p p) f
       ∙ ap (λ t. cond t by_kind (taken misplaced p p)) (sym (ne_eqb misplaced 0 (λ z. h (f ∙ z))))

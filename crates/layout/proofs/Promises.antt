@@ -8,7 +8,7 @@ use Rattle.rules.specs.SetUp.{Request}
 use Rattle.state.specs.declared.Arrival.{Arrival}
 use Rattle.scenario.specs.Reading.{accepted, reading}
 use Rattle.scenario.specs.Writing.{InOrder, written, Good}
-use Rattle.scenario.proofs.Promises.{accepted-if}
+use Rattle.scenario.proofs.Promises.{accepted_if}
 use Rattle.words.specs.Words.{lines_of}
 use Rattle.text.proofs.Promises.{stored_kept}
 use Rattle.layout.specs.Layout.{Saying, wrong, says, layout_says}
@@ -29,7 +29,7 @@ module _ (text : List ℕ) (r : Request) (arrivals : List Arrival) (steps : ℕ)
 
   -- whose bytes are accepted as that scenario
   pub never_refused : reading (written r arrivals steps) ≡ accepted r arrivals steps
-  never_refused = accepted-if r arrivals steps good
+  never_refused = accepted_if r arrivals steps good
 
   -- its arrivals come in order of time, and those of one time are those of its lines, in the order of these;
   pub in_order : InOrder 0 arrivals
@@ -43,9 +43,9 @@ module _ (text : List ℕ) (r : Request) (arrivals : List Arrival) (steps : ℕ)
   no_others xs o h = Order.all_there 0 0 xs arrivals o in_order (λ t. h t ∙ sym (same_at_time t))
 
 -- a text that is wrong names one of its lines, and a fault
-pub wrong-named :
+pub wrong_named :
     (text : List ℕ) (line fault : ℕ) → layout_says text ≡ wrong line fault → (1 ≤ line) × (line ≤ length (lines_of text)) × (1 ≤ fault)
-wrong-named = Wrong.wrong-named
+wrong_named = Wrong.wrong_named
 
 -- the room stays as long as it is
 pub room_kept : (s : Saying) (room : List ℕ) → length (room_after s room) ≡ length room

@@ -15,7 +15,7 @@ use Rattle.rules.specs.SetUp.{Asked, set_up_verdict, discipline_of}
 use Rattle.rules.specs.Standing.{value_is_fit}
 use Rattle.rules.specs.Conditions.{Outside}
 use Rattle.rules.proofs.Laws.{clash, all_cons, all_nil}
-use Rattle.rules.proofs.Tests.{Whether, holds, fails, stable, negated, negated_twice, below, equal, out_of, inside, Tried, done, ◌then◌, none-held}
+use Rattle.rules.proofs.Tests.{Whether, holds, fails, stable, negated, negated_twice, below, equal, out_of, inside, Tried, done, ◌then◌, none_held}
 use Rattle.state.specs.declared.Arrival.{Arrival}
 use Rattle.state.specs.declared.Settings.{Settings}
 use Rattle.scenario.specs.Reading.{most_bytes, set_up_bytes, station_bytes, arrival_bytes, run_bytes}
@@ -75,9 +75,9 @@ abbrev arrival_conditions : Plan → ℕ → ℕ → ℕ → ℕ → List (ℕ �
 arrival_conditions p address value long more =
     (306, 65_535 < address) ∷ (12, ¬ (value_fits p value ≡ true)) ∷ (13, Outside 1 longest_packet long) ∷ (22, most_bytes < size_with p more) ∷ []
 
-pub arrival-tried :
+pub arrival_tried :
     (p : Plan) (address value long more : ℕ) → Tried (arrival_tests p address value long more) (arrival_conditions p address value long more)
-arrival-tried p address value long more =
+arrival_tried p address value long more =
     below 65_535 address
     then negated (itself (value_fits p value))
     then negated_twice (out_of 1 longest_packet long)
@@ -85,28 +85,28 @@ arrival-tried p address value long more =
     then done
 
 -- an arrival with such an address, value and length fits
-arrival-fits :
+arrival_fits :
     (time address value long : ℕ) → Small time → Small value → ¬ (65_535 < address) → ¬ (65_535 < long)
     → ArrivalFits (arrival_of time address value long)
-arrival-fits time address value long t v a l = record { time = t; address = omega arith; value = v; length = omega arith }
+arrival_fits time address value long t v a l = record { time = t; address = omega arith; value = v; length = omega arith }
 
 -- repeated arrivals are as many as are to be, and each is the one of a time up to the last
 repeated_count : (n time every : ℕ) (at : ℕ → Arrival) → length (repeated n time every at) ≡ n
 repeated_count zero time every at = refl
 repeated_count (suc n) time every at = ap suc (repeated_count n (time + every) every at)
 
-repeated-each :
+repeated_each :
     (P : Arrival → Type 0) (last n time every : ℕ) (at : ℕ → Arrival) → ((t : ℕ) → t ≤ last → P (at t)) → time + n * every ≤ last + every
     → All P (repeated n time every at)
-repeated-each P last zero time every at h k = all_nil P
-repeated-each P last (suc n) time every at h k =
-    all_cons (at time) (h time (omega arith)) (repeated-each P last n (time + every) every at h (omega arith))
+repeated_each P last zero time every at h k = all_nil P
+repeated_each P last (suc n) time every at h k =
+    all_cons (at time) (h time (omega arith)) (repeated_each P last n (time + every) every at h (omega arith))
 
 -- where the last one's value fits, the values of those before it are small
-value-small :
+value_small :
     (p : Plan) (value last time : ℕ) → Small value → value_fits p (value_at p.settings.discipline value last) ≡ true → time ≤ last
     → Small (value_at p.settings.discipline value time)
-value-small p value last time v f h = go (equal d 1) f
+value_small p value last time v f h = go (equal d 1) f
   where
     d : ℕ
     d = p.settings.discipline
@@ -151,9 +151,9 @@ pub record Manned (p : Plan) : Type 0 where
   pub begun : 1 ≤ p.stage
   pub station : p.stage ≡ in_stations → 1 ≤ p.settings.n
 
-pub later-place :
+pub later_place :
     (p : Plan) (kind : ℕ) → place_fault p.stage p.settings.n kind ≡ 0 → eqb kind bus_line ≡ false → eqb kind station_line ≡ false → Manned p
-later-place p kind e b s =
+later_place p kind e b s =
     go
     (equal p.stage 0)
     (equal p.stage 1)
@@ -185,10 +185,10 @@ Silent line = (d : ℕ) → arrivals_of d line ≡ []
 pub data Step (p : Plan) (line : List ℕ) (after : Plan) : Type 0 where
   by_nothing : after ≡ p → Silent line → Step p line after
   by_bus : (g : Settings) → after ≡ with_bus p g → p.stage ≡ before_bus → g.n ≡ 0 → Silent line → Step p line after
-  by-station :
+  by_station :
       (s : Asked) → after ≡ with_station p s → p.stage ≡ in_stations → p.settings.n < most_stations
       → (set_up_verdict (request_in (with_station p s))).refusal ≡ 0 → Silent line → Step p line after
-  by-arrivals :
+  by_arrivals :
       (more : List Arrival) → after ≡ with_arrivals p more → Manned p → All ArrivalFits more → size_with p (length more) ≤ most_bytes
       → arrivals_of p.settings.discipline line ≡ more → Step p line after
   by_run : (steps : ℕ) → after ≡ with_run p steps → Manned p → steps < 65_536 → Silent line → Step p line after
@@ -271,7 +271,7 @@ module _ (p : Plan) (line : List ℕ) where
       go : (t : Bool) → leb most_stations p.settings.n ≡ t → cond t 6 v ≡ 0 → Step p line (with_station p s)
       go true l f = absurd (omega arith)
       go false l f =
-          by-station
+          by_station
           s
           refl
           (station_place p.stage p.settings.n (placed station_line k e))
@@ -284,29 +284,29 @@ module _ (p : Plan) (line : List ℕ) where
     abbrev one : Arrival
     one = arrival_of (n 0) (n 1) (n 2) (n 3)
 
-    take-one :
+    take_one :
         ¬ (65_535 < n 1) → ¬ (65_535 < n 3) → ¬ (most_bytes < size_with p 1) → arrivals_of d line ≡ one ∷ [] → Step p line (with_arrivals p (one ∷ []))
-    take-one a l s q =
-        by-arrivals
+    take_one a l s q =
+        by_arrivals
         (one ∷ [])
         refl
         m
-        (all_cons one (arrival-fits (n 0) (n 1) (n 2) (n 3) (small 0) (small 2) a l) (all_nil ArrivalFits))
+        (all_cons one (arrival_fits (n 0) (n 1) (n 2) (n 3) (small 0) (small 2) a l) (all_nil ArrivalFits))
         (omega arith)
         q
 
     arrival_taken : kind ≡ arrival_line → Goes (take_arrival p (n 0) (n 1) (n 2) (n 3))
     arrival_taken k =
         goes _ p _ λ f.
-        let none = none-held 0 (λ v. v) (arrival-tried p (n 1) (n 2) (n 3) 1) refl f in
+        let none = none_held 0 (λ v. v) (arrival_tried p (n 1) (n 2) (n 3) 1) refl f in
         let long = (inside none.1.1.0).1 in
-        take-one none.0 (omega arith) none.1.1.1.0 (said arrival_line k)
+        take_one none.0 (omega arith) none.1.1.1.0 (said arrival_line k)
 
     attempt_taken : kind ≡ attempt_line → Goes (take_attempt p (n 0) (n 1) (n 2) (n 3))
     attempt_taken k =
         goes _ p _ λ f.
-        let none = none-held 0 (λ v. v) (below 65_535 (n 1) then below 65_535 (n 3) then below most_bytes (size_with p 1) then done) refl f in
-        take-one none.0 none.1.0 none.1.1.0 (said attempt_line k)
+        let none = none_held 0 (λ v. v) (below 65_535 (n 1) then below 65_535 (n 3) then below most_bytes (size_with p 1) then done) refl f in
+        take_one none.0 none.1.0 none.1.1.0 (said attempt_line k)
 
     -- repeated ones
     arrivals_taken : kind ≡ arrivals_line → Goes (take_arrivals p (n 0) (n 1) (n 2) (n 3) (n 4) (n 5))
@@ -316,15 +316,15 @@ module _ (p : Plan) (line : List ℕ) where
         let last : ℕ = n 1 + more * n 0 in
         let at : ℕ → Arrival = λ time. arrival_of time (n 3) (value_at d (n 4) time) (n 5) in
         let none =
-        none-held 0 (λ v. v) (equal (n 0) 0 then below (n 2) (n 1) then arrival-tried p (n 3) (value_at d (n 4) last) (n 5) (suc more)) refl f in
+        none_held 0 (λ v. v) (equal (n 0) 0 then below (n 2) (n 1) then arrival_tried p (n 3) (value_at d (n 4) last) (n 5) (suc more)) refl f in
         let long = (inside none.1.1.1.1.0).1 in
         let within : last ≤ n 2 = omega (arith, div-mul-le_self (n 2 - n 1) (n 0), none.1.0) in
         let value = stable (itself (value_fits p (value_at d (n 4) last))) none.1.1.1.0 in
-        by-arrivals
+        by_arrivals
         _
         refl
         m
-        (repeated-each
+        (repeated_each
         ArrivalFits
         last
         (suc more)
@@ -332,13 +332,13 @@ module _ (p : Plan) (line : List ℕ) where
         (n 0)
         at
         (λ t h.
-        arrival-fits
+        arrival_fits
         t
         (n 3)
         (value_at d (n 4) t)
         (n 5)
         (omega (arith, small 2))
-        (value-small p (n 4) last t (small 4) value h)
+        (value_small p (n 4) last t (small 4) value h)
         none.1.1.0
         (omega arith))
         (omega arith))
@@ -355,7 +355,7 @@ module _ (p : Plan) (line : List ℕ) where
   said_taken : eqb kind bus_line ≡ false → place ≡ 0 → Goes (take_said p kind fields.values)
   said_taken b e =
       by_verdict Goes (eqb kind station_line) (λ k. station_taken (eqb-true kind station_line k) e _) λ s.
-      let m = later-place p kind e b s in
+      let m = later_place p kind e b s in
       by_verdict Goes (eqb kind arrival_line) (λ k. arrival_taken m (eqb-true kind arrival_line k)) λ x.
       by_verdict Goes (eqb kind arrivals_line) (λ k. arrivals_taken m (eqb-true kind arrivals_line k)) λ y.
       by_verdict Goes (eqb kind attempt_line) (λ k. attempt_taken m (eqb-true kind attempt_line k)) λ z.

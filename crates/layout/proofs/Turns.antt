@@ -38,15 +38,15 @@ lines-first text at end h e = go (ltb end (length text)) refl
     go false f = ([], lines_end text at end h e (ltb-false end (length text) f))
 
 -- what has been read with a fault says it
-pub saying-wrong :
+pub saying_wrong :
     (fault line : ℕ) (p : Coded.Plan) → (fault ≡ 0 → ⊥)
     → cond (eqb fault 0) (says (request_in (plan_of p)) (plan_of p).arrivals p.steps) (wrong line fault) ≡ wrong line fault
-saying-wrong fault line p h =
+saying_wrong fault line p h =
     ap (λ t. cond t (says (request_in (plan_of p)) (plan_of p).arrivals p.steps) (wrong line fault)) (ne_eqb fault 0 h)
 
-pub saying-right :
+pub saying_right :
     (fault line : ℕ) (p : Coded.Plan) → fault ≡ 0
     → cond (eqb fault 0) (says (request_in (plan_of p)) (plan_of p).arrivals p.steps) (wrong line fault)
     ≡ says (request_in (plan_of p)) (plan_of p).arrivals p.steps
-saying-right fault line p h =
+saying_right fault line p h =
     ap (λ t. cond t (says (request_in (plan_of p)) (plan_of p).arrivals p.steps) (wrong line fault)) (eq-eqb fault 0 h)

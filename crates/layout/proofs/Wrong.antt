@@ -66,7 +66,7 @@ lines_named line p (text ∷ rest) = go (eqb x.fault 0) refl (lines_named (suc l
     go false e more = let z : x.fault ≡ 0 → ⊥ = eqb-false x.fault 0 e in (omega arith, λ h. omega arith, omega arith, omega arith)
 
 -- A layout that is wrong names one of its lines, and a fault.
-pub wrong-named :
+pub wrong_named :
     (text : List ℕ) (line fault : ℕ) → layout_says text ≡ wrong line fault → (1 ≤ line) × (line ≤ length (lines_of text)) × (1 ≤ fault)
-wrong-named text line fault e =
+wrong_named text line fault e =
     let told = subst (Named 0 (lines_of text)) e (lines_named 0 start (lines_of text)) in (told.1 (some_line text), omega (arith, told.2), told.3)

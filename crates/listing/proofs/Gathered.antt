@@ -15,18 +15,18 @@ use Rattle.scenario.specs.declared.Record.TheVariants as Is
 use Rattle.scenario.specs.Format.{Said, read_record, said}
 use Rattle.scenario.specs.Reading.{arrival_bytes, arrival_from}
 use Rattle.scenario.specs.Parts.{ArrivalsAt}
-use Rattle.scenario.proofs.Arrivals.{arrivals-here, arrivals_none}
+use Rattle.scenario.proofs.Arrivals.{arrivals_here, arrivals_none}
 use Rattle.scenario.proofs.ReadingLaws.{arrival_within}
 use Rattle.listing.specs.Turns.{arrivals_in, next_arrivals, arrivals_form}
 
 -- the bytes of arrivals that were found are within the input
-pub bytes-within :
+pub bytes_within :
     (most : ℕ) (input : List ℕ) (at taken : ℕ) → 0 < taken → taken ≤ length (arrivals_in most input at)
     → at + arrival_bytes * taken ≤ length input
 unfolding arrivals_in
-bytes-within zero input at taken some few = absurd (omega arith)
-bytes-within (suc most) input at zero some few = absurd (omega arith)
-bytes-within (suc most) input at (suc taken) some few = go (eqb x.kind 3) refl few (bytes-within most input (at + 16) taken)
+bytes_within zero input at taken some few = absurd (omega arith)
+bytes_within (suc most) input at zero some few = absurd (omega arith)
+bytes_within (suc most) input at (suc taken) some few = go (eqb x.kind 3) refl few (bytes_within most input (at + 16) taken)
   where
     x : Said
     x = read_record (drop at input)
@@ -54,10 +54,10 @@ pub record Found (input : List ℕ) (at most : ℕ) (found arrivals : List Arriv
   pub past : (taken : ℕ) → taken ≤ length found → ArrivalsAt input (at + arrival_bytes * taken) (drop taken arrivals)
 
 -- of none
-here-still :
+here_still :
     (input : List ℕ) (at taken : ℕ) (arrivals : List Arrival) → ArrivalsAt input at arrivals → taken ≤ 0
     → ArrivalsAt input (at + arrival_bytes * taken) (drop taken arrivals)
-here-still input at taken arrivals here few =
+here_still input at taken arrivals here few =
     let none : taken ≡ 0 = omega arith in
     let same : at + 16 * taken ≡ at = omega arith in
     subst (λ (n : ℕ). ArrivalsAt input n (drop taken arrivals)) (sym same)
@@ -68,7 +68,7 @@ pub found_here :
     → Found input at most (arrivals_in most input at) arrivals
 unfolding arrivals_in
 found_here zero input at arrivals here =
-    record { others = arrivals; are = refl; all = λ h. absurd (omega arith); past = λ taken few. here-still input at taken arrivals here few }
+    record { others = arrivals; are = refl; all = λ h. absurd (omega arith); past = λ taken few. here_still input at taken arrivals here few }
 found_here (suc most) input at arrivals here = go (eqb x.kind 3) refl (found_here most input (at + 16))
   where
     x : Said
@@ -90,7 +90,7 @@ found_here (suc most) input at arrivals here = go (eqb x.kind 3) refl (found_her
     }
       where
         past : (taken : ℕ) → taken ≤ suc (length later) → ArrivalsAt input (at + 16 * taken) (drop taken arrivals)
-        past zero few = here-still input at 0 arrivals here (omega arith)
+        past zero few = here_still input at 0 arrivals here (omega arith)
         past (suc taken) few =
             let same : at + 16 + 16 * taken ≡ at + 16 * suc taken = omega arith in
             subst (λ (n : ℕ). ArrivalsAt input n (drop (suc taken) arrivals)) same
@@ -101,12 +101,12 @@ found_here (suc most) input at arrivals here = go (eqb x.kind 3) refl (found_her
         → ((os : List Arrival) → ArrivalsAt input (at + 16) os → Found input (at + 16) most later os)
         → Found input at (suc most) (cond t (a ∷ later) []) arrivals
     go true kind more =
-        let first = arrivals-here here (eqb-true x.kind 3 kind) in one_more first.0 first.1 (more first.0 first.2)
+        let first = arrivals_here here (eqb-true x.kind 3 kind) in one_more first.0 first.1 (more first.0 first.2)
     go false kind more = record {
       others = [];
       are = arrivals_none here (eqb-false x.kind 3 kind);
       all = λ h. refl;
-      past = λ taken few. here-still input at taken arrivals here few;
+      past = λ taken few. here_still input at taken arrivals here few;
     }
 
 -- no more are found than were looked for

@@ -30,8 +30,8 @@ use Rattle.listing.specs.Text.{refused_text}
 use Rattle.listing.specs.Run.{closing_text, run_text, listing_of, listing}
 use Rattle.listing.specs.Turns.{Play, Outcome, says, over, opened_by, opened, next_arrivals, reports_text, course_of, stretched}
 use Rattle.listing.specs.Turns.{closed_by, turn, handed, turns_left, played}
-use Rattle.listing.proofs.Gathered.{bytes-within, Found, found_here}
-use Rattle.listing.proofs.Played.{bounds_of, course-moves, Runs, course-runs}
+use Rattle.listing.proofs.Gathered.{bytes_within, Found, found_here}
+use Rattle.listing.proofs.Played.{bounds_of, course_moves, Runs, course_runs}
 
 -- ---- the turns that are left
 
@@ -64,28 +64,28 @@ module _ (input : List ℕ) (p : Play) (steps : ℕ) (still : p.steps ≡ suc st
       (course most_calls p.state found (leb row_places (length found)) n).left
       < suc steps + (course most_calls p.state found (leb row_places (length found)) n).taken)
       (sym still)
-      (course-moves 511 p.state found (leb row_places (length found)) steps none_more)
+      (course_moves 511 p.state found (leb row_places (length found)) steps none_more)
 
   -- and so fewer turns are left
   pub fewer : left + (length input - (p.at + arrival_bytes * taken)) < suc steps + (length input - p.at)
-  fewer = by-taken taken takes leaves moves
+  fewer = by_taken taken takes leaves moves
     where
-      by-taken :
+      by_taken :
           (n : ℕ) → n ≤ length found → left ≤ suc steps → left < suc steps + n
           → left + (length input - (p.at + arrival_bytes * n)) < suc steps + (length input - p.at)
-      by-taken zero few most moved = omega arith
-      by-taken (suc n) few most moved = let within = bytes-within row_places input p.at (suc n) (omega arith) few in omega arith
+      by_taken zero few most moved = omega arith
+      by_taken (suc n) few most moved = let within = bytes_within row_places input p.at (suc n) (omega arith) few in omega arith
 
 -- each turn of a run that goes on takes one of them at least, whatever the play
 pub falls : (input : List ℕ) (p : Play) → p.going ≡ true → turns_left input (turn input p).play < turns_left input p
-falls input p e = simp e (by-steps p.steps refl)
+falls input p e = simp e (by_steps p.steps refl)
   where
-    by-steps :
+    by_steps :
         (n : ℕ) → p.steps ≡ n
         → turns_left input (cond (eqb p.steps 0) (closed_by p.state (totals_of p.state)) (stretched input p)).play
         < suc (p.steps + (length input - p.at))
-    by-steps zero k = simp (eq-eqb p.steps 0 k) (omega arith)
-    by-steps (suc n) k = simp (ne_eqb p.steps 0 (λ z. omega arith)) (omega (arith, fewer input p n k))
+    by_steps zero k = simp (eq-eqb p.steps 0 k) (omega arith)
+    by_steps (suc n) k = simp (ne_eqb p.steps 0 (λ z. omega arith)) (omega (arith, fewer input p n k))
 
 -- a play whose turns are used up does not go on
 used_up : (input : List ℕ) (p : Play) → turns_left input p ≤ 0 → p.going ≡ false
@@ -109,9 +109,9 @@ over_at_last_any input p (suc turns) h = over_at_last_any input (turn input p).p
     fewer false e = rw (stays input p e) (rw e (omega arith))
 
 -- and so is the run of a scenario
-pub over-at-last :
+pub over_at_last :
     (input : List ℕ) (turns : ℕ) → turns_left input (opened input).play ≤ turns → (played turns input (opened input).play).going ≡ false
-over-at-last input = over_at_last_any input (opened input).play
+over_at_last input = over_at_last_any input (opened input).play
 
 -- ---- the play of a run
 
@@ -150,7 +150,7 @@ module _ (input : List ℕ) where
     pub stretch_runs : Runs b arrivals steps stretch
     stretch_runs =
         subst (λ (os : List Arrival). Runs b os steps stretch) (sym first.are)
-        (course-runs most_calls b h (next_arrivals input at) first.others (leb row_places (length (next_arrivals input at))) steps
+        (course_runs most_calls b h (next_arrivals input at) first.others (leb row_places (length (next_arrivals input at))) steps
         (λ e. first.all (leb-false row_places (length (next_arrivals input at)) e)))
 
     pub stretch_past : ArrivalsAt input (at + arrival_bytes * stretch.taken) (drop stretch.taken arrivals)
@@ -163,11 +163,11 @@ module _ (input : List ℕ) where
       → steps + (length input - at) ≤ turns → handed turns input (turn input (playing b at steps)) ≡ run_text steps b arrivals
 
   -- one turn more, of a run that has steps yet: a stretch of it
-  one-turn :
+  one_turn :
       (turns : ℕ) → Rest turns → (b : Bus) (at steps : ℕ) (arrivals : List Arrival) → Standing b → ArrivalsAt input at arrivals
       → suc steps + (length input - at) ≤ suc turns
       → handed (suc turns) input (turn input (playing b at (suc steps))) ≡ run_text (suc steps) b arrivals
-  one-turn turns more b at steps arrivals h here enough =
+  one_turn turns more b at steps arrivals h here enough =
       ap
       (λ t. handed (suc turns) input (cond t (closed_by (form b) (totals_of (form b))) (stretched input p)))
       (ne_eqb (suc steps) 0 (λ z. omega arith))
@@ -203,23 +203,23 @@ module _ (input : List ℕ) where
   rest zero b at zero arrivals h here enough = last_turn zero b at h
   rest zero b at (suc steps) arrivals h here enough = absurd (omega arith)
   rest (suc turns) b at zero arrivals h here enough = last_turn (suc turns) b at h
-  rest (suc turns) b at (suc steps) arrivals h here enough = one-turn turns (rest turns) b at steps arrivals h here enough
+  rest (suc turns) b at (suc steps) arrivals h here enough = one_turn turns (rest turns) b at steps arrivals h here enough
 
 -- ---- the whole
 
 -- what is handed out of an accepted scenario
-accepted-out :
+accepted_out :
     (input : List ℕ) (r : Request) (arrivals : List Arrival) (steps turns : ℕ) → Sound input (accepted r arrivals steps)
     → suc (steps + (length input - station_offset r.N)) ≤ turns
     → handed turns input (says [] (playing (set_up r).1 (station_offset r.N) steps)) ≡ run_text steps (set_up r).1 arrivals
-accepted-out input r arrivals steps zero fine h = absurd (omega arith)
-accepted-out input r arrivals steps (suc turns) fine h =
+accepted_out input r arrivals steps zero fine h = absurd (omega arith)
+accepted_out input r arrivals steps (suc turns) fine h =
     rest input turns (set_up r).1 (station_offset r.N) steps arrivals (keeps_standing.set_up_call r fine.0) fine.1 (omega arith)
 
 -- of a refused one
-refused-out :
+refused_out :
     (input : List ℕ) (n offset turns : ℕ) → ¬ (n ≡ 0) → handed turns input (opened_by (scenario_form (refused n offset))) ≡ refused_text n offset
-refused-out input n offset turns bears =
+refused_out input n offset turns bears =
     ap (λ t. handed turns input (cond t first last)) (ne_eqb n 0 bears) ∙ ended turns input last refl
   where
     first : Outcome
@@ -231,10 +231,10 @@ refused-out input n offset turns bears =
 -- The texts that are handed out, one after the other, are the listing, whatever the input, once there are turns enough.
 pub handed_out :
     (input : List ℕ) (turns : ℕ) → turns_left input (opened input).play ≤ turns → handed turns input (opened input) ≡ listing input
-handed_out input turns = by-reading (reading input) (sound input)
+handed_out input turns = by_reading (reading input) (sound input)
   where
-    by-reading :
+    by_reading :
         (x : Reading) → Sound input x → turns_left input (opened_by (scenario_form x)).play ≤ turns
         → handed turns input (opened_by (scenario_form x)) ≡ listing_of x
-    by-reading (refused n offset) bears h = refused-out input n offset turns bears
-    by-reading (accepted r arrivals steps) fine h = accepted-out input r arrivals steps turns fine h
+    by_reading (refused n offset) bears h = refused_out input n offset turns bears
+    by_reading (accepted r arrivals steps) fine h = accepted_out input r arrivals steps turns fine h

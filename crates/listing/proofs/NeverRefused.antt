@@ -32,7 +32,7 @@ use Rattle.bus.specs.Stretch.{asks, due}
 use Rattle.scenario.specs.Reading.{accepted, reading}
 use Rattle.scenario.specs.Writing.{Bytes}
 use Rattle.scenario.proofs.Sound.{Sound, sound}
-use Rattle.scenario.proofs.Written.{accepted-only}
+use Rattle.scenario.proofs.Written.{accepted_only}
 use Rattle.listing.specs.Text.{refusal_text}
 use Rattle.listing.specs.Run.{Left, after, admit_due, answers_of}
 
@@ -54,12 +54,12 @@ unheard_clock o Is.Left = omega arith
 unheard_clock o Is.Right = omega arith
 
 -- any probe takes as many slots as the longest packet at the most
-heard-clock :
+heard_clock :
     (o : Open) (xs : List Contender) → ((x : Contender) → Among x xs → x.packet.length ≤ longest_packet)
     → (heard o xs).1.clock ≤ o.bus.clock + longest_packet
-heard-clock o [] short = unheard_clock o o.contention.window.side
-heard-clock o (x ∷ []) short = let h = short x (at_head refl) in omega arith
-heard-clock o (x ∷ y ∷ more) short = omega arith
+heard_clock o [] short = unheard_clock o o.contention.window.side
+heard_clock o (x ∷ []) short = let h = short x (at_head refl) in omega arith
+heard_clock o (x ∷ y ∷ more) short = omega arith
 
 -- an admission takes none
 admit_clock : (b : Bus) (a : Rules.Arrival) → (admit b a).1.clock ≡ b.clock
@@ -90,7 +90,7 @@ step_answer b z = ap (λ (o : Answer × Bus). o.0.refusal) (step_is b z) ∙ pro
 step_clock : (b : Bus) → Standing b → step_refusal b ≡ 0 → (step b).1.clock ≤ b.clock + longest_packet
 step_clock b h z =
     let same : o.bus.clock ≡ b.clock = opened_same (λ (m : Bus). m.clock) b refl in
-    rw (step_is b z) (omega (arith, heard-clock o (transmitters o.bus o.contention) short, same))
+    rw (step_is b z) (omega (arith, heard_clock o (transmitters o.bus o.contention) short, same))
   where
     o : Open
     o = opened b
@@ -101,12 +101,12 @@ step_clock b h z =
 -- ---- the run
 
 -- the arrivals that are due leave the bus standing, and its clock as it was
-pub due-stands :
+pub due_stands :
     (arrivals : List Arrival) (b : Bus) → Standing b
     → Standing (admit_due b arrivals).bus × ((admit_due b arrivals).bus.clock ≡ b.clock)
-due-stands [] b h = (h, refl)
-due-stands (a ∷ later) b h =
-    let kept = due-stands later (admit b (asks a)).1 (next_stands b h (admission (asks a))) in
+due_stands [] b h = (h, refl)
+due_stands (a ∷ later) b h =
+    let kept = due_stands later (admit b (asks a)).1 (next_stands b h (admission (asks a))) in
     go (due b.clock a) (kept.0, kept.1 ∙ admit_clock b (asks a))
   where
     admitted : Left
@@ -125,20 +125,20 @@ due-stands (a ∷ later) b h =
     go false kept = (h, refl)
 
 -- no step of a run is refused, if the clock has room for its steps
-run-fine :
+run_fine :
     (steps : ℕ) (b : Bus) (arrivals : List Arrival) → Standing b → b.clock + longest_packet * steps ≤ clock_end
     → All (λ a. a.refusal ≡ 0) (answers_of steps b arrivals)
-run-fine zero b arrivals h room = all_nil (λ a. a.refusal ≡ 0)
-run-fine (suc steps) b arrivals h room =
+run_fine zero b arrivals h room = all_nil (λ a. a.refusal ≡ 0)
+run_fine (suc steps) b arrivals h room =
     let x = admit_due b arrivals in
-    let kept = due-stands arrivals b h in
+    let kept = due_stands arrivals b h in
     let same : x.bus.clock ≡ b.clock = kept.1 in
     let fine = step_fine x.bus kept.0 (omega (arith, same)) in
     let moved = step_clock x.bus kept.0 fine in
     all_cons
     (step x.bus).0
     (step_answer x.bus fine)
-    (run-fine steps (step x.bus).1 x.arrivals (step_stands x.bus kept.0) (omega (arith, same, moved)))
+    (run_fine steps (step x.bus).1 x.arrivals (step_stands x.bus kept.0) (omega (arith, same, moved)))
 
 -- No step of an accepted scenario's run is refused: 65,535 steps of 4,096 slots do not come to the clock's end.
 pub never_refused :
@@ -147,11 +147,11 @@ pub never_refused :
 never_refused input r arrivals steps e few =
     let fine : (set_up r).0.refusal ≡ 0 = (subst (Sound input) e (sound input)).0 in
     let start : (set_up r).1.clock ≡ 0 = ap (λ (b : Bus). b.clock) (accepted_set_up r fine) in
-    run-fine steps (set_up r).1 arrivals (keeps_standing.set_up_call r fine) (omega (arith, start))
+    run_fine steps (set_up r).1 arrivals (keeps_standing.set_up_call r fine) (omega (arith, start))
 
 -- And so none is where the input is bytes.
-pub never-refused-bytes :
+pub never_refused_bytes :
     (input : List ℕ) (r : Request) (arrivals : List Arrival) (steps : ℕ) → reading input ≡ accepted r arrivals steps → Bytes input
     → All (λ a. a.refusal ≡ 0) (answers_of steps (set_up r).1 arrivals)
-never-refused-bytes input r arrivals steps e h =
-    let good = (accepted-only input r arrivals steps h e).1 in never_refused input r arrivals steps e (omega (arith, good.few))
+never_refused_bytes input r arrivals steps e h =
+    let good = (accepted_only input r arrivals steps h e).1 in never_refused input r arrivals steps e (omega (arith, good.few))

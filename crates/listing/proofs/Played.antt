@@ -44,80 +44,80 @@ pub record Bounds (c : Course) (calls most steps : ℕ) : Type 0 where
 rest_bounds : (s : State) (calls most steps : ℕ) → Bounds (rests s steps) calls most steps
 rest_bounds s calls most steps = record { made = omega arith; taken = omega arith; left = omega arith }
 
-step-bounds :
+step_bounds :
     (s : State) (c : Course) (calls most steps : ℕ) → Bounds c calls most steps → Bounds (step_then s c) (suc calls) most (suc steps)
-step-bounds s c calls most steps b =
+step_bounds s c calls most steps b =
     record { made = omega (arith, b.made); taken = omega (arith, b.taken); left = omega (arith, b.left) }
 
-admit-bounds :
+admit_bounds :
     (s : State) (a : Arrival) (c : Course) (calls most steps : ℕ) → Bounds c calls most steps
     → Bounds (admit_then s a c) (suc calls) (suc most) steps
-admit-bounds s a c calls most steps b =
+admit_bounds s a c calls most steps b =
     record { made = omega (arith, b.made); taken = omega (arith, b.taken); left = b.left }
 
-course-bounds :
+course_bounds :
     (calls : ℕ) (s : State) (arrivals : List Arrival) (more : Bool) (steps : ℕ)
     → Bounds (course calls s arrivals more steps) calls (length arrivals) steps
 unfolding course
-course-bounds zero s arrivals more steps = rest_bounds s zero (length arrivals) steps
-course-bounds (suc calls) s arrivals more zero = rest_bounds s (suc calls) (length arrivals) zero
-course-bounds (suc calls) s [] true (suc steps) = rest_bounds s (suc calls) 0 (suc steps)
-course-bounds (suc calls) s [] false (suc steps) = step-bounds s _ calls 0 steps (course-bounds calls (coded_step s).1 [] false steps)
-course-bounds (suc calls) s (a ∷ later) more (suc steps) =
-    by-due
+course_bounds zero s arrivals more steps = rest_bounds s zero (length arrivals) steps
+course_bounds (suc calls) s arrivals more zero = rest_bounds s (suc calls) (length arrivals) zero
+course_bounds (suc calls) s [] true (suc steps) = rest_bounds s (suc calls) 0 (suc steps)
+course_bounds (suc calls) s [] false (suc steps) = step_bounds s _ calls 0 steps (course_bounds calls (coded_step s).1 [] false steps)
+course_bounds (suc calls) s (a ∷ later) more (suc steps) =
+    by_due
     (due s.segment.clock.0 a)
-    (course-bounds calls (coded_admit s (asks a)).1 later more (suc steps))
-    (course-bounds calls (coded_step s).1 (a ∷ later) more steps)
+    (course_bounds calls (coded_admit s (asks a)).1 later more (suc steps))
+    (course_bounds calls (coded_step s).1 (a ∷ later) more steps)
   where
-    by-due :
+    by_due :
         (t : Bool) → {c d : Course} → Bounds c calls (length later) (suc steps) → Bounds d calls (suc (length later)) steps
         → Bounds (cond t (admit_then s a c) (step_then s d)) (suc calls) (suc (length later)) (suc steps)
-    by-due true {c} {d} h k = admit-bounds s a c calls (length later) (suc steps) h
-    by-due false {c} {d} h k = step-bounds s d calls (suc (length later)) steps k
+    by_due true {c} {d} h k = admit_bounds s a c calls (length later) (suc steps) h
+    by_due false {c} {d} h k = step_bounds s d calls (suc (length later)) steps k
 
 -- the same, of the stretch of a play
 pub bounds_of : (arrivals : List Arrival) (p : Play) → Bounds (course_of arrivals p) most_calls (length arrivals) p.steps
-bounds_of arrivals p = course-bounds most_calls p.state arrivals (leb row_places (length arrivals)) p.steps
+bounds_of arrivals p = course_bounds most_calls p.state arrivals (leb row_places (length arrivals)) p.steps
 
 -- a stretch with a call, a step and arrivals or none to wait for takes an arrival or makes a step
-pub course-moves :
+pub course_moves :
     (calls : ℕ) (s : State) (arrivals : List Arrival) (more : Bool) (steps : ℕ) → (arrivals ≡ [] → more ≡ false)
     → let c = course (suc calls) s arrivals more (suc steps) in c.left < suc steps + c.taken
 unfolding course
-course-moves calls s [] true steps h = clash refl (h refl)
-course-moves calls s [] false steps h = let b = (course-bounds calls (coded_step s).1 [] false steps).left in omega arith
-course-moves calls s (a ∷ later) more steps h =
-    by-due
+course_moves calls s [] true steps h = clash refl (h refl)
+course_moves calls s [] false steps h = let b = (course_bounds calls (coded_step s).1 [] false steps).left in omega arith
+course_moves calls s (a ∷ later) more steps h =
+    by_due
     (due s.segment.clock.0 a)
-    (course-bounds calls (coded_admit s (asks a)).1 later more (suc steps))
-    (course-bounds calls (coded_step s).1 (a ∷ later) more steps)
+    (course_bounds calls (coded_admit s (asks a)).1 later more (suc steps))
+    (course_bounds calls (coded_step s).1 (a ∷ later) more steps)
   where
-    by-due :
+    by_due :
         (t : Bool) → {c d : Course} → Bounds c calls (length later) (suc steps) → Bounds d calls (suc (length later)) steps
         → (cond t (admit_then s a c) (step_then s d)).left < suc steps + (cond t (admit_then s a c) (step_then s d)).taken
-    by-due true {c} {d} h k = omega (arith, h.left)
-    by-due false {c} {d} h k = omega (arith, k.left)
+    by_due true {c} {d} h k = omega (arith, h.left)
+    by_due false {c} {d} h k = omega (arith, k.left)
 
 -- ---- the run
 
 -- where an arrival is due, the run is what it leaves
-run-admits :
+run_admits :
     (steps : ℕ) (b : Bus) (a : Arrival) (later : List Arrival) → due b.clock a ≡ true
     → run_text (suc steps) b (a ∷ later)
     ≡ refusal_text b.clock a.address.0 (admit b (asks a)).0.refusal ++ run_text (suc steps) (admit b (asks a)).1 later
-run-admits steps b a later e =
+run_admits steps b a later e =
     simp e (append_assoc (refusal_text b.clock a.address.0 (admit b (asks a)).0.refusal) _ _)
 
 -- and so are its answers and its end, which such an arrival adds nothing to
-answers-admit :
+answers_admit :
     (steps : ℕ) (b : Bus) (a : Arrival) (later : List Arrival) → due b.clock a ≡ true
     → answers_of (suc steps) b (a ∷ later) ≡ answers_of (suc steps) (admit b (asks a)).1 later
-answers-admit steps b a later e = simp e refl
+answers_admit steps b a later e = simp e refl
 
-end-admits :
+end_admits :
     (steps : ℕ) (b : Bus) (a : Arrival) (later : List Arrival) → due b.clock a ≡ true
     → end_of (suc steps) b (a ∷ later) ≡ end_of (suc steps) (admit b (asks a)).1 later
-end-admits steps b a later e = simp e refl
+end_admits steps b a later e = simp e refl
 
 -- none of these arrivals is due: there is none, or the first is not
 abbrev none_due : Bus → List Arrival → Type 0
@@ -125,33 +125,33 @@ none_due b [] = Unit {0}
 none_due b (a ∷ later) = due b.clock a ≡ false
 
 -- where none is due, none is admitted
-none-admitted :
+none_admitted :
     (b : Bus) (arrivals : List Arrival) → none_due b arrivals → admit_due b arrivals ≡ record { text = []; bus = b; arrivals = arrivals }
-none-admitted b [] h = refl
-none-admitted b (a ∷ later) h = simp h
+none_admitted b [] h = refl
+none_admitted b (a ∷ later) h = simp h
 
 -- and the run makes a step
-run-steps :
+run_steps :
     (steps : ℕ) (b : Bus) (arrivals : List Arrival) → none_due b arrivals
     → run_text (suc steps) b arrivals
     ≡ (dropped_text (step b).0 ++ probed_text (step b).0) ++ run_text steps (step b).1 arrivals
-run-steps steps b arrivals h =
+run_steps steps b arrivals h =
     ap
     (λ (x : Left).
     x.text ++ (dropped_text (step x.bus).0 ++ (probed_text (step x.bus).0 ++ run_text steps (step x.bus).1 x.arrivals)))
-    (none-admitted b arrivals h)
+    (none_admitted b arrivals h)
     ∙ sym (append_assoc (dropped_text (step b).0) _ _)
 
-answers-step :
+answers_step :
     (steps : ℕ) (b : Bus) (arrivals : List Arrival) → none_due b arrivals
     → answers_of (suc steps) b arrivals ≡ (step b).0 ∷ answers_of steps (step b).1 arrivals
-answers-step steps b arrivals h =
-    ap (λ (x : Left). (step x.bus).0 ∷ answers_of steps (step x.bus).1 x.arrivals) (none-admitted b arrivals h)
+answers_step steps b arrivals h =
+    ap (λ (x : Left). (step x.bus).0 ∷ answers_of steps (step x.bus).1 x.arrivals) (none_admitted b arrivals h)
 
-end-steps :
+end_steps :
     (steps : ℕ) (b : Bus) (arrivals : List Arrival) → none_due b arrivals
     → end_of (suc steps) b arrivals ≡ end_of steps (step b).1 arrivals
-end-steps steps b arrivals h = ap (λ (x : Left). end_of steps (step x.bus).1 x.arrivals) (none-admitted b arrivals h)
+end_steps steps b arrivals h = ap (λ (x : Left). end_of steps (step x.bus).1 x.arrivals) (none_admitted b arrivals h)
 
 -- a run's text ends with the line that tells the counts of the bus at its end
 pub run_ends : (steps : ℕ) (b : Bus) (arrivals : List Arrival) → (text : List ℕ) × (run_text steps b arrivals ≡ text ++ closing_text (end_of steps b arrivals))
@@ -187,10 +187,10 @@ runs_still b arrivals steps h = record { bus = b; stands = h; state = refl; text
 
 module _ (b : Bus) (h : Standing b) where
   -- a step, and then a stretch of the run after it
-  step-runs :
+  step_runs :
       (arrivals : List Arrival) (steps : ℕ) (c : Course) → none_due b arrivals → Runs (step b).1 arrivals steps c
       → Runs b arrivals (suc steps) (step_then (form b) c)
-  step-runs arrivals steps c none r =
+  step_runs arrivals steps c none r =
       let said : answer_of (answer_form (coded_step (form b)).0) ≡ (step b).0 =
       answer_read (form b) ∙ ap (λ (o : Probe.Answer × State). o.0) (coded_step_form b (standing_fits b h)) in
       let told : report_text (step_report (form b) (answer_form (coded_step (form b)).0)) ≡ dropped_text (step b).0 ++ probed_text (step b).0 =
@@ -202,24 +202,24 @@ module _ (b : Bus) (h : Standing b) where
         stands = r.stands;
         state = r.state;
         text =
-            run-steps steps b arrivals none
+            run_steps steps b arrivals none
             ∙ ap₂ ◌++◌ (sym told) r.text
             ∙ sym (append_assoc (report_text (step_report (form b) (answer_form (coded_step (form b)).0))) (reports_text c.reports) _)
             ∙ ap (λ (n : ℕ). reports_text (step_then (form b) c).reports ++ rest (drop n arrivals)) none-taken;
         answers =
-            answers-step steps b arrivals none
+            answers_step steps b arrivals none
             ∙ ap₂ ◌∷◌ (sym said) r.answers
             ∙ ap
             (λ (n : ℕ). answers_in (step_then (form b) c).reports ++ answers_of c.left r.bus (drop n arrivals))
             none-taken;
-        end = end-steps steps b arrivals none ∙ r.end ∙ ap (λ (n : ℕ). end_of c.left r.bus (drop n arrivals)) none-taken;
+        end = end_steps steps b arrivals none ∙ r.end ∙ ap (λ (n : ℕ). end_of c.left r.bus (drop n arrivals)) none-taken;
       }
 
   -- an arrival that is due, and then a stretch of the run after it
-  admit-runs :
+  admit_runs :
       (a : Arrival) (later : List Arrival) (steps : ℕ) (c : Course) → due b.clock a ≡ true
       → Runs (admit b (asks a)).1 later (suc steps) c → Runs b (a ∷ later) (suc steps) (admit_then (form b) a c)
-  admit-runs a later steps c now! r =
+  admit_runs a later steps c now! r =
       let told :
       report_text (arrival_report (form b) a (coded_admit (form b) (asks a)).0)
       ≡ refusal_text b.clock a.address.0 (admit b (asks a)).0.refusal =
@@ -231,60 +231,60 @@ module _ (b : Bus) (h : Standing b) where
         stands = r.stands;
         state = r.state;
         text =
-            run-admits steps b a later now!
+            run_admits steps b a later now!
             ∙ ap₂ ◌++◌ (sym told) r.text
             ∙ sym (append_assoc (report_text (arrival_report (form b) a (coded_admit (form b) (asks a)).0)) (reports_text c.reports) _)
             ∙ ap (λ (n : ℕ). reports_text (admit_then (form b) a c).reports ++ rest (drop n (a ∷ later))) one;
         answers =
-            answers-admit steps b a later now!
+            answers_admit steps b a later now!
             ∙ r.answers
             ∙ ap
             (λ (n : ℕ). answers_in (admit_then (form b) a c).reports ++ answers_of c.left r.bus (drop n (a ∷ later)))
             one;
-        end = end-admits steps b a later now! ∙ r.end ∙ ap (λ (n : ℕ). end_of c.left r.bus (drop n (a ∷ later))) one;
+        end = end_admits steps b a later now! ∙ r.end ∙ ap (λ (n : ℕ). end_of c.left r.bus (drop n (a ∷ later))) one;
       }
 
   -- the states after the calls
-  after-step :
+  after_step :
       (arrivals : List Arrival) (steps : ℕ) (course! : State → Course)
       → Runs (step b).1 arrivals steps (course! (form (step b).1)) → Runs (step b).1 arrivals steps (course! (coded_step (form b)).1)
-  after-step arrivals steps course! =
+  after_step arrivals steps course! =
       subst (λ (s : State). Runs (step b).1 arrivals steps (course! s))
       (sym (ap (λ (o : Probe.Answer × State). o.1) (coded_step_form b (standing_fits b h))))
 
-  after-admission :
+  after_admission :
       (a : Arrival) (arrivals : List Arrival) (steps : ℕ) (course! : State → Course)
       → Runs (admit b (asks a)).1 arrivals steps (course! (form (admit b (asks a)).1))
       → Runs (admit b (asks a)).1 arrivals steps (course! (coded_admit (form b) (asks a)).1)
-  after-admission a arrivals steps course! =
+  after_admission a arrivals steps course! =
       subst (λ (s : State). Runs (admit b (asks a)).1 arrivals steps (course! s))
       (sym (ap (λ (o : Admitted × State). o.1) (coded_admit_form b (standing_fits b h) (asks a))))
 
 -- any stretch, by the first arrivals of the run, and all of them where there are no more
-pub course-runs :
+pub course_runs :
     (calls : ℕ) (b : Bus) → Standing b → (found others : List Arrival) (more : Bool) (steps : ℕ) → (more ≡ false → others ≡ [])
     → Runs b (found ++ others) steps (course calls (form b) found more steps)
 unfolding course
-course-runs zero b h found others more steps all = runs_still b (found ++ others) steps h
-course-runs (suc calls) b h found others more zero all = runs_still b (found ++ others) 0 h
-course-runs (suc calls) b h [] others true (suc steps) all = runs_still b others (suc steps) h
-course-runs (suc calls) b h [] others false (suc steps) all =
-    step-runs b h others steps (course calls (coded_step (form b)).1 [] false steps)
+course_runs zero b h found others more steps all = runs_still b (found ++ others) steps h
+course_runs (suc calls) b h found others more zero all = runs_still b (found ++ others) 0 h
+course_runs (suc calls) b h [] others true (suc steps) all = runs_still b others (suc steps) h
+course_runs (suc calls) b h [] others false (suc steps) all =
+    step_runs b h others steps (course calls (coded_step (form b)).1 [] false steps)
     (subst (none_due b) (sym (all refl)) tt)
-    (after-step b h others steps (λ (s : State). course calls s [] false steps)
-    (course-runs calls (step b).1 (step_stands b h) [] others false steps all))
-course-runs (suc calls) b h (a ∷ later) others more (suc steps) all =
-    by-due
+    (after_step b h others steps (λ (s : State). course calls s [] false steps)
+    (course_runs calls (step b).1 (step_stands b h) [] others false steps all))
+course_runs (suc calls) b h (a ∷ later) others more (suc steps) all =
+    by_due
     (due b.clock a)
     refl
-    (after-admission b h a (later ++ others) (suc steps) (λ (s : State). course calls s later more (suc steps))
-    (course-runs calls (admit b (asks a)).1 (next_stands b h (admission (asks a))) later others more (suc steps) all))
-    (after-step b h (a ∷ (later ++ others)) steps (λ (s : State). course calls s (a ∷ later) more steps)
-    (course-runs calls (step b).1 (step_stands b h) (a ∷ later) others more steps all))
+    (after_admission b h a (later ++ others) (suc steps) (λ (s : State). course calls s later more (suc steps))
+    (course_runs calls (admit b (asks a)).1 (next_stands b h (admission (asks a))) later others more (suc steps) all))
+    (after_step b h (a ∷ (later ++ others)) steps (λ (s : State). course calls s (a ∷ later) more steps)
+    (course_runs calls (step b).1 (step_stands b h) (a ∷ later) others more steps all))
   where
-    by-due :
+    by_due :
         (t : Bool) → due b.clock a ≡ t → {c d : Course} → Runs (admit b (asks a)).1 (later ++ others) (suc steps) c
         → Runs (step b).1 (a ∷ (later ++ others)) steps d
         → Runs b (a ∷ (later ++ others)) (suc steps) (cond t (admit_then (form b) a c) (step_then (form b) d))
-    by-due true e {c} {d} x y = admit-runs b h a (later ++ others) steps c e x
-    by-due false e {c} {d} x y = step-runs b h (a ∷ (later ++ others)) steps d e y
+    by_due true e {c} {d} x y = admit_runs b h a (later ++ others) steps c e x
+    by_due false e {c} {d} x y = step_runs b h (a ∷ (later ++ others)) steps d e y

@@ -28,15 +28,15 @@ handed_out = Handed.handed_out
 pub falls : (input : List ℕ) (p : Play) → p.going ≡ true → turns_left input (turn input p).play < turns_left input p
 falls = Handed.falls
 
-pub over-at-last :
+pub over_at_last :
     (input : List ℕ) (turns : ℕ) → turns_left input (opened input).play ≤ turns → (played turns input (opened input).play).going ≡ false
-over-at-last = Handed.over-at-last
+over_at_last = Handed.over_at_last
 
 -- no step of a scenario is refused: it cannot reach the clock's end
 pub never_refused :
     (input : List ℕ) (r : Request) (arrivals : List Arrival) (steps : ℕ) → reading input ≡ accepted r arrivals steps → Bytes input
     → All (λ a. a.refusal ≡ 0) (answers_of steps (set_up r).1 arrivals)
-never_refused = NeverRefused.never-refused-bytes
+never_refused = NeverRefused.never_refused_bytes
 
 -- a run's text ends with the line that tells the counts of the bus at its end
 pub run_ends : (steps : ℕ) (b : Bus) (arrivals : List Arrival) → (text : List ℕ) × (run_text steps b arrivals ≡ text ++ closing_text (end_of steps b arrivals))

@@ -29,7 +29,7 @@ use Rattle.listing.specs.Text.{refused_text}
 use Rattle.listing.specs.Turns.{Play, Turn, Outcome, says, over, opened_by, next_arrivals, arrivals_form, report_text, reports_text, course_of, stretched}
 use Rattle.listing.specs.Turns.{closed_by, turn, turn_form}
 use Rattle.listing.specs.Parts.{TurnTold}
-use Rattle.listing.proofs.Gathered.{found_few, bytes-within}
+use Rattle.listing.proofs.Gathered.{found_few, bytes_within}
 use Rattle.listing.proofs.Played.{bounds_of}
 
 -- a test that was turned round
@@ -69,10 +69,10 @@ abbrev pub going_on : Scenario → Play
 going_on x = record { state = x.state; at = x.at; steps = x.steps; going = true }
 
 -- the first turn, by whether the scenario is accepted
-pub opened-turn :
+pub opened_turn :
     (x : Scenario) (t : Bool) → eqb x.refusal 0 ≡ t
     → cond t (says [] (going_on x)) (says (refused_text x.refusal x.offset) (over x.state)) ≡ opened_by x
-opened-turn x t e = simp e refl
+opened_turn x t e = simp e refl
 
 -- a run that is over hands out nothing
 pub turn_over : (input : List ℕ) (p : Play) → p.going ≡ false → says [] p ≡ turn input p
@@ -100,10 +100,10 @@ module _ (input : List ℕ) (p : Play) where
   found = next_arrivals input p.at
 
   -- what the call of a stretch hands back
-  pub stretch-is :
+  pub stretch_is :
       (arrivals : Arrivals) (x : Stretch) → arrivals ≡ arrivals_form found → x ≡ stretch_form (stretch_of p.state arrivals p.steps)
       → x ≡ stretch_form (course_of found p)
-  stretch-is arrivals x e f =
+  stretch_is arrivals x e f =
       f ∙ ap (λ (a : Arrivals). stretch_form (stretch_of p.state a p.steps)) e ∙ ap stretch_form (stretch_of_form p.state found p.steps)
 
   module _ (x : Stretch) (is : x ≡ stretch_form (course_of found p)) where
@@ -126,17 +126,17 @@ module _ (input : List ℕ) (p : Play) where
 
         go : (n : ℕ) → n ≤ length found → (p.at + arrival_bytes * n ≤ p.at) ⊎ (p.at + arrival_bytes * n ≤ length input)
         go zero few = inl (omega arith)
-        go (suc n) few = inr (bytes-within row_places input p.at (suc n) (omega arith) few)
+        go (suc n) few = inr (bytes_within row_places input p.at (suc n) (omega arith) few)
 
     -- the turn with its text and its play
-    pub stretched-turn :
+    pub stretched_turn :
         {before after : List ℕ} {many : ℕ} → Told before after 0 many (reports_text (take x.made x.reports)) room_bytes
         → TurnTold
         before
         after
         (record { length = many; play = record { state = x.state; at = p.at + arrival_bytes * x.taken; steps = x.left; going = true } })
         (stretched input p)
-    stretched-turn {before} {after} {many} told =
+    stretched_turn {before} {after} {many} told =
         let c = course_of found p in
         record {
           play =

@@ -7,7 +7,7 @@ use Rattle.window.specs.Splitting.{exponent_of, is_power}
 use Rattle.rules.proofs.Laws.{each_view}
 use Rattle.scenario.specs.Reading.{accepted, reading}
 use Rattle.scenario.specs.Writing.{Bytes, written, Good}
-use Rattle.scenario.proofs.Written.{accepted-only}
+use Rattle.scenario.proofs.Written.{accepted_only}
 use Rattle.text.specs.Text.{decimal}
 use Rattle.listing.specs.Run.{listing}
 use Rattle.listing.specs.Worked.{worked_input, worked_output, worked_request, worked_arrivals, timed_input, timed_output, waited_input, waited_output, turned_input, turned_output}
@@ -41,4 +41,4 @@ worked_accepted = refl
 
 -- and so it is the writing of a good scenario
 pub worked_good : (worked_input ≡ written worked_request worked_arrivals 14) × Good worked_request worked_arrivals 14
-worked_good = accepted-only worked_input worked_request worked_arrivals 14 worked_bytes worked_accepted
+worked_good = accepted_only worked_input worked_request worked_arrivals 14 worked_bytes worked_accepted

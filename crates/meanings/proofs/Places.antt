@@ -11,10 +11,10 @@ use Rattle.meanings.specs.Refused.{begin_from, begins_after, place_of}
 
 module _ (input : List ℕ) (byte end : ℕ) where
   -- a record that begins before the end is counted, and then those after it
-  begin-one :
+  begin_one :
       (turns : ℕ) → byte < end
       → begin_from (suc turns) input byte end ≡ suc (begin_from turns input (byte + (2 + length_in (drop byte input))) end)
-  begin-one turns h =
+  begin_one turns h =
       ap (λ t. cond t (suc (begin_from turns input (byte + (2 + length_in (drop byte input))) end)) 0) (lt-ltb byte end h)
 
   -- and no other
@@ -48,7 +48,7 @@ one_more {input} {offset} {byte} {place} {next} so h step = go so.turns so.enoug
         → Counted input offset next (place + 1)
     go zero enough same = absurd (omega arith)
     go (suc turns) enough same =
-        let here = begin-one input byte offset turns h ∙ ap (λ n. suc (begin_from turns input n offset)) (sym step) in
+        let here = begin_one input byte offset turns h ∙ ap (λ n. suc (begin_from turns input n offset)) (sym step) in
         record { turns = turns; enough = omega arith; few = omega (arith, so.few); same = omega arith }
 
 -- and no more
@@ -62,16 +62,16 @@ after_byte : (others : ℕ) (input : List ℕ) (byte : ℕ) → byte + others �
 after_byte zero input byte = omega arith
 after_byte (suc others) input byte = omega (arith, after_byte others input (byte + (2 + length_in (drop byte input))))
 
-begins-counted :
+begins_counted :
     (others turns : ℕ) (input : List ℕ) (byte : ℕ) → begins_after others input byte ≤ byte + turns
     → begin_from turns input byte (begins_after others input byte) ≡ others
-begins-counted zero turns input byte h = begin_none input byte byte turns (omega arith)
-begins-counted (suc others) zero input byte h = absurd (omega (arith, after_byte (suc others) input byte))
-begins-counted (suc others) (suc turns) input byte h =
-    begin-one input byte (begins_after (suc others) input byte) turns (omega (arith, after_byte (suc others) input byte))
-    ∙ ap suc (begins-counted others turns input (byte + (2 + length_in (drop byte input))) (omega arith))
+begins_counted zero turns input byte h = begin_none input byte byte turns (omega arith)
+begins_counted (suc others) zero input byte h = absurd (omega (arith, after_byte (suc others) input byte))
+begins_counted (suc others) (suc turns) input byte h =
+    begin_one input byte (begins_after (suc others) input byte) turns (omega (arith, after_byte (suc others) input byte))
+    ∙ ap suc (begins_counted others turns input (byte + (2 + length_in (drop byte input))) (omega arith))
 
 -- the record with so many before it has the place after them
 pub place_counts : (others : ℕ) (input : List ℕ) → place_of input (begins_after others input 0) ≡ suc others
 unfolding place_of
-place_counts others input = ap suc (begins-counted others (begins_after others input 0) input 0 (omega arith))
+place_counts others input = ap suc (begins_counted others (begins_after others input 0) input 0 (omega arith))

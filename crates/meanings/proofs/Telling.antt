@@ -11,24 +11,24 @@ use lib.ListN.{length, take}
 use lib.Seq.{length-take-le}
 use Rattle.text.specs.Room.{room_bytes, stored, past, room_with}
 use Rattle.text.specs.Parts.{Told, roomy}
-use Rattle.text.proofs.Stores.{told-then, told-stored, sets_start, stored_kept, room_kept}
+use Rattle.text.proofs.Stores.{told_then, told_stored, sets_start, stored_kept, room_kept}
 use Rattle.meanings.specs.Refused.{number_text, record_text, refused_text}
 
 -- a text that was stored after one that was told
 pub told_more :
     {a b c : List ℕ} {at m n : ℕ} {x : List ℕ} {p : ℕ} (y : List ℕ) (q : ℕ) → Told a b at m x p → roomy at (p + q) → length y ≤ q
     → (n ≡ past m y) × (c ≡ stored b m y) → Told a c at n (x ++ y) (p + q)
-told_more {b = b} {m = m} y q told h few said = told-then told (told-stored b m y q (omega (arith, told.past, told.few)) few said)
+told_more {b = b} {m = m} y q told h few said = told_then told (told_stored b m y q (omega (arith, told.past, told.few)) few said)
 
 -- the same text in another form
 pub told_as : {a b : List ℕ} {at n : ℕ} {x y : List ℕ} {p : ℕ} → Told a b at n x p → x ≡ y → Told a b at n y p
 told_as {a} {b} {at} {n} {p = p} told e = subst (λ (z : List ℕ). Told a b at n z p) e told
 
 -- a text that was told at the start of the room is over its start, and fits the room
-pub told-start :
+pub told_start :
     {a b : List ℕ} {n : ℕ} {x : List ℕ} {p : ℕ} → p ≤ room_bytes → Told a b 0 n x p
     → (n ≡ length x) × ((b ≡ room_with x a) × (n ≤ room_bytes))
-told-start {a} {x = x} h told =
+told_start {a} {x = x} h told =
     (omega (arith, told.past), (told.room ∙ sets_start a x, omega (arith, told.past, told.few)))
 
 -- ---- the text of a refused scenario
@@ -39,10 +39,10 @@ too_long input number offset e =
     ap (λ t. number_text number ++ cond t [] (record_text input (min offset (length input)))) (sym (eq-eqb number 22 e))
 
 -- of any other
-pub of-a-record :
+pub of_a_record :
     (input : List ℕ) (number offset : ℕ) {at : ℕ} → number ≢ 22 → at ≡ min offset (length input)
     → number_text number ++ record_text input at ≡ refused_text input number offset
-of-a-record input number offset e f =
+of_a_record input number offset e f =
     ap (λ k. number_text number ++ record_text input k) f
     ∙ ap (λ t. number_text number ++ cond t [] (record_text input (min offset (length input)))) (sym (ne_eqb number 22 e))
 
@@ -58,10 +58,10 @@ pub room_start : (room : List ℕ) → room_bytes ≡ length room → Within roo
 room_start room long = record { long = long; inside = omega arith }
 
 -- whatever is stored from such an offset on, so is the offset past it
-pub stored-within :
+pub stored_within :
     {room : List ℕ} {at : ℕ} (text : List ℕ) {after : List ℕ} {next : ℕ} → Within room at
     → (next ≡ past at text) × (after ≡ stored room at text) → Within after next
-stored-within {room} {at} text {next = next} h said =
+stored_within {room} {at} text {next = next} h said =
     record {
       long = h.long ∙ sym (ap length said.1 ∙ stored_kept room at text);
       inside = go (leb (at + length text) room_bytes) refl said.0;
@@ -72,10 +72,10 @@ stored-within {room} {at} text {next = next} h said =
     go false fits e = omega (arith, h.inside)
 
 -- and so is the end of what stands at the room's start
-pub start-within :
+pub start_within :
     (text room : List ℕ) {after : List ℕ} {next : ℕ} → room_bytes ≡ length room
     → (next ≡ length text) × ((after ≡ room_with text room) × (next ≤ room_bytes)) → Within after next
-start-within text room long said = record { long = long ∙ sym (ap length said.1.0 ∙ room_kept text room); inside = said.1.1 }
+start_within text room long said = record { long = long ∙ sym (ap length said.1.0 ∙ room_kept text room); inside = said.1.1 }
 
 -- the part before it is there, and has as many bytes
 pub part_there : {room : List ℕ} {at : ℕ} → Within room at → at ≤ length room

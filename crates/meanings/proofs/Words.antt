@@ -54,15 +54,15 @@ later_of false u e = absurd (let z : ◌≡◌ {A = ℕ} 0 1 = cc in omega arith
 abbrev short : ℕ → Row → Bool
 short most r = leb (length (bytes r.words)) most
 
-words-short :
+words_short :
     (most : ℕ) (rows : List Row) (other : List ℕ) (n : ℕ) → each (short most) rows ≡ true → length other ≤ most
     → length (words_in rows other n) ≤ most
-words-short most [] other n e h = h
-words-short most (r ∷ rows) other n e h =
+words_short most [] other n e h = h
+words_short most (r ∷ rows) other n e h =
     go
     (eqb n r.number)
     (leb-true (length (bytes r.words)) most (first_of (short most r) (each (short most) rows) e))
-    (words-short most rows other n (later_of (short most r) (each (short most) rows) e) h)
+    (words_short most rows other n (later_of (short most r) (each (short most) rows) e) h)
   where
     go :
         (t : Bool) → length (bytes r.words) ≤ most → length (words_in rows other n) ≤ most
@@ -86,8 +86,8 @@ above last (r ∷ rows) other n e h =
 pub meaning_short : (n : ℕ) → length (meaning_of n) ≤ 80
 unfolding other_meaning call_meaning meaning_of
 meaning_short n =
-    words-short 80 set_up_rows (call_meaning n) n refl
-    (words-short 80 call_rows (other_meaning n) n refl (words-short 80 other_rows (bytes "unknown number") n refl (omega arith)))
+    words_short 80 set_up_rows (call_meaning n) n refl
+    (words_short 80 call_rows (other_meaning n) n refl (words_short 80 other_rows (bytes "unknown number") n refl (omega arith)))
 
 pub unknown : (n : ℕ) → 26 < n → meaning_of n ≡ bytes "unknown number"
 unfolding other_meaning call_meaning meaning_of
@@ -98,7 +98,7 @@ unknown n h =
 
 kind_short : (n : ℕ) → length (kind_words n) ≤ 20
 unfolding kind_words
-kind_short n = words-short 20 kinds (bytes "of no known kind") n refl (omega arith)
+kind_short n = words_short 20 kinds (bytes "of no known kind") n refl (omega arith)
 
 pub record_short : (rest : List ℕ) → length (record_words rest) ≤ 20
 unfolding record_words

@@ -19,14 +19,14 @@ use Rattle.rules.specs.Step.{opened, step_refusal, step}
 use Rattle.rules.proofs.TurnedAway.{back_cases}
 use Rattle.rules.proofs.Standing.{accepted_set_up}
 use Rattle.rules.proofs.Keeps.{keeps_standing, opened_same}
-use Rattle.rules.proofs.Reach.{call-cases, step_stands}
+use Rattle.rules.proofs.Reach.{call_cases, step_stands}
 use Rattle.state.specs.declared.Arrival.{Arrival}
 use Rattle.bus.specs.Stretch.{asks, due}
 use Rattle.scenario.specs.Reading.{Reading, refused, accepted, reading}
 use Rattle.scenario.proofs.Sound.{Sound, sound}
 use Rattle.listing.specs.Text.{refusal_text}
 use Rattle.listing.specs.Run.{Left, after, admit_due, answers_of, end_of}
-use Rattle.listing.proofs.NeverRefused.{due-stands}
+use Rattle.listing.proofs.NeverRefused.{due_stands}
 use Rattle.measure.specs.Measured.{succeeded, wait_in, longest_wait, finished, measured_of, measured, Fits}
 use Rattle.measure.proofs.Waits.{longer_below, none_longer}
 
@@ -45,7 +45,7 @@ heard_wait o (x ∷ y ∷ more) = omega arith
 
 step_wait : (b : Bus) → wait_in (step b).0 ≤ b.clock
 step_wait b =
-    call-cases
+    call_cases
     (λ (x : Answer × Bus). wait_in x.0 ≤ b.clock)
     (step_refusal b)
     (probe (opened b))
@@ -69,7 +69,7 @@ heard_sent o (x ∷ y ∷ more) = omega arith
 
 step_sent : (b : Bus) → (step b).1.sent ≡ b.sent + bit (succeeded (step b).0)
 step_sent b =
-    call-cases
+    call_cases
     (λ (x : Answer × Bus). x.1.sent ≡ b.sent + bit (succeeded x.0))
     (step_refusal b)
     (probe (opened b))
@@ -84,7 +84,7 @@ step_sent b =
 -- an admission sends nothing
 admit_sent : (b : Bus) (a : Rules.Arrival) → (admit b a).1.sent ≡ b.sent
 admit_sent b a =
-    call-cases
+    call_cases
     (λ (x : Admitted × Bus). x.1.sent ≡ b.sent)
     (admission_refusal b a)
     (record { refusal = 0; number = suc b.admitted }, with_packet b a)
@@ -117,14 +117,14 @@ end_stands : (steps : ℕ) (b : Bus) (arrivals : List Arrival) → Standing b �
 end_stands zero b arrivals h = h
 end_stands (suc steps) b arrivals h =
     let x = admit_due b arrivals in
-    end_stands steps (step x.bus).1 x.arrivals (step_stands x.bus (due-stands arrivals b h).0)
+    end_stands steps (step x.bus).1 x.arrivals (step_stands x.bus (due_stands arrivals b h).0)
 
 -- its waits are below 2 ^ 32
 waits_below : (steps : ℕ) (b : Bus) (arrivals : List Arrival) → Standing b → longest_wait (answers_of steps b arrivals) < 4_294_967_296
 waits_below zero b arrivals h = omega arith
 waits_below (suc steps) b arrivals h =
     let x = admit_due b arrivals in
-    let stands = (due-stands arrivals b h).0 in
+    let stands = (due_stands arrivals b h).0 in
     longer_below
     (wait_in (step x.bus).0)
     (longest_wait (answers_of steps (step x.bus).1 x.arrivals))
@@ -181,10 +181,10 @@ fits input = go (reading input) (sound input)
         (waits_below steps (set_up r).1 arrivals h)
 
 -- the packets sent are the successes among the answers
-pub sent-are-successes :
+pub sent_are_successes :
     (input : List ℕ) (r : Request) (arrivals : List Arrival) (steps : ℕ) → reading input ≡ accepted r arrivals steps
     → (measured input).run.sent ≡ count succeeded (answers_of steps (set_up r).1 arrivals)
-sent-are-successes input r arrivals steps e =
+sent_are_successes input r arrivals steps e =
     let fine : (set_up r).0.refusal ≡ 0 = (subst (Sound input) e (sound input)).0 in
     let start : (set_up r).1.sent ≡ 0 = ap (λ (b : Bus). b.sent) (accepted_set_up r fine) in
     ap (λ (y : Reading). (measured_of y).run.sent) e ∙ omega (arith, sent_counted steps (set_up r).1 arrivals, start)
@@ -197,4 +197,4 @@ nothing_sent input = go (reading input) refl
     go (refused number offset) is none = refl
     go (accepted r arrivals steps) is none =
         none_waits (answers_of steps (set_up r).1 arrivals)
-        (sym (sent-are-successes input r arrivals steps is) ∙ ap (λ (y : Reading). (measured_of y).run.sent) is ∙ none)
+        (sym (sent_are_successes input r arrivals steps is) ∙ ap (λ (y : Reading). (measured_of y).run.sent) is ∙ none)

@@ -54,11 +54,11 @@ module _ (input : List ℕ) (at steps longest : ℕ) (r : Run) where
   After c = Left c.state c.taken c.left c.reports
 
   -- and so what there was before them, where they are those of a stretch of the run
-  after-runs :
+  after_runs :
       (b : Bus) (arrivals : List Arrival) (c : Course) → Runs b arrivals steps c
       → ArrivalsAt input (at + arrival_bytes * c.taken) (drop c.taken arrivals) → After c
       → r ≡ run_of (end_of steps b arrivals) (longer longest (longest_wait (answers_of steps b arrivals)))
-  after-runs b arrivals c runs past later =
+  after_runs b arrivals c runs past later =
       let rest = answers_of c.left runs.bus (drop c.taken arrivals) in
       later runs.bus (drop c.taken arrivals) runs.stands runs.state past
       ∙ ap₂ run_of
@@ -68,17 +68,17 @@ module _ (input : List ℕ) (at steps longest : ℕ) (r : Run) where
 
   after_stretch : (s : State) → After (stretch_on input s at steps) → Finishes input s at steps longest r
   after_stretch s later b arrivals h is here =
-      after-runs b arrivals (stretch_on input (form b) at steps)
+      after_runs b arrivals (stretch_on input (form b) at steps)
       (stretch_runs input b at steps arrivals h here)
       (stretch_past input b at steps arrivals h here)
       (subst (λ (t : State). After (stretch_on input t at steps)) is later)
 
   -- the same, of the stretch that the code hands back
-  pub one-stretch :
+  pub one_stretch :
       (s : State) (x : Stretch) → x ≡ stretch_form (stretch_on input s at steps)
       → Left x.state x.taken x.left (take x.made x.reports)
       → Finishes input s at steps longest r
-  one-stretch s x is later =
+  one_stretch s x is later =
       let c = stretch_on input s at steps in
       after_stretch s
       (subst
@@ -87,10 +87,10 @@ module _ (input : List ℕ) (at steps longest : ℕ) (r : Run) where
       (subst (λ (y : Stretch). Left y.state y.taken y.left (take y.made y.reports)) is later))
 
 -- the turns that are left fall
-pub turns-fall :
+pub turns_fall :
     (input : List ℕ) (s : State) (at steps : ℕ) (x : Stretch) → x ≡ stretch_form (stretch_on input s at steps) → 0 < steps
     → x.left + (length input - (at + arrival_bytes * x.taken)) < steps + (length input - at)
-turns-fall input s at steps x is some = go steps refl
+turns_fall input s at steps x is some = go steps refl
   where
     go : (n : ℕ) → steps ≡ n → x.left + (length input - (at + arrival_bytes * x.taken)) < steps + (length input - at)
     go zero e = absurd (omega arith)
@@ -148,10 +148,10 @@ module _ (input : List ℕ) (x : Scenario) (is : x ≡ scenario_form (reading in
       go (accepted r arrivals steps) e = absurd (bears (ap (λ (s : Scenario). s.refusal) e))
 
   -- one that is accepted, with the run that finishes it from its set-up on
-  pub accepted-measured :
+  pub accepted_measured :
       (run : Run) → x.refusal ≡ 0 → Finishes input x.state x.at x.steps 0 run
       → record { refusal = 0; offset = 0; run = run } ≡ measured input
-  accepted-measured run fine finishes = go (reading input) (sound input) is
+  accepted_measured run fine finishes = go (reading input) (sound input) is
     where
       go : (y : Reading) → Sound input y → x ≡ scenario_form y → record { refusal = 0; offset = 0; run = run } ≡ measured_of y
       go (refused number offset) bears e = absurd (bears (sym (ap (λ (s : Scenario). s.refusal) e) ∙ fine))

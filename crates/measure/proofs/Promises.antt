@@ -21,10 +21,10 @@ pub fits : (input : List ℕ) → Fits (measured input).run
 fits = Counted.fits
 
 -- the packets sent are the successes among the answers, over which the longest wait is taken
-pub sent-are-successes :
+pub sent_are_successes :
     (input : List ℕ) (r : Request) (arrivals : List Arrival) (steps : ℕ) → reading input ≡ accepted r arrivals steps
     → (measured input).run.sent ≡ count succeeded (answers_of steps (set_up r).1 arrivals)
-sent-are-successes = Counted.sent-are-successes
+sent_are_successes = Counted.sent_are_successes
 
 -- a run in which nothing was sent has no wait
 pub nothing_sent : (input : List ℕ) → (measured input).run.sent ≡ 0 → (measured input).run.wait ≡ 0

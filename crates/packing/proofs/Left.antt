@@ -9,7 +9,7 @@ use lib.ListN.{length, get_or, take, drop, length-take, length-append}
 use lib.Seq.{drop-cons, get_or-take}
 use Rattle.text.specs.Room.{room_bytes, stored, past}
 use Rattle.text.specs.Parts.{roomy}
-use Rattle.text.proofs.Stores.{past_fits, stored_fits, past_not, stored_not, past_then, stored-then}
+use Rattle.text.proofs.Stores.{past_fits, stored_fits, past_not, stored_not, past_then, stored_then}
 use Rattle.rules.specs.SetUp.{Request}
 use Rattle.state.specs.declared.Arrival.{Arrival}
 use Rattle.scenario.specs.Format.{set_up_kind}
@@ -41,21 +41,21 @@ left_less {now = now} {next = next} x rest left said =
     record {
       fits = omega (arith, said.0, past_fits next x (omega arith));
       offset = rw said.0 (past_then next x rest h ∙ left.offset);
-      room = ap₂ (λ (l : List ℕ) n. stored l n rest) said.1 said.0 ∙ stored-then now next x rest h ∙ left.room;
+      room = ap₂ (λ (l : List ℕ) n. stored l n rest) said.1 said.0 ∙ stored_then now next x rest h ∙ left.room;
     }
 
 -- the last part
-pub left-last :
+pub left_last :
     {before : List ℕ} {at : ℕ} {text now : List ℕ} {next : ℕ} {rest : List ℕ} {later : ℕ} {after : List ℕ} → Left before at text now next rest
     → (later ≡ past next rest) × (after ≡ stored now next rest) → (later ≡ past at text) × (after ≡ stored before at text)
-left-last left said = (said.0 ∙ left.offset, said.1 ∙ left.room)
+left_last left said = (said.0 ∙ left.offset, said.1 ∙ left.room)
 
 -- nothing
 pub left_none :
     {before : List ℕ} {at : ℕ} {text now : List ℕ} {next : ℕ} → Left before at text now next []
     → (next ≡ past at text) × (now ≡ stored before at text)
 left_none {now = now} {next = next} left =
-    left-last left (sym (past_fits next [] left.fits ∙ add-zero next), sym (stored_fits now next [] left.fits))
+    left_last left (sym (past_fits next [] left.fits ∙ add-zero next), sym (stored_fits now next [] left.fits))
 
 -- what is left of the first so many elements from a place on: the element there, and what is left from the next place on
 pub next-left :
@@ -70,14 +70,14 @@ next-left row n i d h =
 -- ---- a whole scenario
 
 -- its set-up, its stations and its ending, each stored past the one before, are the whole, which fits
-pub whole-stored :
+pub whole_stored :
     (room : List ℕ) (at : ℕ) (r : Request) (arrivals : List Arrival) (steps : ℕ) {m n o : ℕ} {a b c : List ℕ}
     → roomy at (length (written r arrivals steps))
     → (m ≡ past at (record_bytes set_up_kind (set_up_values r))) × (a ≡ stored room at (record_bytes set_up_kind (set_up_values r)))
     → (n ≡ past m (stations_bytes r.row)) × (b ≡ stored a m (stations_bytes r.row))
     → (o ≡ past n (ending_bytes arrivals steps)) × (c ≡ stored b n (ending_bytes arrivals steps))
     → (o ≡ past at (written r arrivals steps)) × (c ≡ stored room at (written r arrivals steps))
-whole-stored room at r arrivals steps h first second third =
+whole_stored room at r arrivals steps h first second third =
     let all = left_all room at (written r arrivals steps) h in
     let listed = left_less (record_bytes set_up_kind (set_up_values r)) (stations_bytes r.row ++ ending_bytes arrivals steps) all first in
-    left-last (left_less (stations_bytes r.row) (ending_bytes arrivals steps) listed second) third
+    left_last (left_less (stations_bytes r.row) (ending_bytes arrivals steps) listed second) third

@@ -48,19 +48,19 @@ stations_size = Sizes.stations_size
 pub ending_size : (arrivals : List Arrival) (steps : ℕ) → length (ending_bytes arrivals steps) ≡ 16 * length arrivals + 6
 ending_size = Sizes.ending_size
 
-pub written-size :
+pub written_size :
     (r : Request) (arrivals : List Arrival) (steps : ℕ)
     → length (written r arrivals steps) ≡ 16 + 8 * length r.row + 16 * length arrivals + 6
-written-size = Sizes.written-size
+written_size = Sizes.written_size
 
 -- ---- a whole scenario
 
 -- its set-up, its stations and its ending, each stored past the one before, are the whole, which fits
-pub whole-stored :
+pub whole_stored :
     (room : List ℕ) (at : ℕ) (r : Request) (arrivals : List Arrival) (steps : ℕ) {m n o : ℕ} {a b c : List ℕ}
     → at + length (written r arrivals steps) ≤ room_bytes
     → (m ≡ past at (record_bytes set_up_kind (set_up_values r))) × (a ≡ stored room at (record_bytes set_up_kind (set_up_values r)))
     → (n ≡ past m (stations_bytes r.row)) × (b ≡ stored a m (stations_bytes r.row))
     → (o ≡ past n (ending_bytes arrivals steps)) × (c ≡ stored b n (ending_bytes arrivals steps))
     → (o ≡ past at (written r arrivals steps)) × (c ≡ stored room at (written r arrivals steps))
-whole-stored = Left.whole-stored
+whole_stored = Left.whole_stored

@@ -29,10 +29,10 @@ pub arrived_size : (arrivals : List Arrival) (count steps : ℕ) → length (end
 arrived_size arrivals count steps = ending_size (take count arrivals) steps ∙ ap (λ k. 16 * k + 6) (length-take count arrivals)
 
 -- a whole scenario
-pub written-size :
+pub written_size :
     (r : Request) (arrivals : List Arrival) (steps : ℕ)
     → length (written r arrivals steps) ≡ 16 + 8 * length r.row + 16 * length arrivals + 6
-written-size r arrivals steps =
+written_size r arrivals steps =
     omega (
       arith,
       length-append (stations_bytes r.row) (ending_bytes arrivals steps),

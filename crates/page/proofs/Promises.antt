@@ -12,10 +12,10 @@ use Rattle.page.proofs.Told as Told
 use Rattle.page.proofs.Examples as Examples
 
 -- what a function puts at the start of the room is in it, and the room stays as long as it is
-pub text-within :
+pub text_within :
     (x a : List ℕ) {b : List ℕ} {n : ℕ} → room_bytes ≡ length a → (n ≡ length x) × ((b ≡ room_with x a) × (n ≤ room_bytes))
     → (room_bytes ≡ length b) × (n ≤ length b)
-text-within = Told.text-within
+text_within = Told.text_within
 
 -- the page of docs/SHEET.md, byte for byte
 pub page_holds : page_says ≡ page_bytes

@@ -15,7 +15,7 @@ use lib.Seq.{take_all, take-suc, length-take-le}
 use Rattle.text.specs.Text.{decimal, fields}
 use Rattle.text.specs.Room.{room_bytes, stored, past, room_with}
 use Rattle.text.specs.Parts.{Told}
-use Rattle.text.proofs.Stores.{told-stored, sets_start, room_kept}
+use Rattle.text.proofs.Stores.{told_stored, sets_start, room_kept}
 use Rattle.sheet.specs.contracts.Sheet as sheet-row
 use Rattle.sheet.specs.declared.Run.{Run}
 use Rattle.sheet.specs.declared.Sheet.{Sheet}
@@ -27,24 +27,24 @@ use Rattle.page.specs.declared.Entry.TheVariants as Has
 pub told_here :
     (room : List ℕ) (at : ℕ) (text : List ℕ) {next : ℕ} {after : List ℕ} → at + length text ≤ room_bytes
     → (next ≡ past at text) × (after ≡ stored room at text) → Told room after at next text (length text)
-told_here room at text h said = told-stored room at text (length text) h (omega arith) said
+told_here room at text h said = told_stored room at text (length text) h (omega arith) said
 
 -- a text that was told, with another bound on its length
 pub told_few : {a b : List ℕ} {at n : ℕ} {x : List ℕ} {p q : ℕ} → Told a b at n x p → length x ≤ q → Told a b at n x q
 told_few told h = record { room = told.room; past = told.past; few = h }
 
 -- a text that was told at the start of the room is over its start, and fits the room
-pub told-start :
+pub told_start :
     {a b : List ℕ} {n : ℕ} {x : List ℕ} {p : ℕ} → p ≤ room_bytes → Told a b 0 n x p
     → (n ≡ length x) × ((b ≡ room_with x a) × (n ≤ room_bytes))
-told-start {a} {b} {n} {x} h told =
+told_start {a} {b} {n} {x} h told =
     (omega (arith, told.past), (told.room ∙ sets_start a x, omega (arith, told.past, told.few)))
 
 -- the room stays as long as it is, so that the text is in it
-pub text-within :
+pub text_within :
     (x a : List ℕ) {b : List ℕ} {n : ℕ} → room_bytes ≡ length a → (n ≡ length x) × ((b ≡ room_with x a) × (n ≤ room_bytes))
     → (room_bytes ≡ length b) × (n ≤ length b)
-text-within x a {b} long said =
+text_within x a {b} long said =
     let kept : length b ≡ length a = ap length said.1.0 ∙ room_kept x a in (omega arith, omega (arith, said.1.1))
 
 -- a number is shown whole
@@ -70,10 +70,10 @@ rows_more place (x ∷ runs) r =
     (λ n. (line_text (Has.Run x) (place_text place) ++ rows_text (suc place) runs) ++ line_text (Has.Run r) (place_text n))
     (omega arith)
 
-pub rows-turn :
+pub rows_turn :
     (runs : List Run) (i : ℕ) → i < length runs
     → rows_text 0 (take (i + 1) runs) ≡ rows_text 0 (take i runs) ++ line_text (Has.Run (get_or runs i no_run)) (place_text i)
-rows-turn runs i h =
+rows_turn runs i h =
     ap (λ (l : List Run). rows_text 0 l) (ap (λ n. take n runs) (add-one i) ∙ take-suc runs i no_run h)
     ∙ rows_more 0 (take i runs) (get_or runs i no_run)
     ∙ ap

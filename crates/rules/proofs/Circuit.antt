@@ -23,12 +23,12 @@ use Rattle.rules.specs.Demands.{contenders_at, Ahead, Least, most_probes, wins, 
 use Rattle.rules.proofs.Laws.{true-and, among_none, among_right, all_cons, all_nil, keep_all, keep_from, count_some, map_into, map-map, map_same}
 use Rattle.rules.proofs.Offers.{ChosenOf, chosen_first}
 use Rattle.rules.proofs.Numbers.{same_apart}
-use Rattle.rules.proofs.Contenders.{contender_from, contender_into, joined_alike, same_address, same-capability}
+use Rattle.rules.proofs.Contenders.{contender_from, contender_into, joined_alike, same_address, same_capability}
 use Rattle.rules.proofs.Enabled.{Enabled, opened_enabled}
 use Rattle.rules.proofs.Standing.{SetUpStands, set_up_stands}
 use Rattle.rules.proofs.Keeps.{opened_stands, opened_contention, opened_same}
 use Rattle.rules.proofs.Least.{Cleared, least_wins}
-use Rattle.rules.proofs.Probes.{Crowded, probes_left, contender_stands, probes_left_some, rival, unwon-empty}
+use Rattle.rules.proofs.Probes.{Crowded, probes_left, contender_stands, probes_left_some, rival, unwon_empty}
 use Rattle.rules.proofs.Round.{above}
 
 -- ---- the oldest packet is the one offered
@@ -54,15 +54,15 @@ abbrev pub foremost : List Packet → Packet → Packet
 foremost [] p = p
 foremost (q ∷ ahead) p = q
 
-foremost-chosen :
+foremost_chosen :
     (m : ℕ) (ahead : List Packet) (p : Packet) (rest : List Packet) → Rising 0 m (ahead ++ (p ∷ rest)) → choice RTVC (ahead ++ (p ∷ rest)) ≡ some (foremost ahead p)
-foremost-chosen m [] p rest h = oldest_chosen 0 m p rest h
-foremost-chosen m (q ∷ ahead) p rest h = oldest_chosen 0 m q (ahead ++ (p ∷ rest)) h
+foremost_chosen m [] p rest h = oldest_chosen 0 m p rest h
+foremost_chosen m (q ∷ ahead) p rest h = oldest_chosen 0 m q (ahead ++ (p ∷ rest)) h
 
 -- once it has left its queue, those after it are left, since their numbers are above its own
-foremost-leaves :
+foremost_leaves :
     (n m : ℕ) (q : Packet) (queue : List Packet) → Rising n m (q ∷ queue) → keep (λ r. not (eqb q.number r.number)) (q ∷ queue) ≡ queue
-foremost-leaves n m q queue h =
+foremost_leaves n m q queue h =
     rw (eq-eqb q.number q.number refl)
     (keep_all (λ r. not (eqb q.number r.number)) queue (λ r i.
     let l = above_all q.number m queue h.1 r i in
@@ -169,7 +169,7 @@ module _ (row : List Asked) (D : ℕ) (s : Station) (p : Packet) where
       chooses =
           ap (λ d. choice d (in_time b w.station)) w.by_circuit
           ∙ ap (choice RTVC) on_time
-          ∙ foremost-chosen b.admitted ahead p w.rest rises
+          ∙ foremost_chosen b.admitted ahead p w.rest rises
 
       offered :
           sits_out RTVC b.last s.capability ≡ false
@@ -210,11 +210,11 @@ module _ (row : List Asked) (D : ℕ) (s : Station) (p : Packet) where
       }
 
   -- once a contention has ended: f is what becomes of the stations, and leaves the circuit p and those ahead of it still
-  pub waits-ended :
+  pub waits_ended :
       {ahead : List Packet} (ahead' : List Packet) (b b' : Bus) (f : Station → Station) (w : Waits row D s p ahead b) → b'.discipline ≡ b.discipline
       → b'.D ≡ b.D → b'.stations ≡ map f b.stations → b'.contention ≡ none → ((t : Station) → asked (f t) ≡ asked t)
       → (f w.station).queue ≡ ahead' ++ (p ∷ w.rest) → Waits row D s p ahead' b'
-  waits-ended ahead' b b' f w d D' ss c keeps q =
+  waits_ended ahead' b b' f w d D' ss c keeps q =
       record {
         by_circuit = d ∙ w.by_circuit;
         space = D' ∙ w.space;
@@ -229,12 +229,12 @@ module _ (row : List Asked) (D : ℕ) (s : Station) (p : Packet) where
       }
 
   waits_unwon : {ahead : List Packet} (b : Bus) → Waits row D s p ahead b → Waits row D s p ahead (unwon b)
-  waits_unwon {ahead} b w = waits-ended ahead b (unwon b) withdrawn w refl refl refl refl (λ t. refl) w.queue
+  waits_unwon {ahead} b w = waits_ended ahead b (unwon b) withdrawn w refl refl refl refl (λ t. refl) w.queue
 
   -- another circuit has won
   waits_won : {ahead : List Packet} (b : Bus) (x : Contender) → ¬ (x.address ≡ s.address) → Waits row D s p ahead b → Waits row D s p ahead (won b x)
   waits_won {ahead} b x other w =
-      waits-ended
+      waits_ended
       ahead
       b
       (won b x)
@@ -255,7 +255,7 @@ module _ (row : List Asked) (D : ℕ) (s : Station) (p : Packet) where
       {q : Packet} {ahead : List Packet} (b : Bus) (x : Contender) → Standing b → x.address ≡ s.address → x.packet ≡ q
       → Waits row D s p (q ∷ ahead) b → Waits row D s p ahead (won b x)
   waits_after {q} {ahead} b x h own sent w =
-      waits-ended
+      waits_ended
       ahead
       b
       (won b x)
@@ -270,7 +270,7 @@ module _ (row : List Asked) (D : ℕ) (s : Station) (p : Packet) where
       (λ t. cond t (keep (λ r. not (eqb x.packet.number r.number)) w.station.queue) w.station.queue)
       (eq-eqb x.address w.station.address (own ∙ sym w.address))
       ∙ ap₂ (λ (y : Packet) (queue : List Packet). keep (λ r. not (eqb y.number r.number)) queue) sent w.queue
-      ∙ foremost-leaves
+      ∙ foremost_leaves
       0
       b.admitted
       q
@@ -389,7 +389,7 @@ module _ (row : List Asked) (D : ℕ) (s : Station) (p : Packet) where
           not_laxity e = let y : ◌≡◌ {A = ℕ} 2 1 = ap code (sym w.by_circuit ∙ e) in omega arith
 
           k : (probes_left b ≡ most_probes b.discipline (exponent_of b.D) (exponent_of b.A)) × (contenders_at b ≡ [])
-          k = unwon-empty b h crowded not_laxity ended unheard-event
+          k = unwon_empty b h crowded not_laxity ended unheard-event
 
           go : (t : Bool) → sits_out RTVC b.last s.capability ≡ t → t ≡ true
           go true e = refl
@@ -429,7 +429,7 @@ module _ (row : List Asked) (D : ℕ) (s : Station) (p : Packet) where
               one : x.capability ≡ mine.capability → x.address ≡ s.address
               one e =
                   ap (λ (y : Contender). y.address)
-                  (same-capability (opened b).bus.stations (apart.capabilities_apart wo.by_circuit) i (contends_too out) e)
+                  (same_capability (opened b).bus.stations (apart.capabilities_apart wo.by_circuit) i (contends_too out) e)
                   ∙ wo.address
 
           -- two probes were left, or another circuit is above it

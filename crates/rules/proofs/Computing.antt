@@ -140,10 +140,10 @@ pair_same same same' p k = same p.0 _ ∙ same' p.1 _
 pub computed_replies : (E : Engine) (bring : Brings (List Reply) E.State) → Same bring → (s : E.State) (calls : List Call)
     → computed E bring s calls ≡ replies E s calls
 computed_replies E bring same s [] = refl
-computed_replies E bring same s (admission a ∷ calls) = same s _ ∙ ap (λ rest. reply E s (admission a) ∷ rest) (computed_replies E bring same _ calls)
-computed_replies E bring same s (one-begin ∷ calls) = same s _ ∙ ap (λ rest. reply E s one-begin ∷ rest) (computed_replies E bring same _ calls)
-computed_replies E bring same s (one-probe ∷ calls) = same s _ ∙ ap (λ rest. reply E s one-probe ∷ rest) (computed_replies E bring same _ calls)
-computed_replies E bring same s (one-step ∷ calls) = same s _ ∙ ap (λ rest. reply E s one-step ∷ rest) (computed_replies E bring same _ calls)
+computed_replies E bring same s (admission a ∷ calls) = same s _ ∙ ap (λ rest. reply E s (admission a) ∷ rest) (computed_replies E bring same (next E s (admission a)) calls)
+computed_replies E bring same s (one-begin ∷ calls) = same s _ ∙ ap (λ rest. reply E s one-begin ∷ rest) (computed_replies E bring same (next E s one-begin) calls)
+computed_replies E bring same s (one-probe ∷ calls) = same s _ ∙ ap (λ rest. reply E s one-probe ∷ rest) (computed_replies E bring same (next E s one-probe) calls)
+computed_replies E bring same s (one-step ∷ calls) = same s _ ∙ ap (λ rest. reply E s one-step ∷ rest) (computed_replies E bring same (next E s one-step) calls)
 
 -- `closed` is `closing`, after the calls
 pub closed_closing : (E : Engine) (bring : Brings Totals E.State) → Same bring → (s : E.State) (calls : List Call)

@@ -43,6 +43,7 @@ contender_from {x} (s ∷ stations) i = go s.offer refl i (contender_from statio
     go (some o) e j more = first o e (among_cases j) more
 
 pub contender_into : {s : Station} {o : Offer} (stations : List Station) → Among s stations → s.offer ≡ some o → Among (contender_of s o) (contenders stations)
+contender_into {s} {o} [] i offered = elim i [ ]
 contender_into {s} {o} (t ∷ stations) (at_head e) offered =
     rw (sym (ap (λ (u : Station). u.offer) e) ∙ offered) (at_head (ap (λ (u : Station). contender_of u o) e))
 contender_into {s} {o} (t ∷ stations) (in_tail i) offered = go t.offer (contender_into stations i offered)
@@ -112,9 +113,9 @@ pub one_address : (n : ℕ) (stations : List Station) → Distinct (map (λ s. s
 one_address = one_number (λ s. s.address) (λ x. x.address) (λ s o. refl)
 
 -- the same of capabilities
-pub one-capability :
+pub one_capability :
     (n : ℕ) (stations : List Station) → Distinct (map (λ s. s.capability) stations) → count (λ x. eqb x.capability n) (contenders stations) ≤ 1
-one-capability = one_number (λ s. s.capability) (λ x. x.capability) (λ s o. refl)
+one_capability = one_number (λ s. s.capability) (λ x. x.capability) (λ s o. refl)
 
 -- Where no two stations share a number that the contender carries on, two contenders of one number are one.
 same_number :
@@ -135,7 +136,7 @@ pub same_address :
     → x.address ≡ y.address → x ≡ y
 same_address = same_number (λ s. s.address) (λ x. x.address) (λ s o. refl)
 
-pub same-capability :
+pub same_capability :
     {x y : Contender} (stations : List Station) → Distinct (map (λ s. s.capability) stations) → Among x (contenders stations) → Among y (contenders stations)
     → x.capability ≡ y.capability → x ≡ y
-same-capability = same_number (λ s. s.capability) (λ x. x.capability) (λ s o. refl)
+same_capability = same_number (λ s. s.capability) (λ x. x.capability) (λ s o. refl)

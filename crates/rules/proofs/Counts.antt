@@ -26,7 +26,7 @@ use Rattle.rules.proofs.Tests.{told as stood}
 use Rattle.rules.proofs.Standing.{stands_exactly}
 use Rattle.rules.proofs.Keeps.{opened_same}
 use Rattle.rules.proofs.Step.{heard_drops}
-use Rattle.rules.proofs.Reach.{outcome, refused_nothing, reached_stands, standing_reached, replies-agree, closing-agrees}
+use Rattle.rules.proofs.Reach.{outcome, refused_nothing, reached_stands, standing_reached, replies_agree, closing_agrees}
 
 -- from b to b' the counts and the clock rise by what the replies say
 pub record Rise (b b' : Bus) (rs : List Reply) : Type 0 where
@@ -80,7 +80,7 @@ nothing_rises b r a s l t c = record { in_admitted = omega arith; in_sent = omeg
 -- a packet turned away is counted, up to the stop
 turned_rise : (b : Bus) (n : ℕ) → ¬ (n ≡ 0) → turns_away n ≡ true → Rise b (turned_away b) (admitted (record { refusal = n; number = 0 }) ∷ [])
 turned_rise b n z e =
-    let none-admitted : adds_admitted (admitted (record { refusal = n; number = 0 })) ≡ 0 = rw (ne_eqb n 0 z) in
+    let none_admitted : adds_admitted (admitted (record { refusal = n; number = 0 })) ≡ 0 = rw (ne_eqb n 0 z) in
     let one : adds_turned (admitted (record { refusal = n; number = 0 })) ≡ 1 = rw e in
     record {
       in_admitted = omega arith;
@@ -160,7 +160,7 @@ machine_counts r calls =
     record { balance = omega arith; admitted = omega arith; sent = omega arith; lost = omega arith; turned = omega arith; clock = omega arith }
 
 pub counts_are_true : (E : Engine) → Demand2 E → CountsAreTrue E
-counts_are_true E d r calls = subst (Counted (reach machine r calls)) (sym (replies-agree E d r [] calls)) (machine_counts r calls)
+counts_are_true E d r calls = subst (Counted (reach machine r calls)) (sym (replies_agree E d r [] calls)) (machine_counts r calls)
 
 -- ---- what a listing closes with
 
@@ -182,9 +182,9 @@ pub closes_as_counted : (E : Engine) → Demand2 E → ClosesAsCounted E
 closes_as_counted E d =
     record {
       accepted = λ r calls z.
-          closing-agrees E d r calls
+          closing_agrees E d r calls
           ∙ ap (λ t. cond t (totals (reach machine r calls)) (refused_totals 1))
           (stood (stands_exactly (reach machine r calls)) (reached_stands r calls (sym (ap (λ v. v.refusal) (d.set_ups r)) ∙ z)))
           ∙ closed (reach machine r calls) _ (counts_are_true E d r calls);
-      refused = λ r calls n. closing-agrees E d r calls ∙ ap closing_call (refused_nothing r calls (λ z. n (ap (λ v. v.refusal) (d.set_ups r) ∙ z)));
+      refused = λ r calls n. closing_agrees E d r calls ∙ ap closing_call (refused_nothing r calls (λ z. n (ap (λ v. v.refusal) (d.set_ups r) ∙ z)));
     }

@@ -24,7 +24,7 @@ use Rattle.rules.specs.Demands.{Demand2, slots_of, most_slots, fewer_slots, cont
 use Rattle.rules.proofs.Laws.{clash, or-false, bit_most, among_right, map_into}
 use Rattle.rules.proofs.Reach.{answers_agree}
 use Rattle.rules.proofs.Probes.{probes_left, halved_once, probes_left_some, probes_fall}
-use Rattle.rules.proofs.Round.{wins_left, idles_left, spare_left, wins_left_some, wins_most, own-wins, own_again, other-wins, idle-ends, spare-paid}
+use Rattle.rules.proofs.Round.{wins_left, idles_left, spare_left, wins_left_some, wins_most, own_wins, own_again, other_wins, idle_ends, spare_paid}
 use Rattle.rules.proofs.Circuit.{circuits_of, Waits, Turn, goes_on, its_own, earlier, anothers, nobodys, takes_part}
 use Rattle.rules.proofs.Turns.{Sound, sound_reached, left_at_begin, waits_first, Holds, any_calls}
 
@@ -85,10 +85,10 @@ module _ {L mine : ℕ} {says : Answer → Bool} where
       }
 
   -- a refused call: it takes no slot and ends no contention
-  within-refused :
+  within_refused :
       {w i spare left : ℕ} (n : ℕ) (said : List Answer) → ¬ (n ≡ 0) → says (refused_answer n) ≡ false → Within L mine says w i spare left said
       → Within L mine says w i spare left (refused_answer n ∷ said)
-  within-refused n said z e k =
+  within_refused n said z e k =
       record {
         contentions = rw e (omega (arith, k.contentions));
         idle_ones = rw e (omega (arith, k.idle_ones));
@@ -105,29 +105,29 @@ module _ {L mine : ℕ} {says : Answer → Bool} where
       within_more a said e (rw ended (omega arith)) (rw ended (omega arith)) (λ P m. rw (ne_eqb a.event success event) (omega arith))
 
   -- another circuit's success
-  within-other :
+  within_other :
       {w i spare left w' i' spare' : ℕ} (a : Answer) (said : List Answer) → says a ≡ false → a.ended ≡ 1 → a.event ≡ success → suc w' ≤ w → i' ≤ i
       → suc (i' + spare) ≤ i + left + spare' → Within L mine says w' i' spare' (2 * L) said → Within L mine says w i spare left (a ∷ said)
-  within-other {w} {i} {spare} {left} {w'} {i'} {spare'} a said e ended event fewer idles hs =
+  within_other {w} {i} {spare} {left} {w'} {i'} {spare'} a said e ended event fewer idles hs =
       within_more a said e (rw ended (omega arith)) (rw (ended, event) (omega arith)) (λ P m.
       let k = mul-le-mul_right (2 * L - 1 + P) fewer in
       let q = suc-mul w' (2 * L - 1 + P) in
       rw event (omega arith))
 
   -- an idle contention: one probe
-  within-idle :
+  within_idle :
       {w i spare w' i' spare' : ℕ} (a : Answer) (said : List Answer) → 1 ≤ L → says a ≡ false → a.ended ≡ 1 → a.event ≡ idle → w' ≤ w → suc i' ≤ i
       → w' + spare ≤ w + spare' → Within L mine says w' i' spare' (2 * L) said → Within L mine says w i spare (2 * L) (a ∷ said)
-  within-idle {w} {i} {spare} {w'} {i'} {spare'} a said halved e ended event wins fewer hs =
+  within_idle {w} {i} {spare} {w'} {i'} {spare'} a said halved e ended event wins fewer hs =
       within_more a said e (rw ended (omega arith)) (rw (ended, event) (omega arith)) (λ P m.
       let k = takes_more (2 * L - 1 + P) wins (omega arith) in
       rw event (omega arith))
 
   -- the answer that says it
-  within-said :
+  within_said :
       {w i spare left : ℕ} (a : Answer) (said : List Answer) → says a ≡ true → a.ended ≡ 1 → a.event ≡ success → 1 ≤ w → suc spare ≤ i + left
       → Within L mine says w i spare left (a ∷ said)
-  within-said {w} {i} {spare} {left} a said e ended event hw hs =
+  within_said {w} {i} {spare} {left} a said e ended event hw hs =
       record {
         contentions = rw (e, ended) (omega arith);
         idle_ones = rw (e, event, ended) (omega arith);
@@ -161,44 +161,44 @@ module _ (row : List Asked) (D : ℕ) (s : Station) (p : Packet) (own : Among s.
   others_says a h = rw (ne_eqb a.address s.address h, and-false (eqb a.event success))
 
   -- after a probe that ended a contention all 2L probes are left
-  next-begins :
+  next_begins :
       {ahead : List Packet} (b : Bus) (said : List Answer) {last : Option ℕ} → b.last ≡ last → b.contention ≡ none → Waits row D s p ahead b
       → Keeping ahead b.last (probes_left b) said → Keeping ahead last (2 * exponent_of D) said
-  next-begins {ahead} b said e c w k =
+  next_begins {ahead} b said e c w k =
       subst (λ l. Keeping ahead l (2 * exponent_of D) said) e
       (subst (λ n. Keeping ahead b.last n said) (left_at_begin b D w.by_circuit w.space c) k)
 
   -- one probe, and the answers after it
-  keeping-probe :
+  keeping_probe :
       {ahead : List Packet} (b : Bus) (said : List Answer) → Sound b → Turn row D s p b (probe (opened b)) ahead
       → ((before : List Packet) → Waits row D s p before (probe (opened b)).1
       → Keeping before (probe (opened b)).1.last (probes_left (probe (opened b)).1) said)
       → Keeping ahead b.last (probes_left b) ((probe (opened b)).0 ∷ said)
-  keeping-probe {ahead} b said h (goes_on ended event last w') more =
+  keeping_probe {ahead} b said h (goes_on ended event last w') more =
       within_on (probe (opened b)).0 said (unsent_says (probe (opened b)).0 event) ended event (probes_fall b h.standing ended)
       (subst (λ l. Keeping ahead l (probes_left (probe (opened b)).1) said) last (more ahead w'))
-  keeping-probe b said h (its_own ended event it out two) more =
-      let k = own-wins (circuits_of row) s.capability b.last (probes_left b) out (probes_left_some b h.standing h.crowded) two in
-      within-said (probe (opened b)).0 said it ended event (omega (arith, wins_left_some (circuits_of row) s.capability own b.last)) (omega arith)
-  keeping-probe b said h (earlier {q} {ahead} ended event own-win it out two last c w') more =
+  keeping_probe b said h (its_own ended event it out two) more =
+      let k = own_wins (circuits_of row) s.capability b.last (probes_left b) out (probes_left_some b h.standing h.crowded) two in
+      within_said (probe (opened b)).0 said it ended event (omega (arith, wins_left_some (circuits_of row) s.capability own b.last)) (omega arith)
+  keeping_probe b said h (earlier {q} {ahead} ended event own-win it out two last c w') more =
       let again = own_again (circuits_of row) s.capability in
-      let k = own-wins (circuits_of row) s.capability b.last (probes_left b) out (probes_left_some b h.standing h.crowded) two in
+      let k = own_wins (circuits_of row) s.capability b.last (probes_left b) out (probes_left_some b h.standing h.crowded) two in
       let l = wins_left_some (circuits_of row) s.capability own b.last in
       let m = suc-mul (length ahead) (length (circuits_of row)) in
-      within-other (probe (opened b)).0 said it ended event (omega arith) (omega arith) (omega arith)
-      (next-begins (probe (opened b)).1 said last c w' (more _ w'))
-  keeping-probe b said h (anothers ended event at other last i out below two c w') more =
-      let fewer = other-wins (circuits_of row) s.capability b.last (map_into (λ t. t.capability) row i) out below in
+      within_other (probe (opened b)).0 said it ended event (omega arith) (omega arith) (omega arith)
+      (next_begins (probe (opened b)).1 said last c w' (more _ w'))
+  keeping_probe b said h (anothers ended event at other last i out below two c w') more =
+      let fewer = other_wins (circuits_of row) s.capability b.last (map_into (λ t. t.capability) row i) out below in
       let k = fewer.2 (probes_left b) (probes_left_some b h.standing h.crowded) two in
-      within-other (probe (opened b)).0 said (others_says (probe (opened b)).0 (λ e. other (sym at ∙ e))) ended event
+      within_other (probe (opened b)).0 said (others_says (probe (opened b)).0 (λ e. other (sym at ∙ e))) ended event
       (omega (arith, fewer.0)) (omega (arith, fewer.1)) (omega arith)
-      (next-begins (probe (opened b)).1 said last c w' (more _ w'))
-  keeping-probe {ahead} b said h (nobodys ended event all out last c' w') more =
-      let fewer = idle-ends (circuits_of row) s.capability b.last out in
+      (next_begins (probe (opened b)).1 said last c w' (more _ w'))
+  keeping_probe {ahead} b said h (nobodys ended event all out last c' w') more =
+      let fewer = idle_ends (circuits_of row) s.capability b.last out in
       let unsent = unsent_says (probe (opened b)).0 (λ e. let y : ◌≡◌ {A = ℕ} 0 2 = sym event ∙ e in omega arith) in
       subst (λ n. Keeping ahead b.last n ((probe (opened b)).0 ∷ said)) (sym all)
-      (within-idle (probe (opened b)).0 said halved unsent ended event (omega (arith, fewer.0)) (omega (arith, fewer.1)) (omega (arith, fewer.2))
-      (next-begins (probe (opened b)).1 said last c' w' (more _ w')))
+      (within_idle (probe (opened b)).0 said halved unsent ended event (omega (arith, fewer.0)) (omega (arith, fewer.1)) (omega (arith, fewer.2))
+      (next_begins (probe (opened b)).1 said last c' w' (more _ w')))
 
   -- no call yet
   keeping_none : {ahead : List Packet} (b : Bus) → Sound b → Waits row D s p ahead b → Keeping ahead b.last (probes_left b) []
@@ -206,11 +206,11 @@ module _ (row : List Asked) (D : ℕ) (s : Station) (p : Packet) (own : Among s.
       let one = probes_left_some b h.standing h.crowded in
       let two = takes_part row D s p b h.standing h.crowded h.enabled w in
       let l = wins_left_some (circuits_of row) s.capability own b.last in
-      let k = spare-paid (circuits_of row) s.capability own b.last (probes_left b) one two in
+      let k = spare_paid (circuits_of row) s.capability own b.last (probes_left b) one two in
       within_none halved (omega arith) (omega arith) some_slots
 
   keeping : Holds row D s p Keeping
-  keeping = record { at-end = keeping_none; at-refusal = λ n said z k. within-refused n said z refl k; at_probe = keeping-probe }
+  keeping = record { at-end = keeping_none; at_refusal = λ n said z k. within_refused n said z refl k; at_probe = keeping_probe }
 
 -- ---- the demand
 
@@ -220,11 +220,11 @@ never_fails true h = refl
 never_fails false h = absurd (h refl)
 
 -- what is kept within, of N circuits and j packets
-ends-sooner :
+ends_sooner :
     (N j : ℕ) {L w i spare : ℕ} {s : Station} {p : Packet} {said : List Answer} → w ≤ j * N → i ≤ j → w + i ≤ j * N + spare → 1 ≤ L
     → Within L p.length (sends s p) w i spare (2 * L) said
     → EndsWithin (contentions_for j N) (idle_for j) (slots_for j fewer_slots N L) s p said
-ends-sooner N j {L} {w} {i} {spare} {s} {p} {said} wins idles most halved k =
+ends_sooner N j {L} {w} {i} {spare} {s} {p} {said} wins idles most halved k =
     record {
       contentions = omega (arith, k.contentions, mul-suc j N);
       idle_ones = omega (arith, k.idle_ones);
@@ -241,10 +241,10 @@ ends-sooner N j {L} {w} {i} {spare} {s} {p} {said} wins idles most halved k =
         omega (arith, takes_more (2 * L - 1 + P) wins (omega arith))
 
 -- a looser bound
-ends-later :
+ends_later :
     {n n' idles idles' : ℕ} {most most' : ℕ → ℕ} {s : Station} {p : Packet} {said : List Answer} → n ≤ n' → idles ≤ idles' → ((P : ℕ) → most P ≤ most' P)
     → EndsWithin n idles most s p said → EndsWithin n' idles' most' s p said
-ends-later {s = s} {p = p} {said = said} hn hi hm k =
+ends_later {s = s} {p = p} {said = said} hn hi hm k =
     record {
       contentions = omega (arith, k.contentions);
       idle_ones = omega (arith, k.idle_ones);
@@ -273,7 +273,7 @@ module _ (b : Bus) (sound : Sound b) (later : List Call) (s : Station) (ahead : 
   all_circuits : length (circuits_of row) ≡ length b.stations
   all_circuits = length-map row (λ t. t.capability) ∙ length-map b.stations asked
 
-  sooner-at :
+  sooner_at :
       EndsWithin
       (contentions_for (place ahead) (length b.stations))
       (idle_for (place ahead))
@@ -281,7 +281,7 @@ module _ (b : Bus) (sound : Sound b) (later : List Call) (s : Station) (ahead : 
       s
       p
       (answers machine b later)
-  sooner-at =
+  sooner_at =
       let most = wins_most (circuits_of row) s.capability b.last in
       let one = bit_most (sits_out RTVC b.last s.capability) in
       let m = suc-mul (length ahead) (length (circuits_of row)) in
@@ -295,11 +295,11 @@ module _ (b : Bus) (sound : Sound b) (later : List Call) (s : Station) (ahead : 
       p
       (answers machine b later))
       all_circuits
-      (ends-sooner (length (circuits_of row)) (place ahead) (omega arith) (omega arith) (omega arith) (halved_once b sound.standing) kept)
+      (ends_sooner (length (circuits_of row)) (place ahead) (omega arith) (omega arith) (omega arith) (halved_once b sound.standing) kept)
 
 -- the machine itself: a slot fewer for each packet than j times demand 3's bound,
 sooner_in_turn_machine : InTurn fewer_slots machine
-sooner_in_turn_machine r calls later s ahead p h = sooner-at (reach machine r calls) (sound_reached r calls h.by_circuit) later s ahead p h
+sooner_in_turn_machine r calls later s ahead p h = sooner_at (reach machine r calls) (sound_reached r calls h.by_circuit) later s ahead p h
 
 -- for every engine that meets demand 2
 pub sooner_in_turn : (E : Engine) → Demand2 E → InTurn fewer_slots E
@@ -309,11 +309,11 @@ sooner_in_turn E meets r calls later =
 -- so j times demand 3's bound itself,
 pub in_turn : (E : Engine) → Demand2 E → InTurn most_slots E
 in_turn E meets r calls later s ahead p h =
-    ends-later (omega arith) (omega arith) (λ P. mul-le-mul_left (place ahead) (omega arith)) (sooner_in_turn E meets r calls later s ahead p h)
+    ends_later (omega arith) (omega arith) (λ P. mul-le-mul_left (place ahead) (omega arith)) (sooner_in_turn E meets r calls later s ahead p h)
 
 -- and, with no packet ahead, demand 3
 in_turn_first : (bound : ℕ → ℕ → ℕ → ℕ) (E : Engine) → InTurn bound E → (r : Request) (calls later : List Call) → Serves bound (reach machine r calls) (answers E (reach E r calls) later)
-in_turn_first bound E holds r calls later s p h = ends-later (omega arith) (omega arith) (λ P. omega arith) (holds r calls later s [] p h)
+in_turn_first bound E holds r calls later s p h = ends_later (omega arith) (omega arith) (λ P. omega arith) (holds r calls later s [] p h)
 
 pub demand3 : (E : Engine) → Demand2 E → Demand3 E
 demand3 E meets = in_turn_first most_slots E (in_turn E meets)

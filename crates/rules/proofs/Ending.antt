@@ -15,12 +15,12 @@ use Rattle.rules.specs.Step.{is_under_way, begin_call, probe_call}
 use Rattle.rules.specs.Engine.{machine, Call, admission, one-begin, one-probe, one-step, probed, reply, next, after}
 use Rattle.rules.specs.WrongEngines.{round_ended, round_over, ending_round, is_top, top_sent}
 use Rattle.rules.proofs.Laws.{clash, and-true, each_view}
-use Rattle.rules.proofs.Keeps.{amended-stands}
-use Rattle.rules.proofs.Step.{step-alike}
+use Rattle.rules.proofs.Keeps.{amended_stands}
+use Rattle.rules.proofs.Step.{step_alike}
 use Rattle.rules.proofs.Reach.{stays_so, nothing_next}
 use Rattle.rules.proofs.Probes.{CrowdedBy}
 use Rattle.rules.proofs.Least.{ClearedBy}
-use Rattle.rules.proofs.Circuit.{Waits, waits-ended}
+use Rattle.rules.proofs.Circuit.{Waits, waits_ended}
 use Rattle.rules.proofs.Turns.{Sound}
 
 -- a round is over only between contentions, and only where no circuit is above the last winner
@@ -66,18 +66,18 @@ module _ (over : Bus → Bool) (top : TopOnly over) where
       ended : b.contention ≡ none → Sound (round_ended b)
       ended e =
           record {
-            standing = amended-stands b b.clock none b.contention h.standing (le_refl _) h.standing.clock_in tt (λ z. z) h.standing.window;
+            standing = amended_stands b b.clock none b.contention h.standing (le_refl _) h.standing.clock_in tt (λ z. z) h.standing.window;
             crowded = subst (CrowdedBy (round_ended b)) (sym e) tt;
             cleared = subst (ClearedBy (round_ended b)) (sym e) tt;
             enabled = λ x i. not_out b.discipline x.capability;
           }
 
   -- a circuit that waits goes on waiting
-  pub over-waits :
+  pub over_waits :
       {row : List Asked} {D : ℕ} {s : Station} {p : Packet} {ahead : List Packet} {b : Bus} → Waits row D s p ahead b → Waits row D s p ahead (round_over over b)
-  over-waits {row} {D} {s} {p} {ahead} {b} w =
+  over_waits {row} {D} {s} {p} {ahead} {b} w =
       either over (Waits row D s p ahead) b w (λ e.
-      waits-ended row D s p ahead b (round_ended b) (λ t. t) w refl refl (sym (map-id b.stations)) (top b e).0 (λ t. refl) w.queue)
+      waits_ended row D s p ahead b (round_ended b) (λ t. t) w refl refl (sym (map-id b.stations)) (top b e).0 (λ t. refl) w.queue)
 
   -- ---- a call
 
@@ -104,7 +104,7 @@ module _ (over : Bus → Bool) (top : TopOnly over) where
   call_over b one-probe = record { replied = refl; test = over; test_top = top; state = refl }
   call_over b one-step =
       let k =
-      step-alike (ending_round over) machine PerhapsOver b b (unchanged b) (refl, perhaps_over (probe_call b).1) refl
+      step_alike (ending_round over) machine PerhapsOver b b (unchanged b) (refl, perhaps_over (probe_call b).1) refl
       (refl, perhaps_over (probe_call (begin_call b).1).1) in
       record { replied = ap probed k.0; test = k.1.0; test_top = k.1.1; state = k.1.2 }
 

@@ -90,11 +90,11 @@ admissions_alike b [] = alike_same b
 admissions_alike b (a ∷ arrivals) = alike_both (admitted_alike b a) (admissions_alike (admit b a).1 arrivals)
 
 -- their answers are no probes'
-admissions-silent :
+admissions_silent :
     (b : Bus) (arrivals : List Arrival) (later : List Call)
     → answers machine b (map admission arrivals ++ later) ≡ answers machine (after machine b (map admission arrivals)) later
-admissions-silent b [] later = refl
-admissions-silent b (a ∷ arrivals) later = admissions-silent (admit b a).1 arrivals later
+admissions_silent b [] later = refl
+admissions_silent b (a ∷ arrivals) later = admissions_silent (admit b a).1 arrivals later
 
 -- ---- a probe
 
@@ -134,10 +134,10 @@ module _ (b b' : Bus) (h : Alike b b') where
   both_stand e e' =
       told (stands_exactly (probe_call b).1) (keeps_standing.probe b e) ∙ sym (told (stands_exactly (probe_call b').1) (keeps_standing.probe b' e'))
 
-  probed-same :
+  probed_same :
       (m : Option Contention) → ¬ (m ≡ none) → stands (probed_in b m).1 ≡ stands (probed_in b' m).1 → Together (probed_in b m) (probed_in b' m)
-  probed-same none n standing = absurd (n refl)
-  probed-same (some c) n standing =
+  probed_same none n standing = absurd (n refl)
+  probed_same (some c) n standing =
       let o = open_under_way b c in
       let o' = open_under_way b' c in
       let same =
@@ -167,15 +167,15 @@ module _ (b b' : Bus) (h : Alike b b') where
           let standing =
           both_stand (ap (λ (r : Answer × Bus). r.0.refusal) is ∙ probed_number b ok) (ap (λ (r : Answer × Bus). r.0.refusal) (second e) ∙ probed_number b' ok') in
           subst₂ Together (sym is) (sym is')
-          (probed-same b.contention (probe_accepted b ok).0
+          (probed_same b.contention (probe_accepted b ok).0
           (subst₂ (λ (r r' : Answer × Bus). stands r.1 ≡ stands r'.1) is is' standing))
       go false e = subst₂ Together (sym (ap (result b) e)) (sym (second e)) (ap refused_answer same_refusal, λ goes. h)
 
 -- so many probes
-probes-together :
+probes_together :
     (n : ℕ) (b b' : Bus) → Alike b b' → of_contention (answers machine b (replicate n one-probe)) ≡ of_contention (answers machine b' (replicate n one-probe))
-probes-together zero b b' h = refl
-probes-together (suc n) b b' h = go (eqb (probe_call b).0.ended 1) refl (probe_together b b' h) (probes-together n (probe_call b).1 (probe_call b').1)
+probes_together zero b b' h = refl
+probes_together (suc n) b b' h = go (eqb (probe_call b).0.ended 1) refl (probe_together b b' h) (probes_together n (probe_call b).1 (probe_call b').1)
   where
     rest : Bus → List Answer
     rest m = of_contention (answers machine m (replicate n one-probe))
@@ -198,6 +198,6 @@ pub nobody_joins : (E : Engine) → Demand2 E → NobodyJoins E
 nobody_joins E d r calls arrivals n =
     let b = reach machine r calls in
     ap of_contention (answers_agree E d r calls (map admission arrivals ++ replicate n one-probe))
-    ∙ ap of_contention (admissions-silent b arrivals (replicate n one-probe))
-    ∙ sym (probes-together n b (after machine b (map admission arrivals)) (admissions_alike b arrivals))
+    ∙ ap of_contention (admissions_silent b arrivals (replicate n one-probe))
+    ∙ sym (probes_together n b (after machine b (map admission arrivals)) (admissions_alike b arrivals))
     ∙ sym (ap of_contention (answers_agree E d r calls (replicate n one-probe)))

@@ -30,7 +30,7 @@ use Rattle.rules.proofs.TurnedAway.{turns_whether, within, turned_standing, turn
 use Rattle.rules.proofs.Tests.{told}
 use Rattle.rules.proofs.Refusals.{hands_back}
 use Rattle.rules.proofs.Laws.{and-true, or-false, among_left, among_append, all_cons, all_nil, keep_from, all_map, map_into, map_same, map-map, total_map, total_parts, count_some, kept_failed, total_none, total_count}
-use Rattle.rules.proofs.Numbers.{one_apart, same_apart, held, times, times_once, none-twice-kept, rising_suc, rising-append, rising_none, Fewer, fewer_all, fewer_keep, joined_waiting, joined-none-twice}
+use Rattle.rules.proofs.Numbers.{one_apart, same_apart, held, times, times_once, none_twice_kept, rising_suc, rising_append, rising_none, Fewer, fewer_all, fewer_keep, joined_waiting, joined_none_twice}
 use Rattle.rules.proofs.Standing.{SetUpStands, set_up_stands, accepted_set_up, AdmissionAccepted, accepted_admission, admission_accepted, admit_is, accepted_begin, begin_accepted, begin_is, accepted_probe, probe_accepted, probe_step, accepted_step, step_accepted, step_is}
 use Rattle.rules.proofs.Contenders.{contender_from}
 
@@ -52,18 +52,18 @@ passes_kept b f same h =
     rw (length-map b.stations f, row) h.passes
 
 -- a last winner, where each station has its capability
-last-kept :
+last_kept :
     (f : Station → Station) → ((s : Station) → asked (f s) ≡ asked s) → (stations : List Station) (d : Discipline) (last : Option ℕ)
     → LastStands d stations last → LastStands d (map f stations) last
-last-kept f same stations d none h = tt
-last-kept f same stations PRI (some c) h = h
-last-kept f same stations RTDG (some c) h = h
-last-kept f same stations RTVC (some c) h = (f h.0, map_into f stations h.1, h.2 ∙ sym (ap (λ r. r.capability) (same h.0)))
+last_kept f same stations d none h = tt
+last_kept f same stations PRI (some c) h = h
+last_kept f same stations RTDG (some c) h = h
+last_kept f same stations RTVC (some c) h = (f h.0, map_into f stations h.1, h.2 ∙ sym (ap (λ r. r.capability) (same h.0)))
 
 -- a packet, where the discipline and D are the same and the clock has not gone back
-packet-kept :
+packet_kept :
     (b b' : Bus) → b'.discipline ≡ b.discipline → b'.D ≡ b.D → b.clock ≤ b'.clock → (p : Packet) → PacketStands b p → PacketStands b' p
-packet-kept b b' d D on p h =
+packet_kept b b' d D on p h =
     record { value = rw (d, D) h.value; least = h.least; most = h.most; admission = omega (arith, on, h.admission) }
 
 -- a window and a tied value, where D and A are the same
@@ -76,14 +76,14 @@ contention_kept b b' D A (some c) h = go c.tie h
     go (some v) w = rw (D, A) w
 
 -- an offer, where the discipline, D and the capability are the same, its packet is still in the queue and a contention still under way
-offer-kept :
+offer_kept :
     (b b' : Bus) → b'.discipline ≡ b.discipline → b'.D ≡ b.D → (s s' : Station) → s'.capability ≡ s.capability
     → All (λ p. Among p s'.queue) s.queue → (c c' : Option Contention) → (c' ≡ none → c ≡ none) → (o : Option Offer)
     → OfferStands b s c o → OfferStands b' s' c' o
-offer-kept b b' d D s s' same more c c' still none h = tt
-offer-kept b b' d D s s' same more none c' still (some o) h = absurd h
-offer-kept b b' d D s s' same more (some c) none still (some o) h = let z : ◌≡◌ {A = ℕ} 0 1 = cc (still refl) in absurd (omega arith)
-offer-kept b b' d D s s' same more (some c) (some c') still (some o) h = (more o.packet h.0, rw D h.1, rw d (fits b.discipline h.2))
+offer_kept b b' d D s s' same more c c' still none h = tt
+offer_kept b b' d D s s' same more none c' still (some o) h = absurd h
+offer_kept b b' d D s s' same more (some c) none still (some o) h = let z : ◌≡◌ {A = ℕ} 0 1 = cc (still refl) in absurd (omega arith)
+offer_kept b b' d D s s' same more (some c) (some c') still (some o) h = (more o.packet h.0, rw D h.1, rw d (fits b.discipline h.2))
   where
     fits : (d : Discipline) → ParameterFits d s o → ParameterFits d s' o
     fits PRI k = k
@@ -111,12 +111,12 @@ moved b f clock sent lost last contention =
 
 -- Such a bus stands, if its clock, counts, offers, last winner and window are in order.
 module _ (b : Bus) (f : Station → Station) (clock sent lost : ℕ) (last : Option ℕ) (c : Option Contention) where
-  moved-stands :
+  moved_stands :
       Standing b → ((s : Station) → asked (f s) ≡ asked s) → ((s : Station) → Fewer s.queue (f s).queue) → b.clock ≤ clock → clock ≤ clock_end
       → waiting b.stations + (b.sent + b.lost) ≡ waiting (map f b.stations) + (sent + lost)
       → All (λ s. OfferStands (moved b f clock sent lost last c) (f s) c (f s).offer) b.stations → LastStands b.discipline (map f b.stations) last
       → ContentionStands b c → Standing (moved b f clock sent lost last c)
-  moved-stands h same fewer on t balance offers won w =
+  moved_stands h same fewer on t balance offers won w =
       record {
         passes = passes_kept b f same h;
         clock_in = t;
@@ -129,10 +129,10 @@ module _ (b : Bus) (f : Station → Station) (clock sent lost : ℕ) (last : Opt
             record {
               room = omega (arith, was.room, (fewer s).room);
               rises = (fewer s).rises b.admitted was.rises;
-              packets = λ p j. packet-kept b (moved b f clock sent lost last c) refl refl on p (was.packets p ((fewer s).packets p j));
+              packets = λ p j. packet_kept b (moved b f clock sent lost last c) refl refl on p (was.packets p ((fewer s).packets p j));
               offered = offers s i;
             });
-        none_twice = none-twice-kept f b.stations (λ s i. (fewer s).numbers) h.none_twice;
+        none_twice = none_twice_kept f b.stations (λ s i. (fewer s).numbers) h.none_twice;
         winner_last_stands = won;
         window = contention_kept b (moved b f clock sent lost last c) refl refl c w;
       }
@@ -158,15 +158,15 @@ offer_fits PRI b s p = refl
 offer_fits RTDG b s p = tt
 offer_fits RTVC b s p = refl
 
-parameter-below :
+parameter_below :
     (b : Bus) (s : Station) (p : Packet) → SetUpStands b → Among s b.stations → PacketStands b p → (d : Discipline) → b.discipline ≡ d
     → parameter_of d b s p < b.D
-parameter-below b s p h i k PRI e = subst (λ (d : Discipline). ValueFits d b.D p.value) e k.value
-parameter-below b s p h i k RTDG e = capped _ b.D h.d_least
+parameter_below b s p h i k PRI e = subst (λ (d : Discipline). ValueFits d b.D p.value) e k.value
+parameter_below b s p h i k RTDG e = capped _ b.D h.d_least
   where
     capped : (n D : ℕ) → 2 ≤ D → min n (D - 1) < D
     capped n D l = omega arith
-parameter-below b s p h i k RTVC e = h.capabilities_in e s i
+parameter_below b s p h i k RTVC e = h.capabilities_in e s i
 
 -- what a station offers stands
 offers_stand : (b : Bus) → Standing b → All (λ s. OfferStands (begin b) (entered b s) (some (opening b)) (entered b s).offer) b.stations
@@ -185,7 +185,7 @@ offers_stand b h s i = go (choice b.discipline (in_time b s)) refl
         then true = tt
         then false =
             let stands = (h.each_station s i).packets p (keep_from _ s.queue found).0 in
-            (found, parameter-below b s p (set_up_stands b h) i stands b.discipline refl, offer_fits b.discipline b s p)
+            (found, parameter_below b s p (set_up_stands b h) i stands b.discipline refl, offer_fits b.discipline b s p)
 
 -- what is dropped was waiting
 dropped : (b : Bus) → waiting b.stations ≡ waiting (map (entered b) b.stations) + drops_of b
@@ -198,9 +198,9 @@ dropped b =
 -- a contention begins with the first window of D
 pub begin_stands : (b : Bus) → Standing b → Standing (begin b)
 begin_stands b h =
-    moved-stands b (entered b) b.clock b.sent (b.lost + drops_of b) b.last (some (opening b)) h (λ s. refl)
+    moved_stands b (entered b) b.clock b.sent (b.lost + drops_of b) b.last (some (opening b)) h (λ s. refl)
     (λ s. fewer_keep _ s.queue) (le_refl _) h.clock_in (omega (arith, dropped b)) (offers_stand b h)
-    (last-kept (entered b) (λ s. refl) b.stations b.discipline b.last h.winner_last_stands) (placed_first b.D)
+    (last_kept (entered b) (λ s. refl) b.stations b.discipline b.last h.winner_last_stands) (placed_first b.D)
 
 -- the bus that a step probes stands, and has its contention under way
 pub opened_stands : (b : Bus) → Standing b → Standing (opened b).bus
@@ -253,18 +253,18 @@ sender b c x h e i =
     }
 
 -- the stations and counts stay as they are
-pub amended-stands :
+pub amended_stands :
     (b : Bus) (clock : ℕ) (last : Option ℕ) (c : Option Contention) → Standing b → b.clock ≤ clock → clock ≤ clock_end
     → LastStands b.discipline b.stations last → (c ≡ none → b.contention ≡ none) → ContentionStands b c → Standing (amended clock last c b)
-amended-stands b clock last c h on t won still w =
+amended_stands b clock last c h on t won still w =
     rw (← (map-id b.stations))
-    (moved-stands b (λ s. s) clock b.sent b.lost last c h (λ s. refl) (λ s. fewer_all s.queue) on t (rw (map-id b.stations))
-    (λ s i. offer-kept b _ refl refl s s refl (λ p j. j) b.contention c still s.offer (h.each_station s i).offered)
-    (last-kept (λ s. s) (λ s. refl) b.stations b.discipline last won) w)
+    (moved_stands b (λ s. s) clock b.sent b.lost last c h (λ s. refl) (λ s. fewer_all s.queue) on t (rw (map-id b.stations))
+    (λ s i. offer_kept b (moved b (λ s. s) clock b.sent b.lost last c) refl refl s s refl (λ p j. j) b.contention c still s.offer (h.each_station s i).offered)
+    (last_kept (λ s. s) (λ s. refl) b.stations b.discipline last won) w)
 
 -- a contention goes on with another window
 goes_on_stands : (b : Bus) (c : Contention) → Standing b → b.clock ≤ last_slot → ContentionStands b (some c) → Standing (going_further b c)
-goes_on_stands b c h t w = amended-stands b (suc b.clock) b.last (some c) h (omega arith) (omega arith) h.winner_last_stands (λ e. cc) w
+goes_on_stands b c h t w = amended_stands b (suc b.clock) b.last (some c) h (omega arith) (omega arith) h.winner_last_stands (λ e. cc) w
 
 -- the window after a collision; a tie phase begins at size 1, so that the tied value is a transmitter's parameter
 split_stands : (b : Bus) (c : Contention) (x : Contender) → ContentionStands b (some c) → Sender b c x → ContentionStands b (some (split b c))
@@ -288,19 +288,19 @@ split_stands b c x w k = go (leb 2 c.window.size) refl c.tie w k.lies
     go false e (some v) w l = (w.0, placed_first b.A)
 
 -- the window after an idle left half
-right-stands :
+right_stands :
     (b : Bus) (w : Window) → w.side ≡ Left → (tie : Option ℕ) → WindowStands b (record { window = w; tie = tie }) tie
     → WindowStands b (record { window = move_right w; tie = tie }) tie
-right-stands b w e none h = placed_right b.D w h e
-right-stands b w e (some v) h = (h.0, placed_right b.A w h.1 e)
+right_stands b w e none h = placed_right b.D w h e
+right_stands b w e (some v) h = (h.0, placed_right b.A w h.1 e)
 
 -- nobody transmits
-unheard-stands :
+unheard_stands :
     (o : Open) → Standing o.bus → o.bus.clock ≤ last_slot → ContentionStands o.bus (some o.contention) → (side : Side)
     → o.contention.window.side ≡ side → Standing (unheard o side).1
-unheard-stands o h t w Left e = goes_on_stands o.bus _ h t (right-stands o.bus o.contention.window e o.contention.tie w)
-unheard-stands o h t w Right e =
-    moved-stands o.bus withdrawn (suc o.bus.clock) o.bus.sent o.bus.lost none none h (λ s. refl) (λ s. fewer_all s.queue) (omega arith)
+unheard_stands o h t w Left e = goes_on_stands o.bus _ h t (right_stands o.bus o.contention.window e o.contention.tie w)
+unheard_stands o h t w Right e =
+    moved_stands o.bus withdrawn (suc o.bus.clock) o.bus.sent o.bus.lost none none h (λ s. refl) (λ s. fewer_all s.queue) (omega arith)
     (omega arith) (rw (total_map held withdrawn o.bus.stations)) (λ s i. tt) tt tt
 
 -- one transmits: whether a station is its own, and what a queue has left if it is
@@ -343,7 +343,7 @@ module _ (b : Bus) (c : Contention) (x : Contender) (h : Standing b) (k : Sender
   won_stands : b.clock ≤ last_slot → Standing (won b x)
   won_stands t =
       let long = ((h.each_station k.station k.listed).packets x.packet k.queued).most in
-      moved-stands b (left x) (b.clock + x.packet.length) (suc b.sent) b.lost (last_winner b.discipline x) none h (λ s. refl)
+      moved_stands b (left x) (b.clock + x.packet.length) (suc b.sent) b.lost (last_winner b.discipline x) none h (λ s. refl)
       (λ s. fewer s (own x s)) (omega arith) (omega arith) (omega (arith, one_leaves)) (λ s i. tt) (winner_stands b.discipline) tt
     where
       fewer : (s : Station) (mine : Bool) → Fewer s.queue (remaining x s mine)
@@ -358,7 +358,7 @@ probe_stands o h e t = go (transmitters o.bus o.contention) (λ x i. sender o.bu
     window = subst (ContentionStands o.bus) e h.window
 
     go : (xs : List Contender) → All (Sender o.bus o.contention) xs → Standing (heard o xs).1
-    go [] k = unheard-stands o h t window o.contention.window.side refl
+    go [] k = unheard_stands o h t window o.contention.window.side refl
     go (x ∷ []) k = won_stands o.bus o.contention x h (k x (at_head refl)) t
     go (x ∷ y ∷ more) k =
         goes_on_stands o.bus (split o.bus o.contention) h t (split_stands o.bus o.contention x window (k x (at_head refl)))
@@ -371,7 +371,7 @@ module _ (b : Bus) (a : Arrival) (k : AdmissionAccepted b a) where
   packets_stand s i p j = go (among_append s.queue j)
     where
       go : Among p s.queue ⊎ Among p (new_packet b a ∷ []) → PacketStands (with_packet b a) p
-      go (inl old) = packet-kept b _ refl refl (le_refl _) p ((k.standing.each_station s i).packets p old)
+      go (inl old) = packet_kept b _ refl refl (le_refl _) p ((k.standing.each_station s i).packets p old)
       go (inr new) =
           all_cons (new_packet b a) (record { value = k.value; least = k.least; most = k.most; admission = le_refl _ })
           (all_nil (PacketStands (with_packet b a))) p new
@@ -382,17 +382,17 @@ module _ (b : Bus) (a : Arrival) (k : AdmissionAccepted b a) where
       let was = k.standing.each_station s i in
       record {
         room = omega (arith, length-append s.queue (new_packet b a ∷ []), k.room s i (eqb-true _ _ e));
-        rises = rising-append 0 b.admitted (new_packet b a) s.queue refl was.rises;
+        rises = rising_append 0 b.admitted (new_packet b a) s.queue refl was.rises;
         packets = packets_stand s i;
-        offered = offer-kept b _ refl refl s _ refl (λ p j. among_left _ j) b.contention b.contention (λ z. z) s.offer was.offered;
+        offered = offer_kept b (with_packet b a) refl refl s (queued (new_packet b a) s) refl (λ p j. among_left _ j) b.contention b.contention (λ z. z) s.offer was.offered;
       }
   joined_stands s i false e =
       let was = k.standing.each_station s i in
       record {
         room = was.room;
         rises = rising_suc 0 b.admitted s.queue was.rises;
-        packets = λ p j. packet-kept b _ refl refl (le_refl _) p (was.packets p j);
-        offered = offer-kept b _ refl refl s s refl (λ p j. j) b.contention b.contention (λ z. z) s.offer was.offered;
+        packets = λ p j. packet_kept b _ refl refl (le_refl _) p (was.packets p j);
+        offered = offer_kept b (with_packet b a) refl refl s s refl (λ p j. j) b.contention b.contention (λ z. z) s.offer was.offered;
       }
 
   -- one station is named, so that one packet more waits
@@ -410,8 +410,8 @@ module _ (b : Bus) (a : Arrival) (k : AdmissionAccepted b a) where
         turned_within = h.turned_within;
         counts = omega (arith, h.counts, joined_waiting b a b.stations);
         each_station = all_map (StationStands (with_packet b a)) (joined b a) b.stations (λ s i. joined_stands s i (named a s) refl);
-        none_twice = joined-none-twice b a b.stations most new h.none_twice;
-        winner_last_stands = last-kept (joined b a) same b.stations b.discipline b.last h.winner_last_stands;
+        none_twice = joined_none_twice b a b.stations most new h.none_twice;
+        winner_last_stands = last_kept (joined b a) same b.stations b.discipline b.last h.winner_last_stands;
         window = contention_kept b (with_packet b a) refl refl b.contention h.window;
       }
     where
@@ -438,9 +438,9 @@ turned_stands b h =
           record {
             room = was.room;
             rises = was.rises;
-            packets = λ p j. packet-kept b (turned_away b) refl refl (le_refl _) p (was.packets p j);
+            packets = λ p j. packet_kept b (turned_away b) refl refl (le_refl _) p (was.packets p j);
             offered =
-                offer-kept b (turned_away b) refl refl s s refl (λ p j. j) b.contention b.contention (λ z. z) s.offer was.offered;
+                offer_kept b (turned_away b) refl refl s s refl (λ p j. j) b.contention b.contention (λ z. z) s.offer was.offered;
           };
       none_twice = h.none_twice;
       winner_last_stands = h.winner_last_stands;

@@ -94,6 +94,7 @@ module _ {X : Type 0} where
       go false h j more = later (more j)
 
   pub keep_into : {y : X} (test : X → Bool) (xs : List X) → Among y xs → test y ≡ true → Among y (keep test xs)
+  keep_into {y} test [] i h = elim i [ ]
   keep_into {y} test (x ∷ xs) (at_head e) h = go (test x) (sym (ap test e) ∙ h)
     where
       go : (t : Bool) → t ≡ true → Among y (kept t x (keep test xs))
@@ -163,6 +164,7 @@ module _ {X : Type 0} where
 
   -- an element that passes the test is counted
   pub count_some : (test : X → Bool) {x : X} (xs : List X) → Among x xs → test x ≡ true → 1 ≤ count test xs
+  count_some test [] i h = elim i [ ]
   count_some test (y ∷ xs) (at_head e) h = let one = ap bit (sym (ap test e) ∙ h) in omega arith
   count_some test (y ∷ xs) (in_tail i) h = omega (arith, count_some test xs i h)
 
@@ -192,6 +194,7 @@ module _ {X : Type 0} where
 
   -- each term is at most the sum; a sum of no greater terms is no greater; a sum of nothings is nothing
   pub total_among : (f : X → ℕ) {x : X} (xs : List X) → Among x xs → f x ≤ total f xs
+  total_among f [] i = elim i [ ]
   total_among f (y ∷ xs) (at_head e) = let same = ap f e in omega arith
   total_among f (y ∷ xs) (in_tail i) = omega (arith, total_among f xs i)
 
@@ -212,6 +215,7 @@ module _ {X : Type 0} where
   pub count_less :
       (test test' : X → Bool) {k : X} (ks : List X) → All (λ n. test n ≡ true → test' n ≡ true) ks → Among k ks → test k ≡ false → test' k ≡ true
       → suc (count test ks) ≤ count test' ks
+  count_less test test' [] h i f t = elim i [ ]
   count_less test test' (n ∷ ks) h (at_head e) f t =
       let m = count_mono ks (λ j i. h j (in_tail i)) in
       let a : test n ≡ false = ap test (sym e) ∙ f in
@@ -247,6 +251,7 @@ module _ {X Y : Type 0} where
       go (inr j) more = let r = more j in (r.0, in_tail r.1, r.2)
 
   pub map_into : {x : X} (f : X → Y) (xs : List X) → Among x xs → Among (f x) (map f xs)
+  map_into f [] i = elim i [ ]
   map_into f (x ∷ xs) (at_head e) = at_head (ap f e)
   map_into f (x ∷ xs) (in_tail i) = in_tail (map_into f xs i)
 

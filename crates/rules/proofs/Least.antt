@@ -26,7 +26,7 @@ use Rattle.rules.specs.Engine.{Engine, machine, Call, reach}
 use Rattle.rules.specs.Demands.{Demand2, Ahead, contenders_at, StillAble, transmitters_at, Least, WinnerIsLeast, Heard, TrueEvents, NoFalseWin, EventsAreTrue, AddressesApart}
 use Rattle.rules.proofs.Laws.{clash, and-true, and-false, among_cases, among_none, keep_from, keep_into}
 use Rattle.rules.proofs.Standing.{set_up_stands}
-use Rattle.rules.proofs.Reach.{Keeps, answer-cases, reach_holds, standing_reached, answers_agree}
+use Rattle.rules.proofs.Reach.{Keeps, answer_cases, reach_holds, standing_reached, answers_agree}
 use Rattle.rules.proofs.Contenders.{contenders_admitted}
 
 -- no contender below the window: in the tie phase none of a smaller parameter, nor of the tied one and a smaller address
@@ -97,10 +97,10 @@ earlier_able RTVC slot x e = refl
 -- ---- one probe
 
 -- who is able to start transmits or is not below the window moved right
-heard-or-past :
+heard_or_past :
     (b : Bus) (c : Contention) → ClearedBy b (some c)
     → All (λ x. StillAble b x → Among x (transmitters b c) ⊎ NotBelow (move_right c.window) c.tie x) (contenders b.stations)
-heard-or-past b c k x i a = go (transmits b c x) refl
+heard_or_past b c k x i a = go (transmits b c x) refl
   where
     go : (t : Bool) → transmits b c x ≡ t → Among x (transmitters b c) ⊎ NotBelow (move_right c.window) c.tie x
     go true e = inl (keep_into (transmits b c) (contenders b.stations) i e)
@@ -119,7 +119,7 @@ probe_clears o k = go (transmitters o.bus o.contention) refl
     now = earlier_able o.bus.discipline o.bus.clock
 
     silent : (side : Side) → transmitters o.bus o.contention ≡ [] → Cleared (unheard o side).1
-    silent Left e = λ x i a. elim (heard-or-past o.bus o.contention k x i (now x a)) [ inl j ↦ absurd (among_none (subst (Among x) e j)) | inr h ↦ h ]
+    silent Left e = λ x i a. elim (heard_or_past o.bus o.contention k x i (now x a)) [ inl j ↦ absurd (among_none (subst (Among x) e j)) | inr h ↦ h ]
     silent Right e = tt
 
     go : (ts : List Contender) → transmitters o.bus o.contention ≡ ts → Cleared (heard o ts).1
@@ -164,10 +164,10 @@ silent_idle o Left = refl
 silent_idle o Right = refl
 
 -- a step that begins a contention probes the present slot, under the same discipline
-opened-able :
+opened_able :
     (b : Bus) (c : Option Contention) (x : Contender) → able (opened_by b c).bus.discipline (opened_by b c).bus.clock x ≡ able b.discipline b.clock x
-opened-able b none x = refl
-opened-able b (some c) x = refl
+opened_able b none x = refl
+opened_able b (some c) x = refl
 
 -- the one who transmits alone is least
 lone_least : (b : Bus) (x : Contender) → Cleared b → transmitters_at b ≡ x ∷ [] → Least b (sent_by (opened b) x)
@@ -175,11 +175,11 @@ lone_least b x k sent =
     record {
       winner = x;
       contends = from.0;
-      is_able = sym (opened-able b b.contention x) ∙ lies.1;
+      is_able = sym (opened_able b b.contention x) ∙ lies.1;
       address = refl;
       number = refl;
       length = refl;
-      least = λ y i a. behind y (heard-or-past now c cleared y i (opened-able b b.contention y ∙ a));
+      least = λ y i a. behind y (heard_or_past now c cleared y i (opened_able b b.contention y ∙ a));
     }
   where
     now : Bus
@@ -216,12 +216,12 @@ pub winner_is_least : (E : Engine) → Demand2 E → WinnerIsLeast E
 winner_is_least E d r calls c =
     let b = reach machine r calls in
     subst (All (λ a. a.event ≡ success → Least b a)) (sym (answers_agree E d r calls (c ∷ [])))
-    (answer-cases b (λ a. a.event ≡ success → Least b a) (λ n z won. absurd (omega arith)) (λ z. least_wins b (cleared_reached r calls)) c)
+    (answer_cases b (λ a. a.event ≡ success → Least b a) (λ n z won. absurd (omega arith)) (λ z. least_wins b (cleared_reached r calls)) c)
 
 -- by cases on those who transmit
 pub no_false_win : NoFalseWin
 no_false_win b =
-    answer-cases b (λ a. a.refusal ≡ 0 → Heard (length (transmitters_at b)) a.event) (λ n z e. absurd (z e))
+    answer_cases b (λ a. a.refusal ≡ 0 → Heard (length (transmitters_at b)) a.event) (λ n z e. absurd (z e))
     (λ z e. go (opened b) (transmitters_at b))
   where
     go : (o : Open) (ts : List Contender) → Heard (length ts) (heard o ts).0.event

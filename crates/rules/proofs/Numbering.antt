@@ -12,7 +12,7 @@ use Rattle.rules.specs.Step.{refused_begun, begun_answer, opened}
 use Rattle.rules.specs.Engine.{Engine, machine, Call, Reply, admitted, begun, probed, reply, next, replies}
 use Rattle.rules.specs.Demands.{Demand2, adds_admitted, numbers_answered, NumbersAreAnswers, QueuedAsAnswered}
 use Rattle.rules.proofs.Standing.{accepted_admission, admit_is}
-use Rattle.rules.proofs.Reach.{outcome, replies-agree}
+use Rattle.rules.proofs.Reach.{outcome, replies_agree}
 use Rattle.rules.proofs.Counts.{step_rise, fresh_zero}
 
 -- the numbers answered from a bus on: one more than it has admitted, and so on
@@ -59,7 +59,7 @@ machine_numbers r calls =
 
 pub numbers_are_answers : (E : Engine) → Demand2 E → NumbersAreAnswers E
 numbers_are_answers E meets r calls =
-    subst (λ rs. numbers_answered rs ≡ count_up 1 (total adds_admitted rs)) (sym (replies-agree E meets r [] calls)) (machine_numbers r calls)
+    subst (λ rs. numbers_answered rs ≡ count_up 1 (total adds_admitted rs)) (sym (replies_agree E meets r [] calls)) (machine_numbers r calls)
 
 -- the packet queued bears the number answered
 pub queued_as_answered : QueuedAsAnswered

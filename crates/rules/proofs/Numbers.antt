@@ -38,6 +38,7 @@ pub one_apart : {X : Type 0} (g : X → ℕ) (n : ℕ) (xs : List X) → Distinc
 one_apart g n xs h = rw (count_map (eqb n) g xs) at (distinct_counts n (map g xs) h)
 
 pub same_apart : {X : Type 0} (g : X → ℕ) {x y : X} (xs : List X) → Distinct (map g xs) → Among x xs → Among y xs → g x ≡ g y → x ≡ y
+same_apart g [] h i j same = elim i [ ]
 same_apart g (z ∷ xs) h (at_head e) (at_head e') same = e ∙ sym e'
 same_apart g (z ∷ xs) h (at_head e) (in_tail j) same = absurd (h.0 (subst (λ (n : ℕ). Among n (map g xs)) (sym same ∙ ap g e) (map_into g xs j)))
 same_apart g (z ∷ xs) h (in_tail i) (at_head e) same = absurd (h.0 (subst (λ (n : ℕ). Among n (map g xs)) (same ∙ ap g e) (map_into g xs i)))
@@ -63,10 +64,10 @@ pub times_once : (n : ℕ) {s : Station} (stations : List Station) → Distinct 
 times_once n stations h i = omega (arith, total_among (times n) stations i, count_numbers n stations, distinct_counts n (numbers stations) h)
 
 -- where each queue holds a number no more often than before, none stands twice that did not
-pub none-twice-kept :
+pub none_twice_kept :
     (f : Station → Station) (stations : List Station) → All (λ s. (n : ℕ) → times n (f s) ≤ times n s) stations → Distinct (numbers stations)
     → Distinct (numbers (map f stations))
-none-twice-kept f stations h d =
+none_twice_kept f stations h d =
     counts_distinct (numbers (map f stations)) (λ n.
     let before = count_numbers n stations in
     let sum = total_map (times n) f stations in
@@ -94,11 +95,11 @@ pub rising_suc : (before admitted : ℕ) (queue : List Packet) → Rising before
 rising_suc before admitted [] h = omega arith
 rising_suc before admitted (p ∷ queue) h = (h.0, rising_suc p.number admitted queue h.1)
 
-pub rising-append :
+pub rising_append :
     (before admitted : ℕ) (p : Packet) (queue : List Packet) → p.number ≡ suc admitted → Rising before admitted queue
     → Rising before (suc admitted) (queue ++ (p ∷ []))
-rising-append before admitted p [] e h = (omega arith, omega arith)
-rising-append before admitted p (p' ∷ queue) e h = (h.0, rising-append p'.number admitted p queue e h.1)
+rising_append before admitted p [] e h = (omega arith, omega arith)
+rising_append before admitted p (p' ∷ queue) e h = (h.0, rising_append p'.number admitted p queue e h.1)
 
 -- a queue that rises, rises to no less than it rises from
 rising_below : (before admitted : ℕ) (queue : List Packet) → Rising before admitted queue → before ≤ admitted
@@ -155,10 +156,10 @@ module _ (b : Bus) (a : Arrival) where
   joined_waiting stations = total_map held (joined b a) stations ∙ total_count _ _ (named a) stations (λ s i. joined-held s)
 
   -- its number was nowhere, so that no number stands twice now
-  pub joined-none-twice :
+  pub joined_none_twice :
       (stations : List Station) → count (named a) stations ≤ 1 → All (λ s. times (suc b.admitted) s ≡ 0) stations → Distinct (numbers stations)
       → Distinct (numbers (map (joined b a) stations))
-  joined-none-twice stations one new h =
+  joined_none_twice stations one new h =
       counts_distinct (numbers (map (joined b a) stations)) (λ n.
       let here = count_numbers n (map (joined b a) stations) in
       let sum = total_map (times n) (joined b a) stations in

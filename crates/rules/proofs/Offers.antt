@@ -6,12 +6,12 @@ use mathlib.Core.Bool.{Bool, true, false, not, cond}
 use mathlib.Core.Option.{Option, none, some}
 use mathlib.Core.List.{List, [], ◌∷◌}
 use native.Mathlib.Omega.{arith}
-use Rattle.rules.specs.Lists.{keep, Among, at_head, in_tail, All}
-use Rattle.rules.specs.Bus.{Discipline, PRI, RTDG, RTVC, Packet, late, Offer, Station, Bus}
+use Rattle.rules.specs.Lists.{Among, at_head, in_tail, All}
+use Rattle.rules.specs.Bus.{Discipline, PRI, RTDG, RTVC, Packet, late, Station, Bus}
 use Rattle.rules.specs.Conditions.{Late}
 use Rattle.rules.specs.Begin.{smaller, goes_before, chosen, choice, parameter_of, sits_out, offers, in_time}
-use Rattle.rules.specs.Demands.{Smaller, Before, SitsOut, Offered, OffersBy, OffersTheFirst}
-use Rattle.rules.proofs.Laws.{clash, among_none, all_cons, all_nil, keep_from, keep_into}
+use Rattle.rules.specs.Demands.{Smaller, Before, SitsOut, OffersBy, OffersTheFirst}
+use Rattle.rules.proofs.Laws.{clash, among_none, all_cons, keep_from, keep_into}
 use Rattle.rules.proofs.Tests.{Whether, holds, fails, stable, tells, told, negated, both, one_of, below, at_most, equal}
 use Rattle.rules.proofs.Standing.{late_whether}
 

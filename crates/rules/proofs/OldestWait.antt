@@ -56,10 +56,10 @@ module _ (s : Station) (p : Packet) where
     waited : a.slot ≡ p.admission.0 + a.wait
     ended : a.slot + a.length ≡ clock + slots
 
-  sent-now :
+  sent_now :
       (b : Bus) → Known b → step_refusal b ≡ 0 → sends s p (probe (opened b)).0 ≡ true
       → Ended b.clock (slots_of (probe (opened b)).0 + 0) (probe (opened b)).0
-  sent-now b k ok says =
+  sent_now b k ok says =
       let parts = and-true _ _ says in
       let won = eqb-true _ _ (and-true _ _ parts.0).0 in
       let h = success_names b ok won in
@@ -67,11 +67,11 @@ module _ (s : Station) (p : Packet) where
       record { waited = omega (arith, h.wait, since); ended = omega (arith, h.slot, sent_slots (opened b) won) }
 
   -- an answer, and those after it
-  ended-after :
+  ended_after :
       (clock clock' : ℕ) (x : Answer) (said : List Answer) → clock' ≡ clock + slots_of x → (sends s p x ≡ true → Ended clock (slots_of x + 0) x)
       → (a : Answer) → sends s p a ≡ true → (Among a (up_to (sends s p) said) → Ended clock' (slots_in (up_to (sends s p) said)) a)
       → Among a (up_to (sends s p) (x ∷ said)) → Ended clock (slots_in (up_to (sends s p) (x ∷ said))) a
-  ended-after clock clock' x said on now a says later i = go (sends s p x) refl (among_cases i)
+  ended_after clock clock' x said on now a says later i = go (sends s p x) refl (among_cases i)
     where
       rest : List Answer
       rest = up_to (sends s p) said
@@ -82,31 +82,31 @@ module _ (s : Station) (p : Packet) where
       go false e (inl same) = clash (ap (sends s p) (sym same) ∙ says) e
       go false e (inr j) = let h = later j in record { waited = h.waited; ended = omega (arith, h.ended) }
 
-  sent-ended :
+  sent_ended :
       (b : Bus) (later : List Call) → Known b → (a : Answer) → sends s p a ≡ true → Among a (up_to (sends s p) (answers machine b later))
       → Ended b.clock (slots_in (up_to (sends s p) (answers machine b later))) a
-  sent-ended b [] k a says = λ i. absurd (among_none i)
-  sent-ended b (c ∷ later) k a says =
+  sent_ended b [] k a says = λ i. absurd (among_none i)
+  sent_ended b (c ∷ later) k a says =
       outcome b
       (λ r b'.
       Known b' → Among a (up_to (sends s p) (probe_in r (answers machine b' later)))
       → Ended b.clock (slots_in (up_to (sends s p) (probe_in r (answers machine b' later)))) a)
       (record {
-        refuses = λ n z e k'. sent-ended b later k' a says;
-        turns = λ n z e k'. sent-ended (turned_away b) later k' a says;
-        admits = λ x z k'. sent-ended (with_packet b x) later k' a says;
-        refuses_begin = λ n z k'. sent-ended b later k' a says;
-        begins = λ z k'. sent-ended (begin b) later k' a says;
+        refuses = λ n z e k'. sent_ended b later k' a says;
+        turns = λ n z e k'. sent_ended (turned_away b) later k' a says;
+        admits = λ x z k'. sent_ended (with_packet b x) later k' a says;
+        refuses_begin = λ n z k'. sent_ended b later k' a says;
+        begins = λ z k'. sent_ended (begin b) later k' a says;
         refuses_probe = λ n z k'.
             let none : slots_of (refused_answer n) ≡ 0 = rw (ne_eqb n 0 z) in
-            ended-after b.clock b.clock (refused_answer n) (answers machine b later) (omega arith) (λ e. clash e refl) a says (sent-ended b later k' a says);
+            ended_after b.clock b.clock (refused_answer n) (answers machine b later) (omega arith) (λ e. clash e refl) a says (sent_ended b later k' a says);
         probes_one = λ z k'.
             let on = (step_rise b).in_clock in
-            ended-after b.clock (probe (opened b)).1.clock (probe (opened b)).0 (answers machine (probe (opened b)).1 later) (omega arith)
-            (sent-now b k z)
+            ended_after b.clock (probe (opened b)).1.clock (probe (opened b)).0 (answers machine (probe (opened b)).1 later) (omega arith)
+            (sent_now b k z)
             a
             says
-            (sent-ended (probe (opened b)).1 later k' a says);
+            (sent_ended (probe (opened b)).1 later k' a says);
       })
       c
       (known_next b c k)
@@ -126,7 +126,7 @@ known_reached s p r calls h =
 machine_in_turn : WaitInTurn machine
 machine_in_turn r calls later s ahead p h a i says =
     let held : Held p (reach machine r calls).stations = (s, h.listed, rw h.queue (among_right ahead (at_head refl))) in
-    let e = sent-ended s p (reach machine r calls) later (known_reached s p r calls held) a says i in
+    let e = sent_ended s p (reach machine r calls) later (known_reached s p r calls held) a says i in
     let slots = (sooner_in_turn machine demand2_machine r calls later s ahead p h).slots in
     let since : p.admission.0 ≤ (reach machine r calls).clock = go held (standing_reached r calls) in
     omega (arith, e.waited, e.ended)

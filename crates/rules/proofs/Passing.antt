@@ -26,11 +26,11 @@ use Rattle.rules.proofs.Numbers.{one_apart, held}
 use Rattle.rules.proofs.Standing.{set_up_stands, accepted_set_up}
 use Rattle.rules.proofs.Refusals.{probe_number}
 use Rattle.rules.proofs.Contenders.{joined_alike}
-use Rattle.rules.proofs.Reach.{outcome, accepted_or_nothing, after_more, replies-agree, answers_agree, steps_agree}
-use Rattle.rules.proofs.Round.{wins_left, idles_left, wins_most, other-wins, wins-stay, idle-ends}
+use Rattle.rules.proofs.Reach.{outcome, accepted_or_nothing, after_more, replies_agree, answers_agree, steps_agree}
+use Rattle.rules.proofs.Round.{wins_left, idles_left, wins_most, other_wins, wins_stay, idle_ends}
 use Rattle.rules.proofs.Circuit.{circuits_of, Waits, Turn, goes_on, its_own, earlier, anothers, nobodys}
 use Rattle.rules.proofs.Turns.{Sound, sound_reached, sound_next, waits_first, Holds, Everywhere, one_call}
-use Rattle.rules.proofs.Ending.{TopOnly, never, either, over_sound, over-waits, CallOver, call_over, nothing_stays}
+use Rattle.rules.proofs.Ending.{TopOnly, never, either, over_sound, over_waits, CallOver, call_over, nothing_stays}
 use Rattle.rules.proofs.Tallied.{Tells, Between, sent_next, tells_next}
 
 -- ---- while the circuit waits
@@ -59,12 +59,12 @@ module _ (row : List Asked) (D : ℕ) (s : Station) (p : Packet) where
       }
 
   -- an answer that is none, and those after it
-  passed-more :
+  passed_more :
       (a : Answer) (said : List Answer) {last last' : Option ℕ} → wins s.address a ≡ false
       → ((other : ℕ) → bit (wins other a) + wins_left (circuits_at other row) s.capability last' ≤ wins_left (circuits_at other row) s.capability last)
       → bit (eqb a.ended 1 && eqb a.event idle) + idles_left s.capability last' ≤ idles_left s.capability last → Passed last' said
       → Passed last (a ∷ said)
-  passed-more a said e more idle-more k =
+  passed_more a said e more idle-more k =
       record { each = λ other h. rw e (omega (arith, more other, k.each other h)); idles = rw e (omega (arith, k.idles)) }
 
   -- an answer without success is none of any address
@@ -72,21 +72,21 @@ module _ (row : List Asked) (D : ℕ) (s : Station) (p : Packet) where
   unsent_wins a h other = rw (ne_eqb a.event success h)
 
   -- one probe, and the answers after it
-  passed-probe :
+  passed_probe :
       {ahead : List Packet} (b : Bus) (said : List Answer) → Sound b → Turn row D s p b (probe (opened b)) ahead
       → ((before : List Packet) → Waits row D s p before (probe (opened b)).1 → Passed (probe (opened b)).1.last said)
       → Passed b.last ((probe (opened b)).0 ∷ said)
-  passed-probe {ahead} b said h (goes_on ended event last w') more =
+  passed_probe {ahead} b said h (goes_on ended event last w') more =
       let none! = unsent_wins (probe (opened b)).0 event in
-      passed-more (probe (opened b)).0 said (none! s.address) (λ other. rw (none! other) (omega arith)) (rw ended (omega arith))
+      passed_more (probe (opened b)).0 said (none! s.address) (λ other. rw (none! other) (omega arith)) (rw ended (omega arith))
       (subst (λ l. Passed l said) last (more ahead w'))
-  passed-probe b said h (its_own ended event it out two) more =
+  passed_probe b said h (its_own ended event it out two) more =
       passed_own (probe (opened b)).0 said b.last (and-true _ _ it).0
-  passed-probe b said h (earlier ended event it unsent out two last c w') more = passed_own (probe (opened b)).0 said b.last it
-  passed-probe {ahead} b said h (anothers {x = x} ended event at other! last i out below two c w') more =
-      let fewer = other-wins (circuits_of row) s.capability b.last (map_into (λ t. t.capability) row i) out below in
+  passed_probe b said h (earlier ended event it unsent out two last c w') more = passed_own (probe (opened b)).0 said b.last it
+  passed_probe {ahead} b said h (anothers {x = x} ended event at other! last i out below two c w') more =
+      let fewer = other_wins (circuits_of row) s.capability b.last (map_into (λ t. t.capability) row i) out below in
       let not_own : wins s.address (probe (opened b)).0 ≡ false = rw (event) (ne_eqb _ _ (λ e. other! (sym at ∙ e))) in
-      passed-more (probe (opened b)).0 said not_own (λ other. go other (eqb other x.address) refl) (rw (ended, event) (omega (arith, fewer.1)))
+      passed_more (probe (opened b)).0 said not_own (λ other. go other (eqb other x.address) refl) (rw (ended, event) (omega (arith, fewer.1)))
       (subst (λ l. Passed l said) last (more ahead w'))
     where
       go :
@@ -95,25 +95,25 @@ module _ (row : List Asked) (D : ℕ) (s : Station) (p : Packet) where
           ≤ wins_left (circuits_at other row) s.capability b.last
       go other true e =
           let among = map_into (λ t. t.capability) (keep (λ t. eqb other t.address) row) (keep_into (λ t. eqb other t.address) row i e) in
-          let fewer = other-wins (circuits_at other row) s.capability b.last among out below in
+          let fewer = other_wins (circuits_at other row) s.capability b.last among out below in
           let won : wins other (probe (opened b)).0 ≡ true = rw (event) (eq-eqb _ _ (at ∙ sym (eqb-true other x.address e))) in
           rw won (omega (arith, fewer.0))
       go other false e =
           let lost : wins other (probe (opened b)).0 ≡ false = rw (event) (ne_eqb _ _ (λ q. clash (eq-eqb other x.address (sym q ∙ at)) e)) in
-          rw lost (omega (arith, wins-stay (circuits_at other row) s.capability b.last out below))
-  passed-probe {ahead} b said h (nobodys ended event all out last c w') more =
+          rw lost (omega (arith, wins_stay (circuits_at other row) s.capability b.last out below))
+  passed_probe {ahead} b said h (nobodys ended event all out last c w') more =
       let none! = unsent_wins (probe (opened b)).0 (λ e. let y : ◌≡◌ {A = ℕ} 0 2 = sym event ∙ e in omega arith) in
-      passed-more (probe (opened b)).0 said (none! s.address)
-      (λ other. rw (none! other) (omega (arith, (idle-ends (circuits_at other row) s.capability b.last out).0)))
-      (rw (ended, event) (omega (arith, (idle-ends (circuits_of row) s.capability b.last out).1)))
+      passed_more (probe (opened b)).0 said (none! s.address)
+      (λ other. rw (none! other) (omega (arith, (idle_ends (circuits_at other row) s.capability b.last out).0)))
+      (rw (ended, event) (omega (arith, (idle_ends (circuits_of row) s.capability b.last out).1)))
       (subst (λ l. Passed l said) last (more ahead w'))
 
   passing : Holds row D s p (λ ahead last left said. Passed last said)
   passing =
       record {
         at-end = λ b h w. record { each = λ other h. omega arith; idles = omega arith };
-        at-refusal = λ n said z k. passed-more (refused_answer n) said refl (λ other. omega arith) (omega arith) k;
-        at_probe = passed-probe;
+        at_refusal = λ n said z k. passed_more (refused_answer n) said refl (λ other. omega arith) (omega arith) k;
+        at_probe = passed_probe;
       }
 
   -- where the round is over no more is left
@@ -127,8 +127,8 @@ module _ (row : List Asked) (D : ℕ) (s : Station) (p : Packet) where
       go true e (some v) l k' =
           let out : leb s.capability v ≡ true = le-leb _ _ (subst (λ n. n ≤ v) w.capability ((top b e).1 v l w.station w.listed)) in
           record {
-            each = λ other h. omega (arith, k'.each other h, (idle-ends (circuits_at other row) s.capability (some v) out).0);
-            idles = omega (arith, k'.idles, (idle-ends (circuits_of row) s.capability (some v) out).1);
+            each = λ other h. omega (arith, k'.each other h, (idle_ends (circuits_at other row) s.capability (some v) out).0);
+            idles = omega (arith, k'.idles, (idle_ends (circuits_of row) s.capability (some v) out).1);
           }
 
 -- what a refused set-up hands back answers no success
@@ -154,17 +154,17 @@ module _ (over : Bus → Bool) (top : TopOnly over) where
   E = ending_round over
 
   -- while the circuit waits
-  passes-calls :
+  passes_calls :
       (row : List Asked) (D : ℕ) (s : Station) (p : Packet) (later : List Call)
       → Everywhere row D s p (λ ahead last left said. Passed row D s p last said) (λ b. answers E b later)
-  passes-calls row D s p [] ahead b h w = (passing row D s p).at-end b h w
-  passes-calls row D s p (c ∷ later) ahead b h w =
+  passes_calls row D s p [] ahead b h w = (passing row D s p).at-end b h w
+  passes_calls row D s p (c ∷ later) ahead b h w =
       rw (call.replied, call.state)
       (one_call row D s p (λ before last left said. Passed row D s p last said) (passing row D s p) c (λ b'. answers E (round_over call.test b') later)
       (λ before b' h' w'.
       passed_over row D s p call.test call.test_top b' _ w'
-      (passes-calls row D s p later before (round_over call.test b') (over_sound call.test call.test_top h')
-      (over-waits call.test call.test_top w')))
+      (passes_calls row D s p later before (round_over call.test b') (over_sound call.test call.test_top h')
+      (over_waits call.test call.test_top w')))
       ahead
       b
       h
@@ -174,10 +174,10 @@ module _ (over : Bus → Bool) (top : TopOnly over) where
       call = call_over over top b c
 
   -- from the beginning of a contention, with a packet
-  passes-waiting :
+  passes_waiting :
       (b : Bus) → Sound b → (s : Station) (p : Packet) → CircuitWaits b s [] p → (later : List Call)
       → PassedOnce s.address (up_to (wins s.address) (answers E b later))
-  passes-waiting b sound s p h later =
+  passes_waiting b sound s p h later =
       record {
         each_other = λ other h. omega (arith, k.each other h, (wins_most (circuits_at other row) s.capability b.last).0, few other);
         idle_ones = omega (arith, k.idles, bit_most (sits_out RTVC b.last s.capability));
@@ -187,7 +187,7 @@ module _ (over : Bus → Bool) (top : TopOnly over) where
       row = map asked b.stations
 
       k : Passed row b.D s p b.last (answers E b later)
-      k = passes-calls row b.D s p later [] b sound (waits_first b s [] p h)
+      k = passes_calls row b.D s p later [] b sound (waits_first b s [] p h)
 
       apart : Distinct (map (λ t. t.address) row)
       apart =
@@ -234,9 +234,9 @@ module _ (over : Bus → Bool) (top : TopOnly over) where
         → PassedOnce address (up_to (wins address) (answers E b later))
 
     -- a refused probe is no success, and ends no contention
-    passes-refused :
+    passes_refused :
         (n : ℕ) (said : List Answer) → PassedOnce address (up_to (wins address) said) → PassedOnce address (up_to (wins address) (refused_answer n ∷ said))
-    passes-refused n said k = record { each_other = λ other h. omega (arith, k.each_other other h); idle_ones = omega (arith, k.idle_ones) }
+    passes_refused n said k = record { each_other = λ other h. omega (arith, k.each_other other h); idle_ones = omega (arith, k.idle_ones) }
 
     -- an accepted probe that begins a contention while no packet waits does not meet the premise
     unmet : (t : Tally) (a : Answer) → t.under_way ≡ false → a.refusal ≡ 0 → t.waiting ≡ 0 → waits_at t (probed a) ≡ false
@@ -276,7 +276,7 @@ module _ (over : Bus → Bool) (top : TopOnly over) where
           refuses_begin = λ n z h' k w. goes_on_with b between h k (and-true (waits_at t (begun (refused_begun n))) _ w).1;
           begins = λ z h' k w. clash w (rw empty);
           refuses_probe = λ n z h' k w.
-              passes-refused n (answers E (round_over call.test b) later) (goes_on_with b between h k (and-true (waits_at t (probed (refused_answer n))) _ w).1);
+              passes_refused n (answers E (round_over call.test b) later) (goes_on_with b between h k (and-true (waits_at t (probed (refused_answer n))) _ w).1);
           probes_one = λ z h' k w.
               clash (and-true (waits_at t (probed (probe (opened b)).0)) _ w).0
               (unmet t (probe (opened b)).0 (sym tells.under_way ∙ ap is_under_way between.ended) (probe_number (opened b)) empty);
@@ -305,16 +305,16 @@ module _ (over : Bus → Bool) (top : TopOnly over) where
             passes_empty c later passes b t (sym (tells.waiting between.station between.listed between.here) ∙ ap length e) h between tells premise
         go (p ∷ rest) e passes =
             subst (λ n. PassedOnce n (up_to (wins n) (answers E b (c ∷ later)))) between.here
-            (passes-waiting b h between.station p
+            (passes_waiting b h between.station p
             (record { by_circuit = tells.by_circuit; listed = between.listed; rest = rest; queue = e; begins = between.ended })
             (c ∷ later))
 
   -- ---- from set-up
 
-  tells-from-set-up :
+  tells_from_set_up :
       (r : Request) (calls : List Call) (address : ℕ) → r.discipline ≡ code RTVC → (set_up r).0.refusal ≡ 0
       → Sound (reach E r calls) × Tells address (reach E r calls) (tally_of address calls (replies E (set_up r).1 calls))
-  tells-from-set-up r calls address d z = tells_calls address (set_up r).1 blank calls (sound_reached r [] begins.by_circuit) begins
+  tells_from_set_up r calls address d z = tells_calls address (set_up r).1 blank calls (sound_reached r [] begins.by_circuit) begins
     where
       begins : Tells address (set_up r).1 blank
       begins = subst (λ (b : Bus). Tells address b blank) (sym (accepted_set_up r z)) (tells_fresh address r d)
@@ -331,8 +331,8 @@ module _ (over : Bus → Bool) (top : TopOnly over) where
           clash (sym (ap (succeeds address) (call_over over top nothing c).replied) ∙ subst (λ (b : Bus). succeeds address (reply E b c) ≡ true) handed won) (nothing_succeeds address c)
       go (inl z) =
           let call = call_over over top (reach E r calls) c in
-          let before = tells-from-set-up r calls address d z in
-          let now = tells-from-set-up r sofar address d z in
+          let before = tells_from_set_up r calls address d z in
+          let now = tells_from_set_up r sofar address d z in
           passes_after address later (reach E r sofar) (tally_of address sofar (replies E (set_up r).1 sofar)) now.0
           (subst (Between address) (sym (after_more E (set_up r).1 calls (c ∷ []) ∙ call.state))
           (over_between address call.test (next machine (reach E r calls) c)
@@ -345,7 +345,7 @@ module _ (over : Bus → Bool) (top : TopOnly over) where
 -- what the machine's replies tell is so, and so what an engine's do
 pub tallies_are_true : (E : Engine) → Demand2 E → TalliesAreTrue E
 tallies_are_true E meets r calls address d z =
-    let k = (tells-from-set-up (λ b. false) never r calls address d z).1 in
+    let k = (tells_from_set_up (λ b. false) never r calls address d z).1 in
     rw (steps_agree E meets r calls) (record { waiting = λ s i e. sym (k.waiting s i e); under_way = sym k.under_way })
 
 nobody_passes_twice_machine : NobodyPassesTwice machine
@@ -355,10 +355,10 @@ pub nobody_passes_twice : (E : Engine) → Demand2 E → NobodyPassesTwice E
 nobody_passes_twice E meets r calls c later address d won premise =
     subst (λ said. PassedOnce address (up_to (wins address) said)) (sym (answers_agree E meets r sofar later))
     (nobody_passes_twice_machine r calls c later address d (rw (same) at won)
-    (rw (steps_agree E meets r sofar, replies-agree E meets r sofar later) at premise))
+    (rw (steps_agree E meets r sofar, replies_agree E meets r sofar later) at premise))
   where
     sofar : List Call
     sofar = calls ++ (c ∷ [])
 
     same : reply E (reach E r calls) c ≡ reply machine (reach machine r calls) c
-    same = ap (λ rs. get_or rs 0 (begun (refused_begun 0))) (replies-agree E meets r calls (c ∷ []))
+    same = ap (λ rs. get_or rs 0 (begun (refused_begun 0))) (replies_agree E meets r calls (c ∷ []))

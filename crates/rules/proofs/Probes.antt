@@ -29,8 +29,8 @@ use Rattle.rules.specs.Demands.{Demand2, contenders_at, probes, most_probes, Pro
 use Rattle.rules.proofs.Laws.{and-true, true-and, length_keep, count-le, count_same, none_counted, count_parts, count_mono, clash}
 use Rattle.rules.proofs.Standing.{set_up_stands, begin_accepted, step_accepted}
 use Rattle.rules.proofs.Keeps.{opened_stands, opened_contention}
-use Rattle.rules.proofs.Reach.{Keeps, outcome, answer-cases, reach_holds, answers_agree}
-use Rattle.rules.proofs.Contenders.{contender_from, contenders_admitted, one_address, one-capability}
+use Rattle.rules.proofs.Reach.{Keeps, outcome, answer_cases, reach_holds, answers_agree}
+use Rattle.rules.proofs.Contenders.{contender_from, contenders_admitted, one_address, one_capability}
 
 -- ---- the definitions
 
@@ -239,7 +239,7 @@ module _ (o : Open) (h : Standing o.bus) (e : o.bus.contention ≡ some o.conten
   alone w none s circuits =
       let d = circuits refl in
       le_trans (count_mono (everyone o) (λ x i l. eq-eqb _ _ (sym ((contender_stands x i).circuit d) ∙ single w x.parameter s l)))
-      (one-capability w.start o.bus.stations ((set_up_stands o.bus h).capabilities_apart d))
+      (one_capability w.start o.bus.stations ((set_up_stands o.bus h).capabilities_apart d))
   alone w (some v) s circuits =
       le_trans (count_mono (everyone o) (λ x i l. eq-eqb _ _ (single w x.address s (and-true (eqb x.parameter v) (in_window w x.address) l).1)))
       (one_address w.start o.bus.stations (set_up_stands o.bus h).addresses_apart)
@@ -278,10 +278,10 @@ module _ (o : Open) (h : Standing o.bus) (e : o.bus.contention ≡ some o.conten
           (refl, inr (refl, rw (t.0, first) (omega arith)))
 
   -- a probe leaves a bus crowded, if it is, or if this is the first window
-  probe-crowded :
+  probe_crowded :
       (¬ (o.bus.discipline ≡ RTDG) → (window o).side ≡ Left → 2 ≤ count (lies_in (parent (window o)) (tie o)) (everyone o))
       → ((window o).side ≡ Left → 1 ≤ length (everyone o)) → (o.bus.discipline ≡ RTVC → tie o ≡ none) → Crowded (probe o).1
-  probe-crowded above somebody untied = probe_ways o (λ r. Crowded r.1) moves (λ n s. tt) (λ x. tt) splits ties
+  probe_crowded above somebody untied = probe_ways o (λ r. Crowded r.1) moves (λ n s. tt) (λ x. tt) splits ties
     where
       moves : senders o ≡ 0 → (window o).side ≡ Left → Crowded (going_further o.bus (moved o))
       moves n s =
@@ -323,10 +323,10 @@ opened_left b none = rw (exponent_power (exponent_of b.D) (exponent_le b.D)) (go
 opened_left b (some c) = refl
 
 -- a contention that has just begun has all of them left
-pub left-at-opening :
+pub left_at_opening :
     (b : Bus) (c : Contention) → c ≡ opening b
     → left_by b.discipline (exponent_of b.D) (exponent_of b.A) (some c) ≡ most_probes b.discipline (exponent_of b.D) (exponent_of b.A)
-left-at-opening b c f = ap (λ (x : Contention). left_by b.discipline (exponent_of b.D) (exponent_of b.A) (some x)) f ∙ opened_left b none
+left_at_opening b c f = ap (λ (x : Contention). left_by b.discipline (exponent_of b.D) (exponent_of b.A) (some x)) f ∙ opened_left b none
 
 -- a probe is accepted, and ends the contention or leaves fewer probes than the bus had
 step_fewer : (b : Bus) → Standing b → Fewer (probes_left b) (probe (opened b))
@@ -347,11 +347,11 @@ step_crowded b h k = go b.contention k (opened_stands b h) (opened_contention b)
     go :
         (c : Option Contention) → CrowdedBy b c → Standing (opened_by b c).bus
         → (opened_by b c).bus.contention ≡ some (opened_by b c).contention → Crowded (probe (opened_by b c)).1
-    go none k h e = probe-crowded (opened_by b none) h e (λ f s. absurd (first _ refl s)) (λ s. absurd (first _ refl s)) (λ d. refl)
+    go none k h e = probe_crowded (opened_by b none) h e (λ f s. absurd (first _ refl s)) (λ s. absurd (first _ refl s)) (λ d. refl)
     go (some c) (inl f) h e =
         let right : c.window.side ≡ Right = ap (λ (x : Contention). x.window.side) f in
-        probe-crowded (opened_by b (some c)) h e (λ _ s. absurd (first _ right s)) (λ s. absurd (first _ right s)) (λ d. ap (λ (x : Contention). x.tie) f)
-    go (some c) (inr k) h e = probe-crowded (opened_by b (some c)) h e (λ f s. rw s at (k.several f)) (λ s. k.somebody) k.untied
+        probe_crowded (opened_by b (some c)) h e (λ _ s. absurd (first _ right s)) (λ s. absurd (first _ right s)) (λ d. ap (λ (x : Contention). x.tie) f)
+    go (some c) (inr k) h e = probe_crowded (opened_by b (some c)) h e (λ f s. rw s at (k.several f)) (λ s. k.somebody) k.untied
 
 admission_crowded : (b : Bus) (a : Arrival) → Crowded b → Crowded (with_packet b a)
 admission_crowded b a k = go b.contention k
@@ -406,7 +406,7 @@ probes_left_some b h k = go b.contention refl k
 
     go : (c : Option Contention) → b.contention ≡ c → CrowdedBy b c → 1 ≤ left_by b.discipline (exponent_of b.D) (exponent_of b.A) c
     go none e k = begins b.discipline (exponent_of b.D) (exponent_of b.A) (halved_once b h)
-    go (some c) e (inl f) = rw (left-at-opening b c f) (begins b.discipline (exponent_of b.D) (exponent_of b.A) (halved_once b h))
+    go (some c) e (inl f) = rw (left_at_opening b c f) (begins b.discipline (exponent_of b.D) (exponent_of b.A) (halved_once b h))
     go (some c) e (inr k) = lt_of_not-le none_left
       where
         none_left : open_left (opened_by b (some c)) ≤ 0 → ⊥
@@ -437,11 +437,11 @@ rival b h k d n = go b.contention k
         → (2 ≤ left_by b.discipline (exponent_of b.D) (exponent_of b.A) c)
         ⊎ Some (λ y. ¬ (y.capability ≡ n)) (contenders (opened_by b c).bus.stations)
     go none k = inl (rw d (omega (arith, halved_once b h)))
-    go (some c) (inl f) = inl (rw (left-at-opening b c f, d) (omega (arith, halved_once b h)))
+    go (some c) (inl f) = inl (rw (left_at_opening b c f, d) (omega (arith, halved_once b h)))
     go (some c) (inr k) =
         let two = k.several (λ e. omega (arith, ap code (sym d ∙ e))) in
         let all = count-le (lies_in (span c.window) c.tie) (contenders b.stations) in
-        let one = one-capability n b.stations ((set_up_stands b h).capabilities_apart d) in
+        let one = one_capability n b.stations ((set_up_stands b h).capabilities_apart d) in
         let (y, i, f) = some_fails (λ y. eqb y.capability n) (contenders b.stations) (omega arith) in
         inr (y, i, eqb-false y.capability n f)
 
@@ -461,20 +461,20 @@ nobody test [] h e = refl
 nobody test (x ∷ xs) h e = clash (h x (at_head refl)) (none_counted test (x ∷ xs) e x (at_head refl))
 
 -- nobody contends where nobody is ever late and the first window is silent
-first-silent :
+first_silent :
     (o : Open) → Standing o.bus → o.bus.contention ≡ some o.contention → o.contention ≡ opening o.bus → ¬ (o.bus.discipline ≡ RTDG)
     → senders o ≡ 0 → everyone o ≡ []
-first-silent o h e f d n =
+first_silent o h e f d n =
     let all : All (λ x. lies_in (window o) (tie o) x ≡ true) (everyone o) =
     λ x i. subst (λ (c : Contention). lies_in c.window c.tie x ≡ true) (sym f)
     (first_holds o.bus.D x.parameter (omega (arith, (set_up_stands o.bus h).d_most)) (contender_stands o h e x i).parameter_in) in
     nobody (lies_in (window o) (tie o)) (everyone o) all (omega (arith, all_send o d))
 
 -- a contention whose packets are never late ends without a winner only where nobody contends, and at its first probe
-pub unwon-empty :
+pub unwon_empty :
     (b : Bus) → Standing b → Crowded b → ¬ (b.discipline ≡ RTDG) → (probe (opened b)).0.ended ≡ 1 → (probe (opened b)).0.event ≡ idle
     → (probes_left b ≡ most_probes b.discipline (exponent_of b.D) (exponent_of b.A)) × (contenders_at b ≡ [])
-unwon-empty b h k d ended unheard =
+unwon_empty b h k d ended unheard =
     let f = ends_idle (opened b) ended unheard in go b.contention k (opened_stands b h) (opened_contention b) f.0 f.1
   where
     go :
@@ -482,8 +482,8 @@ unwon-empty b h k d ended unheard =
         → (opened_by b c).bus.contention ≡ some (opened_by b c).contention → senders (opened_by b c) ≡ 0 → (window (opened_by b c)).side ≡ Right
         → (left_by b.discipline (exponent_of b.D) (exponent_of b.A) c ≡ most_probes b.discipline (exponent_of b.D) (exponent_of b.A))
         × (everyone (opened_by b c) ≡ [])
-    go none k h e n s = (refl, first-silent (opened_by b none) h e refl d n)
-    go (some c) (inl f) h e n s = (left-at-opening b c f, first-silent (opened_by b (some c)) h e f d n)
+    go none k h e n s = (refl, first_silent (opened_by b none) h e refl d n)
+    go (some c) (inl f) h e n s = (left_at_opening b c f, first_silent (opened_by b (some c)) h e f d n)
     go (some c) (inr k) h e n s = absurd (omega (arith, in_right k d s, all_send (opened_by b (some c)) d))
 
 -- ---- a contention without contenders
@@ -513,7 +513,7 @@ empty_ends E d r calls c none_there =
     let b = reach machine r calls in
     let P : Answer → Type 0 = λ a. a.refusal ≡ 0 → (a.event ≡ idle) × (a.ended ≡ 1) in
     subst (All P) (sym (answers_agree E d r calls (c ∷ [])))
-    (answer-cases b P (λ n z e. absurd (z e)) (λ z e. empty_idle b (crowded_reached r calls) none_there) c)
+    (answer_cases b P (λ n z e. absurd (z e)) (λ z e. empty_idle b (crowded_reached r calls) none_there) c)
 
 -- ---- the bound
 
@@ -528,7 +528,7 @@ probes_within (c ∷ later) b k =
       admits = λ a z. probes_within later (with_packet b a) (admission_crowded b a k);
       refuses_begin = λ n z. probes_within later b k;
       begins = λ z.
-          omega (arith, probes_within later (begin b) (inl refl), left-at-opening b (opening b) refl, probes_at_begin b (begin_accepted b z).1);
+          omega (arith, probes_within later (begin b) (inl refl), left_at_opening b (opening b) refl, probes_at_begin b (begin_accepted b z).1);
       refuses_probe = λ n z. rw (ne_eqb n 0 z) (probes_within later b k);
       probes_one = λ z.
           let h = (step_accepted b z).standing in

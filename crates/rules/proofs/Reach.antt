@@ -26,15 +26,15 @@ use Rattle.rules.proofs.Standing.{accepted_set_up, admit_is, begin_accepted, pro
 use Rattle.rules.proofs.TurnedAway.{back_cases}
 use Rattle.rules.proofs.Refusals.{hands_back}
 use Rattle.rules.proofs.Keeps.{begin_stands, turned_stands, stepped_stands, keeps_standing}
-use Rattle.rules.proofs.Step.{step-alike, step_made}
+use Rattle.rules.proofs.Step.{step_alike, step_made}
 
 -- ---- one call
 
 -- a call that is refused with its number, or taken where that is 0
-pub call-cases :
+pub call_cases :
     {X : Type 0} (P : X → Type 0) (n : ℕ) (taken : X) (refused : ℕ → X) → (¬ (n ≡ 0) → P (refused n)) → (n ≡ 0 → P taken)
     → P (cond (eqb n 0) taken (refused n))
-call-cases P n taken refused h k = go (eqb n 0) refl
+call_cases P n taken refused h k = go (eqb n 0) refl
   where
     go : (t : Bool) → eqb n 0 ≡ t → P (cond t taken (refused n))
     go true e = k (eqb-true n 0 e)
@@ -53,31 +53,31 @@ pub record Outcomes (b : Bus) (P : Reply → Bus → Type 0) : Type 0 where
 
 pub outcome : (b : Bus) (P : Reply → Bus → Type 0) → Outcomes b P → (c : Call) → P (reply machine b c) (next machine b c)
 outcome b P o (admission a) =
-    call-cases (λ (x : Admitted × Bus). P (admitted x.0) x.1) (admission_refusal b a) _
+    call_cases (λ (x : Admitted × Bus). P (admitted x.0) x.1) (admission_refusal b a) _
     (λ n. (record { refusal = n; number = 0 }, handed_back b n))
     (λ z. back_cases (P (admitted _)) b (admission_refusal b a) (o.refuses _ z) (o.turns _ z))
     (o.admits a)
 outcome b P o one-begin =
-    call-cases (λ (x : Begun × Bus). P (begun x.0) x.1) (begin_refusal b) _ (λ n. (refused_begun n, b))
+    call_cases (λ (x : Begun × Bus). P (begun x.0) x.1) (begin_refusal b) _ (λ n. (refused_begun n, b))
     (o.refuses_begin (begin_refusal b))
     o.begins
 outcome b P o one-probe =
-    call-cases (λ (x : Answer × Bus). P (probed x.0) x.1) (probe_refusal b) _ (λ n. (refused_answer n, b))
+    call_cases (λ (x : Answer × Bus). P (probed x.0) x.1) (probe_refusal b) _ (λ n. (refused_answer n, b))
     (o.refuses_probe (probe_refusal b))
     (λ z.
     let ok = probe_accepted b z in
     subst (λ (x : Answer × Bus). P (probed x.0) x.1) (sym (probed_opened b ok.0)) (o.probes_one ok.1))
 outcome b P o one-step =
     subst (λ (x : Answer × Bus). P (probed x.0) x.1) (sym (step_made b))
-    (call-cases (λ (x : Answer × Bus). P (probed x.0) x.1) (step_refusal b) _ (λ n. (refused_answer n, b))
+    (call_cases (λ (x : Answer × Bus). P (probed x.0) x.1) (step_refusal b) _ (λ n. (refused_answer n, b))
     (o.refuses_probe (step_refusal b))
     o.probes_one)
 
 -- the answer to one call, if it is a probe or a step
-pub answer-cases :
+pub answer_cases :
     (b : Bus) (P : Answer → Type 0) → ((n : ℕ) → ¬ (n ≡ 0) → P (refused_answer n)) → (step_refusal b ≡ 0 → P (probe (opened b)).0)
     → (c : Call) → All P (answers machine b (c ∷ []))
-answer-cases b P refused taken =
+answer_cases b P refused taken =
     outcome b (λ r b'. All P (probe_in r []))
     (record {
       refuses = λ n z e. all_nil P;
@@ -143,10 +143,10 @@ stays_so E s still [] = refl
 stays_so E s still (c ∷ calls) = ap (λ t. after E t calls) (still c) ∙ stays_so E s still calls
 
 -- P and the standing conditions hold of every state reached from an accepted set-up
-accepted-keeps :
+accepted_keeps :
     (P : Bus → Type 0) → Keeps P → (r : Request) (calls : List Call) → (set_up r).0.refusal ≡ 0
     → Standing (reach machine r calls) × P (reach machine r calls)
-accepted-keeps P keeps r calls z =
+accepted_keeps P keeps r calls z =
     after_keeps P keeps (set_up r).1 calls (keeps_standing.set_up_call r z) (subst P (sym (accepted_set_up r z)) (keeps.at_set_up r z))
 
 -- what is reached from a refused set-up is what it handed back
@@ -162,7 +162,7 @@ accepted_or_nothing r calls = go (eqb (set_up_verdict r).refusal 0) refl
     go false e = inr (refused_nothing r calls (eqb-false (set_up_verdict r).refusal 0 e))
 
 pub reached_stands : ReachedStands
-reached_stands r calls z = (accepted-keeps (λ b. Unit {0}) anything r calls z).0
+reached_stands r calls z = (accepted_keeps (λ b. Unit {0}) anything r calls z).0
 
 pub standing_reached : (r : Request) (calls : List Call) → Standing (reach machine r calls) ⊎ (reach machine r calls ≡ nothing)
 standing_reached r calls = go (accepted_or_nothing r calls)
@@ -176,7 +176,7 @@ pub reach_holds : (P : Bus → Type 0) → P nothing → Keeps P → (r : Reques
 reach_holds P empty keeps r calls = go (accepted_or_nothing r calls)
   where
     go : ((set_up r).0.refusal ≡ 0) ⊎ (reach machine r calls ≡ nothing) → P (reach machine r calls)
-    go (inl z) = (accepted-keeps P keeps r calls z).1
+    go (inl z) = (accepted_keeps P keeps r calls z).1
     go (inr e) = subst P (sym e) empty
 
 -- ---- engines that meet demand 2
@@ -245,7 +245,7 @@ module _ (E : Engine) (meets : Demand2 E) (r : Request) where
   step_same : {s : E.State} {b : Bus} → Abreast s b → ((step_of E s).0 ≡ (step_of machine b).0) × Abreast (step_of E s).1 (step_of machine b).1
   step_same {s} {b} h =
       let begun = abreast_more h (one-begin ∷ []) (one_own one-begin begin_own) in
-      step-alike E machine Abreast s b h (probe_same h, abreast_more h (one-probe ∷ []) (one_own one-probe probe_own)) (begin_same h)
+      step_alike E machine Abreast s b h (probe_same h, abreast_more h (one-probe ∷ []) (one_own one-probe probe_own)) (begin_same h)
       (probe_same begun, abreast_more begun (one-probe ∷ []) (one_own one-probe probe_own))
 
   -- any call
@@ -259,11 +259,11 @@ module _ (E : Engine) (meets : Demand2 E) (r : Request) where
 
   calls_same : {s : E.State} {b : Bus} → Abreast s b → (calls : List Call) → replies E s calls ≡ replies machine b calls
   calls_same h [] = refl
-  calls_same h (c ∷ calls) = let k = call_same h c in ap₂ ◌∷◌ k.0 (calls_same k.1 calls)
+  calls_same {s} {b} h (c ∷ calls) = let k = call_same h c in ap₂ ◌∷◌ k.0 (calls_same {s = next E s c} {b = next machine b c} k.1 calls)
 
   abreast_after : {s : E.State} {b : Bus} → Abreast s b → (calls : List Call) → Abreast (after E s calls) (after machine b calls)
   abreast_after h [] = h
-  abreast_after h (c ∷ calls) = abreast_after (call_same h c).1 calls
+  abreast_after {s} {b} h (c ∷ calls) = abreast_after {s = next E s c} {b = next machine b c} (call_same h c).1 calls
 
   closing_same : {s : E.State} {b : Bus} → Abreast s b → E.closing s ≡ closing_call b
   closing_same h = ap E.closing (sym h.engine) ∙ meets.closes r h.calls h.own ∙ ap closing_call h.bus
@@ -275,15 +275,15 @@ module _ (E : Engine) (meets : Demand2 E) (r : Request) where
 pub steps_agree : (E : Engine) → Demand2 E → StepsAgree E
 steps_agree E meets r calls = calls_same E meets r (at_set_up E meets r) calls
 
-pub replies-agree :
+pub replies_agree :
     (E : Engine) → Demand2 E → (r : Request) (calls later : List Call) → replies E (reach E r calls) later ≡ replies machine (reach machine r calls) later
-replies-agree E meets r calls later = calls_same E meets r (abreast_after E meets r (at_set_up E meets r) calls) later
+replies_agree E meets r calls later = calls_same E meets r (abreast_after E meets r (at_set_up E meets r) calls) later
 
 pub answers_agree :
     (E : Engine) → Demand2 E → (r : Request) (calls later : List Call) → answers E (reach E r calls) later ≡ answers machine (reach machine r calls) later
-answers_agree E d r calls later = ap probes_in (replies-agree E d r calls later)
+answers_agree E d r calls later = ap probes_in (replies_agree E d r calls later)
 
 -- what it closes with
-pub closing-agrees :
+pub closing_agrees :
     (E : Engine) → Demand2 E → (r : Request) (calls : List Call) → E.closing (reach E r calls) ≡ closing_call (reach machine r calls)
-closing-agrees E meets r calls = closing_same E meets r (abreast_after E meets r (at_set_up E meets r) calls)
+closing_agrees E meets r calls = closing_same E meets r (abreast_after E meets r (at_set_up E meets r) calls)

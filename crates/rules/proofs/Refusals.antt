@@ -63,10 +63,10 @@ handed number n own refused zero-own bears = go (eqb n 0) refl
     go true e h = absurd (h (zero-own (eqb-true n 0 e)))
     go false e h = ap refused (sym (bears n))
 
-pub handed-admission :
+pub handed_admission :
     (b : Bus) (a : Arrival) → ¬ ((admit b a).0.refusal ≡ 0)
     → admit b a ≡ (record { refusal = (admit b a).0.refusal; number = 0 }, handed_back b (admit b a).0.refusal)
-handed-admission b a =
+handed_admission b a =
     handed (λ (x : Admitted × Bus). x.0.refusal) (admission_refusal b a) _ (λ k. (record { refusal = k; number = 0 }, handed_back b k)) (λ z. refl)
     (λ k. refl)
 
@@ -74,10 +74,10 @@ pub hands_back : HandsBack
 hands_back =
     record {
       set_up_call = λ r h. ap (λ t. cond t (fresh_bus r) nothing) (ne_eqb (set_up_verdict r).refusal 0 h);
-      admission = λ b a h other. handed-admission b a h ∙ ap (λ (x : Bus). (record { refusal = (admit b a).0.refusal; number = 0 }, x)) (as_lent b _ other);
+      admission = λ b a h other. handed_admission b a h ∙ ap (λ (x : Bus). (record { refusal = (admit b a).0.refusal; number = 0 }, x)) (as_lent b _ other);
       turning_away =
           λ b a t.
-          handed-admission b a (turned_refused _ t)
+          handed_admission b a (turned_refused _ t)
           ∙ ap (λ (x : Bus). (record { refusal = (admit b a).0.refusal; number = 0 }, x)) (but_for_the_count b _ t);
       begin = λ b. handed (λ (x : Begun × Bus). x.0.refusal) (begin_refusal b) _ (λ k. (refused_begun k, b)) (λ z. refl) (λ k. refl);
       probe = λ b. handed (λ (x : Answer × Bus). x.0.refusal) (probe_refusal b) _ (λ k. (refused_answer k, b)) (probed_number b) (λ k. refl);

@@ -77,22 +77,22 @@ module _ (circuits : List ℕ) (mine : ℕ) where
       go false e = rw e (omega arith)
 
   -- A contention that mine wins: its probes left pay for the slot spared, if two are left or a circuit is above mine.
-  pub own-wins :
+  pub own_wins :
       (last : Option ℕ) (left : ℕ) → sits_out RTVC last mine ≡ false → 1 ≤ left → 2 ≤ left + above circuits mine
       → suc (spare_left circuits mine last) ≤ idles_left mine last + left
-  own-wins none left out one two = omega arith
-  own-wins (some v) left out one two = rw out (omega arith)
+  own_wins none left out one two = omega arith
+  own_wins (some v) left out one two = rw out (omega arith)
 
   -- A contention that another circuit wins, one that does not sit out and, unless mine does, is below mine.
-  pub other-wins :
+  pub other_wins :
       (last : Option ℕ) {x : ℕ} → Among x circuits → sits_out RTVC last x ≡ false → (sits_out RTVC last mine ≡ false → x < mine)
       → Fewer circuits mine last x
-  other-wins none {x} i out below =
+  other_wins none {x} i out below =
       let l = below refl in
       let f : leb mine x ≡ false = lt-leb mine x l in
       let c = count_less (λ k. ltb x k && leb k mine) (λ k. leb k mine) circuits (λ k j h. (and-true (ltb x k) (leb k mine) h).1) i (rw (le-ltb x x (omega arith))) (le-leb x mine (omega arith)) in
       rw f (omega arith)
-  other-wins (some v) {x} i out below = go (leb mine v) refl
+  other_wins (some v) {x} i out below = go (leb mine v) refl
     where
       above_last : v < x
       above_last = leb-false x v out
@@ -120,41 +120,41 @@ module _ (circuits : List ℕ) (mine : ℕ) where
           rw (e, f) (omega arith)
 
   -- A contention that ends idle while mine sits out: the next round, no further idle one, and the slot spared still to come or wins fewer.
-  pub idle-ends :
+  pub idle_ends :
       (last : Option ℕ) → sits_out RTVC last mine ≡ true
       → (wins_left circuits mine none ≤ wins_left circuits mine last)
       × (suc (idles_left mine none) ≤ idles_left mine last)
       × (wins_left circuits mine none + spare_left circuits mine last ≤ wins_left circuits mine last + spare_left circuits mine none)
-  idle-ends none out = clash out refl
-  idle-ends (some v) out = rw out (omega arith)
+  idle_ends none out = clash out refl
+  idle_ends (some v) out = rw out (omega arith)
 
   -- where mine has just won, all circuits may win before it wins again, one contention may end idle, and the slot is spared
   pub own_again : (wins_left circuits mine (some mine) ≤ length circuits) × (idles_left mine (some mine) ≡ 1) × (spare_left circuits mine (some mine) ≡ 1)
   own_again = let e : leb mine mine ≡ true = le-leb mine mine (omega arith) in ((wins_most (some mine)).0, rw e, rw e (omega arith))
 
 -- the wins left to several circuits are those left to each
-wins-parts :
+wins_parts :
     (x : ℕ) (circuits : List ℕ) (mine : ℕ) (last : Option ℕ)
     → wins_left (x ∷ circuits) mine last ≡ wins_left (x ∷ []) mine last + wins_left circuits mine last
-wins-parts x circuits mine none = omega arith
-wins-parts x circuits mine (some v) = go (leb mine v) refl
+wins_parts x circuits mine none = omega arith
+wins_parts x circuits mine (some v) = go (leb mine v) refl
   where
     go : (t : Bool) → leb mine v ≡ t → wins_left (x ∷ circuits) mine (some v) ≡ wins_left (x ∷ []) mine (some v) + wins_left circuits mine (some v)
     go true e = rw e (omega arith)
     go false e = rw e (omega arith)
 
 module _ (circuits : List ℕ) (mine : ℕ) where
-  -- A contention that some circuit wins, as in `other-wins`, leaves none of these more wins, whether or not it is one of them.
-  pub wins-stay :
+  -- A contention that some circuit wins, as in `other_wins`, leaves none of these more wins, whether or not it is one of them.
+  pub wins_stay :
       (last : Option ℕ) {x : ℕ} → sits_out RTVC last x ≡ false → (sits_out RTVC last mine ≡ false → x < mine)
       → wins_left circuits mine (some x) ≤ wins_left circuits mine last
-  wins-stay last {x} out below =
+  wins_stay last {x} out below =
       omega (
         arith,
-        (other-wins (x ∷ circuits) mine last (at_head refl) out below).0,
+        (other_wins (x ∷ circuits) mine last (at_head refl) out below).0,
         (wins_most (x ∷ []) mine last).0,
-        wins-parts x circuits mine last,
-        wins-parts x circuits mine (some x),
+        wins_parts x circuits mine last,
+        wins_parts x circuits mine (some x),
       )
 
 module _ (circuits : List ℕ) (mine : ℕ) (among : Among mine circuits) where
@@ -174,11 +174,11 @@ module _ (circuits : List ℕ) (mine : ℕ) (among : Among mine circuits) where
           (count_some (λ k. ltb v k && leb k mine) circuits among (true-and (lt-ltb v mine (leb-false mine v e)) (le-leb mine mine (omega arith))))
 
   -- At any time: what is left pays for the slot spared, if two probes are left or a circuit other than mine takes part.
-  pub spare-paid :
+  pub spare_paid :
       (last : Option ℕ) (left : ℕ) → 1 ≤ left → (2 ≤ left) ⊎ Some (λ y. (sits_out RTVC last y ≡ false) × (¬ (y ≡ mine))) circuits
       → 2 + spare_left circuits mine last ≤ wins_left circuits mine last + idles_left mine last + left
-  spare-paid last left one (inl two) = omega (arith, spare_most circuits mine last, wins_left_some last)
-  spare-paid last left one (inr (y, i, (part, other))) = go (sits_out RTVC last mine) refl (leb y mine) refl
+  spare_paid last left one (inl two) = omega (arith, spare_most circuits mine last, wins_left_some last)
+  spare_paid last left one (inr (y, i, (part, other))) = go (sits_out RTVC last mine) refl (leb y mine) refl
     where
       go :
           (t : Bool) → sits_out RTVC last mine ≡ t → (t' : Bool) → leb y mine ≡ t'
@@ -186,7 +186,7 @@ module _ (circuits : List ℕ) (mine : ℕ) (among : Among mine circuits) where
       go true e t' e' = omega (arith, spare_most circuits mine last, wins_left_some last, ap bit e)
       go false e true e' =
           let l = leb-true y mine e' in
-          omega (arith, spare_most circuits mine last, wins_left_some (some y), (other-wins circuits mine last i part (λ out. omega arith)).0)
+          omega (arith, spare_most circuits mine last, wins_left_some (some y), (other_wins circuits mine last i part (λ out. omega arith)).0)
       go false e false e' =
           let l = count_some (λ k. ltb mine k) circuits i (lt-ltb mine y (leb-false y mine e')) in
-          omega (arith, wins_left_some last, own-wins circuits mine last 1 e (omega arith) (omega arith), ap bit e)
+          omega (arith, wins_left_some last, own_wins circuits mine last 1 e (omega arith) (omega arith), ap bit e)

@@ -23,7 +23,7 @@ use Rattle.rules.specs.Probe.{Answer, probe, refused_answer}
 use Rattle.rules.specs.Step.{is_under_way, Begun, refused_begun, begun_answer, begin_tests, begin_refusal, begin_call, probe_tests, probe_refusal, probed_in, probe_call, opened_by, opened, step_tests, step_refusal, step}
 use Rattle.rules.specs.Conditions.{StepOutside, row_conditions, set_up_conditions, Late, admission_conditions, begin_conditions, probe_conditions, step_conditions}
 use Rattle.rules.proofs.Laws.{clash, among_left, among_right, all_cons, all_nil, map_from, map_into, map-map}
-use Rattle.rules.proofs.Tests.{Whether, holds, fails, stable, told, decides, in_words, negated, negated_twice, both, one_of, by_case, below, at_most, equal, out_of, inside, for_each, for_some, for_none, is_among, none_twice, Tried, done, ◌then◌, NoneHolds, none-held}
+use Rattle.rules.proofs.Tests.{Whether, holds, fails, stable, told, decides, in_words, negated, negated_twice, both, one_of, by_case, below, at_most, equal, out_of, inside, for_each, for_some, for_none, is_among, none_twice, Tried, done, ◌then◌, NoneHolds, none_held}
 
 -- ---- the test is the conditions
 
@@ -251,7 +251,7 @@ row_numbered r i earlier [] = refl
 row_numbered r i earlier (s ∷ later) = row_numbered r (suc i) (earlier ++ (s ∷ [])) later
 
 pub set_up_accepted : (r : Request) → (set_up_verdict r).refusal ≡ 0 → NoneHolds (set_up_conditions r)
-set_up_accepted r = none-held fine (λ v. v.refusal) (set_up_tried r) (row_numbered r 0 [] (take r.N r.row))
+set_up_accepted r = none_held fine (λ v. v.refusal) (set_up_tried r) (row_numbered r 0 [] (take r.N r.row))
 
 -- q is at least 1 in every discipline
 step_least : (d q : ℕ) → ¬ StepOutside d q → 1 ≤ q
@@ -330,7 +330,7 @@ admission_accepted b a e =
     }
   where
     passed : NoneHolds (admission_conditions b a)
-    passed = none-held 0 (λ n. n) (admission_tried b a) refl e
+    passed = none_held 0 (λ n. n) (admission_tried b a) refl e
 
 pub admit_is : (b : Bus) (a : Arrival) → admission_refusal b a ≡ 0 → admit b a ≡ (record { refusal = 0; number = suc b.admitted }, with_packet b a)
 admit_is b a e =
@@ -347,7 +347,7 @@ accepted_begin b = is_accepted (λ (x : Begun × Bus). x.0.refusal) (begin_refus
 
 pub begin_accepted : (b : Bus) → begin_refusal b ≡ 0 → Standing b × (b.contention ≡ none)
 begin_accepted b e =
-    let passed = none-held 0 (λ n. n) (begin_tried b) refl e in
+    let passed = none_held 0 (λ n. n) (begin_tried b) refl e in
     (stable (stands_exactly b) passed.0, stable (none_whether b.contention) passed.1.0)
 
 -- and it is accepted there
@@ -387,7 +387,7 @@ probed_opened b = go b.contention
 -- an accepted probe is an accepted step in a contention under way
 pub probe_accepted : (b : Bus) → probe_refusal b ≡ 0 → (¬ (b.contention ≡ none)) × (step_refusal b ≡ 0)
 probe_accepted b e =
-    let passed = none-held 0 (λ n. n) (probe_tried b) refl e in
+    let passed = none_held 0 (λ n. n) (probe_tried b) refl e in
     (passed.1.0, rw (told (stands_exactly b) (stable (stands_exactly b) passed.0), lt_ltb_not passed.1.1.0))
   where
     lt_ltb_not : ¬ (last_slot < b.clock) → ltb last_slot b.clock ≡ false
@@ -402,7 +402,7 @@ accepted_step b = is_accepted (λ (x : Answer × Bus). x.0.refusal) (step_refusa
 
 pub step_accepted : (b : Bus) → step_refusal b ≡ 0 → StepAccepted b
 step_accepted b e =
-    let passed = none-held 0 (λ n. n) (step_tried b) refl e in
+    let passed = none_held 0 (λ n. n) (step_tried b) refl e in
     record { standing = stable (stands_exactly b) passed.0; on_time = let h = passed.1.0 in omega arith }
 
 pub step_is : (b : Bus) → step_refusal b ≡ 0 → step b ≡ probe (opened b)

@@ -24,14 +24,14 @@ use Rattle.rules.proofs.Refusals.{probe_number}
 use Rattle.rules.proofs.Keeps.{begin_stands}
 
 -- the ways that the step of an engine can go: it is its probe; or its begin, or the probe after that, is refused; or both are accepted
-pub step-ways :
+pub step_ways :
     (E : Engine) (s : E.State) (P : Answer × E.State → Type 0) → (eqb (E.probe s).0.refusal 26 ≡ false → P (E.probe s))
     → (¬ ((E.begin s).0.refusal ≡ 0) → P (refused_answer (E.begin s).0.refusal, s))
     → (¬ ((E.probe (E.begin s).1).0.refusal ≡ 0) → P (refused_answer (E.probe (E.begin s).1).0.refusal, s))
     → ((E.begin s).0.refusal ≡ 0 → (E.probe (E.begin s).1).0.refusal ≡ 0
     → P (dropping (E.begin s).0.drops (E.probe (E.begin s).1).0, (E.probe (E.begin s).1).1))
     → P (step_of E s)
-step-ways E s P first unbegun unprobed both = by_first (eqb (E.probe s).0.refusal 26) refl
+step_ways E s P first unbegun unprobed both = by_first (eqb (E.probe s).0.refusal 26) refl
   where
     after : Answer × E.State
     after = E.probe (E.begin s).1
@@ -40,14 +40,14 @@ step-ways E s P first unbegun unprobed both = by_first (eqb (E.probe s).0.refusa
     by_second z true e = both z (eqb-true _ _ e)
     by_second z false e = unprobed (eqb-false _ _ e)
 
-    by-begin :
+    by_begin :
         (t : Bool) → eqb (E.begin s).0.refusal 0 ≡ t
         → P (cond t (probed_after s (E.begin s).0.drops (E.probe (E.begin s).1)) (refused_answer (E.begin s).0.refusal, s))
-    by-begin true e = by_second (eqb-true _ _ e) (eqb after.0.refusal 0) refl
-    by-begin false e = unbegun (eqb-false _ _ e)
+    by_begin true e = by_second (eqb-true _ _ e) (eqb after.0.refusal 0) refl
+    by_begin false e = unbegun (eqb-false _ _ e)
 
     by_first : (t : Bool) → eqb (E.probe s).0.refusal 26 ≡ t → P (cond t (begun_then E s (E.begin s)) (E.probe s))
-    by_first true e = by-begin (eqb (E.begin s).0.refusal 0) refl
+    by_first true e = by_begin (eqb (E.begin s).0.refusal 0) refl
     by_first false e = first e
 
 -- two engines, whose states R relates
@@ -57,10 +57,10 @@ module _ (E E' : Engine) (R : E.State → E'.State → Type 0) where
   Alike x y = (x.0 ≡ y.0) × R x.1 y.1
 
   -- Their steps are alike, where their probes, their begins' answers, and the probes after the begins are.
-  pub step-alike :
+  pub step_alike :
       (s : E.State) (s' : E'.State) → R s s' → Alike (E.probe s) (E'.probe s') → (E.begin s).0 ≡ (E'.begin s').0
       → Alike (E.probe (E.begin s).1) (E'.probe (E'.begin s').1) → Alike (step_of E s) (step_of E' s')
-  step-alike s s' same probes begins both =
+  step_alike s s' same probes begins both =
       first (eqb (E.probe s).0.refusal 26) (eqb (E'.probe s').0.refusal 26) (ap (λ (a : Answer). eqb a.refusal 26) probes.0)
     where
       third :

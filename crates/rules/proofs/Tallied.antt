@@ -25,7 +25,7 @@ use Rattle.rules.proofs.Laws.{clash, all_map, map_into}
 use Rattle.rules.proofs.Numbers.{held, joined-held}
 use Rattle.rules.proofs.Contenders.{joined_alike}
 use Rattle.rules.proofs.Keeps.{opened_stands, opened_contention, opened_same, Sender, sender, own, one_less}
-use Rattle.rules.proofs.Reach.{call-cases, outcome}
+use Rattle.rules.proofs.Reach.{call_cases, outcome}
 use Rattle.rules.proofs.Circuit.{all_in_time}
 
 -- each station of the address has so many packets
@@ -47,10 +47,10 @@ pub record Between (address : ℕ) (b : Bus) : Type 0 where
 
 module _ (address : ℕ) where
   -- an accepted admission
-  tells-admission :
+  tells_admission :
       (b : Bus) (t : Tally) (a : Arrival) → Tells address b t
       → Tells address (with_packet b a) (tallied address t (admission a) (admitted (record { refusal = 0; number = suc b.admitted })))
-  tells-admission b t a h =
+  tells_admission b t a h =
       record {
         by_circuit = h.by_circuit;
         under_way = h.under_way;
@@ -74,10 +74,10 @@ module _ (address : ℕ) where
 
   -- what is heard, as many as transmit
   module _ (o : Open) (h : Standing o.bus) (d : o.bus.discipline ≡ RTVC) where
-    tells-heard :
+    tells_heard :
         (t : Tally) (c : Call) → Waiting address t.waiting o.bus.stations → (xs : List Contender) → All (Sender o.bus o.contention) xs
         → Tells address (heard o xs).1 (tallied address t c (probed (heard o xs).0))
-    tells-heard t c w [] senders = by_side o.contention.window.side
+    tells_heard t c w [] senders = by_side o.contention.window.side
       where
         by_side : (side : Side) → Tells address (unheard o side).1 (tallied address t c (probed (unheard o side).0))
         by_side Left = record { by_circuit = d; under_way = refl; waiting = λ s i e. omega (arith, w s i e) }
@@ -87,7 +87,7 @@ module _ (address : ℕ) where
               under_way = refl;
               waiting = all_map (λ s. s.address ≡ address → held s ≡ t.waiting - 0) withdrawn o.bus.stations (λ s i e. omega (arith, w s i e));
             }
-    tells-heard t c w (x ∷ []) senders =
+    tells_heard t c w (x ∷ []) senders =
         record {
           by_circuit = d;
           under_way = refl;
@@ -96,7 +96,7 @@ module _ (address : ℕ) where
               let same : bit (own x s) ≡ bit (eqb x.address address) = ap (λ n. bit (eqb x.address n)) e in
               omega (arith, w s i e));
         }
-    tells-heard t c w (x ∷ y ∷ more) senders = record { by_circuit = d; under_way = refl; waiting = λ s i e. omega (arith, w s i e) }
+    tells_heard t c w (x ∷ y ∷ more) senders = record { by_circuit = d; under_way = refl; waiting = λ s i e. omega (arith, w s i e) }
 
     -- a success of the address ends its contention
     sent_heard : (xs : List Contender) → All (Sender o.bus o.contention) xs → wins address (heard o xs).0 ≡ true → Between address (heard o xs).1
@@ -165,7 +165,7 @@ module _ (address : ℕ) where
                   waiting = λ s i e. omega (arith, tells.waiting s i e);
                 };
             probes_one = λ z e.
-                tells-heard (opened b) (opened_stands b h) by_circuit_opened t c (opened_waiting b t.waiting d tells.waiting)
+                tells_heard (opened b) (opened_stands b h) by_circuit_opened t c (opened_waiting b t.waiting d tells.waiting)
                 (transmitters (opened b).bus (opened b).contention)
                 senders_opened;
           })
@@ -173,12 +173,12 @@ module _ (address : ℕ) where
 
       pub tells_next : (c : Call) → Tells address (next machine b c) (tallied address t c (reply machine b c))
       tells_next (admission a) =
-          call-cases (λ (x : Admitted × Bus). Tells address x.1 (tallied address t (admission a) (admitted x.0))) (admission_refusal b a) _
+          call_cases (λ (x : Admitted × Bus). Tells address x.1 (tallied address t (admission a) (admitted x.0))) (admission_refusal b a) _
           (λ n. (record { refusal = n; number = 0 }, handed_back b n))
           (λ z.
           let told = tells_refused (admission_refusal b a) z (admission a) in
           back_cases (λ x. Tells address x (tallied address t (admission a) (admitted (record { refusal = admission_refusal b a; number = 0 })))) b (admission_refusal b a) (λ e. told) (λ e. tells_turned told))
-          (λ z. tells-admission b t a tells)
+          (λ z. tells_admission b t a tells)
       tells_next one-begin = tells_other one-begin refl
       tells_next one-probe = tells_other one-probe refl
       tells_next one-step = tells_other one-step refl

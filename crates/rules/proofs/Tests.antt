@@ -157,9 +157,9 @@ module _ {Out : Type 0} (accepted : Out) where
   given (fails n then more) = inr (n, given more)
 
   -- where every refusal has a number from 1 on and the verdict given has 0, none of the conditions holds
-  pub none-held :
+  pub none_held :
       (number : Out → ℕ) {ts : List (Out × Bool)} {cs : List (Out × Type 0)} → Tried ts cs → each_of (λ v. ltb 0 (number v.0)) ts ≡ true
       → number (first_of accepted ts) ≡ 0 → NoneHolds cs
-  none-held number done k e = tt
-  none-held number (◌then◌ {v} (holds c) more) k e = let h = ltb-true 0 (number v) (and-true (ltb 0 (number v)) _ k).0 in absurd (omega arith)
-  none-held number (◌then◌ {v} (fails n) more) k e = (n, none-held number more (and-true (ltb 0 (number v)) _ k).1 e)
+  none_held number done k e = tt
+  none_held number (◌then◌ {v} (holds c) more) k e = let h = ltb-true 0 (number v) (and-true (ltb 0 (number v)) _ k).0 in absurd (omega arith)
+  none_held number (◌then◌ {v} (fails n) more) k e = (n, none_held number more (and-true (ltb 0 (number v)) _ k).1 e)

@@ -18,7 +18,7 @@ use Rattle.rules.specs.Demands.{most_probes, CircuitWaits}
 use Rattle.rules.proofs.Standing.{begin_accepted}
 use Rattle.rules.proofs.Reach.{outcome, next_keeps, next_stands, standing_reached}
 use Rattle.rules.proofs.Least.{Cleared, cleared_keeps, cleared_reached}
-use Rattle.rules.proofs.Probes.{Crowded, crowded_keeps, crowded_reached, probes_left, probes_at_begin, left-at-opening}
+use Rattle.rules.proofs.Probes.{Crowded, crowded_keeps, crowded_reached, probes_left, probes_at_begin, left_at_opening}
 use Rattle.rules.proofs.Enabled.{Enabled, enabled_keeps, enabled_reached}
 use Rattle.rules.proofs.Circuit.{Waits, waits_admission, waits_turned, waits_begin, Turn, turn}
 
@@ -54,7 +54,7 @@ sound_next {b} h c =
 
 -- a contention that has just begun has as many probes left as one that is about to begin
 left_begun : (b : Bus) → b.contention ≡ none → probes_left (begin b) ≡ probes_left b
-left_begun b e = left-at-opening b (opening b) refl ∙ sym (probes_at_begin b e)
+left_begun b e = left_at_opening b (opening b) refl ∙ sym (probes_at_begin b e)
 
 -- the probes left between contentions are 2L
 pub left_at_begin : (b : Bus) (D : ℕ) → b.discipline ≡ RTVC → b.D ≡ D → b.contention ≡ none → probes_left b ≡ 2 * exponent_of D
@@ -83,7 +83,7 @@ module _ (row : List Asked) (D : ℕ) (s : Station) (p : Packet) (K : List Packe
   -- it holds of no answers, with a refused call's answer before others, and with a probe's
   pub record Holds : Type 0 where
     pub at-end : {ahead : List Packet} (b : Bus) → Sound b → Waits row D s p ahead b → K ahead b.last (probes_left b) []
-    pub at-refusal :
+    pub at_refusal :
         {ahead : List Packet} {last : Option ℕ} {left : ℕ} (n : ℕ) (said : List Answer) → ¬ (n ≡ 0) → K ahead last left said
         → K ahead last left (refused_answer n ∷ said)
     pub at_probe :
@@ -108,7 +108,7 @@ module _ (row : List Asked) (D : ℕ) (s : Station) (p : Packet) (K : List Packe
           begins = λ z h'.
               subst (λ n. K ahead b.last n (following (begin b))) (left_begun b (begin_accepted b z).1)
               (more ahead (begin b) h' (waits_begin row D s p b h.standing w));
-          refuses_probe = λ n z h'. holds.at-refusal n (following b) z (more ahead b h w);
+          refuses_probe = λ n z h'. holds.at_refusal n (following b) z (more ahead b h w);
           probes_one = λ z h'.
               holds.at_probe b (following (probe (opened b)).1) h (turn row D s p b h.standing h.crowded h.enabled w h.cleared)
               (λ before. more before (probe (opened b)).1 h');

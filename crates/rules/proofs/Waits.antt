@@ -25,7 +25,7 @@ use Rattle.rules.specs.Demands.{Demand2, adds_admitted, numbers_answered, slots_
 use Rattle.rules.proofs.Laws.{among_append, among_none, map_from, keep_from}
 use Rattle.rules.proofs.Keeps.{opened_stands, opened_contention, opened_same, Sender, sender}
 use Rattle.rules.proofs.Standing.{step_accepted}
-use Rattle.rules.proofs.Reach.{outcome, answer-cases, demand2_machine, replies-agree, answers_agree}
+use Rattle.rules.proofs.Reach.{outcome, answer_cases, demand2_machine, replies_agree, answers_agree}
 use Rattle.rules.proofs.Counts.{step_rise, fresh_zero, counts_are_true}
 use Rattle.rules.proofs.Numbering.{calls_counted}
 use Rattle.rules.proofs.Least.{silent_idle}
@@ -37,16 +37,16 @@ abbrev pub Held : Packet → List Station → Type 0
 Held p stations = Some (λ s. Among p s.queue) stations
 
 -- where each station has no packet but those it had, none waits but those that did
-held-from :
+held_from :
     {p : Packet} (f : Station → Station) (stations : List Station) → ((s : Station) → Among p (f s).queue → Among p s.queue)
     → Held p (map f stations) → Held p stations
-held-from {p} f stations old h =
+held_from {p} f stations old h =
     let from = map_from f stations h.1 in
     (from.0, from.1, old from.0 (subst (λ (s : Station). Among p s.queue) from.2 h.2))
 
 -- beginning a contention, and a probe, bring no packet
 opened_held : {p : Packet} (b : Bus) (c : Option Contention) → Held p (opened_by b c).bus.stations → Held p b.stations
-opened_held b none h = held-from (entered b) b.stations (λ s i. (keep_from _ s.queue i).0) h
+opened_held b none h = held_from (entered b) b.stations (λ s i. (keep_from _ s.queue i).0) h
 opened_held b (some c) h = h
 
 left_held : {p : Packet} (x : Contender) (s : Station) → Among p (left x s).queue → Among p s.queue
@@ -61,8 +61,8 @@ heard_held {p} o [] h = go o.contention.window.side h
   where
     go : (side : Side) → Held p (unheard o side).1.stations → Held p o.bus.stations
     go Left k = k
-    go Right k = held-from withdrawn o.bus.stations (λ s i. i) k
-heard_held o (x ∷ []) h = held-from (left x) o.bus.stations (left_held x) h
+    go Right k = held_from withdrawn o.bus.stations (λ s i. i) k
+heard_held o (x ∷ []) h = held_from (left x) o.bus.stations (left_held x) h
 heard_held o (x ∷ y ∷ more) h = h
 
 -- an admission brings the new packet alone
@@ -98,10 +98,10 @@ pub above_admitted : {k : ℕ} (b : Bus) (calls : List Call) → Among k (number
 above_admitted {k} b calls i = (counted_in (suc b.admitted) (total adds_admitted (replies machine b calls)) (subst (Among k) (calls_counted b calls) i)).0
 
 -- one call before those replies: a packet admitted later
-since-later :
+since_later :
     (p : Packet) (b : Bus) (c : Call) (calls : List Call) → Since (next machine b c).clock (replies machine (next machine b c) calls) p
     → Since b.clock (replies machine b (c ∷ calls)) p
-since-later p b c calls =
+since_later p b c calls =
     outcome b (λ r b'. Since b'.clock (replies machine b' calls) p → Since b.clock (r ∷ replies machine b' calls) p)
     (record {
       refuses = λ n z e. rw (ne_eqb n 0 z) (λ h. h);
@@ -139,12 +139,12 @@ held_next {p} b c calls =
     c
 
 -- a packet that waits after calls waited before them, or was admitted among them
-pub held-since :
+pub held_since :
     {p : Packet} (b : Bus) (calls : List Call) → Held p (after machine b calls).stations
     → Held p b.stations ⊎ Since b.clock (replies machine b calls) p
-held-since b [] h = inl h
-held-since {p} b (c ∷ calls) h =
-    elim (held-since (next machine b c) calls h) [ inl old ↦ held_next b c calls old | inr later ↦ inr (since-later p b c calls later) ]
+held_since b [] h = inl h
+held_since {p} b (c ∷ calls) h =
+    elim (held_since (next machine b c) calls h) [ inl old ↦ held_next b c calls old | inr later ↦ inr (since_later p b c calls later) ]
 
 -- no packet waits after set-up
 fresh_held : {p : Packet} (r : Request) → Held p (set_up r).1.stations → ⊥
@@ -161,7 +161,7 @@ fresh_held {p} r h = go (eqb (set_up_verdict r).refusal 0) h
 pub reached_since : {p : Packet} (r : Request) (calls : List Call) → Held p (reach machine r calls).stations → Since 0 (replies machine (set_up r).1 calls) p
 reached_since {p} r calls h =
     subst (λ n. Since n (replies machine (set_up r).1 calls) p) (fresh_zero (λ (b : Bus). b.clock) r refl)
-    (elim (held-since (set_up r).1 calls h) [ inl old ↦ absurd (fresh_held r old) | inr since ↦ since ])
+    (elim (held_since (set_up r).1 calls h) [ inl old ↦ absurd (fresh_held r old) | inr since ↦ since ])
 
 -- ---- the answer to a step
 
@@ -211,10 +211,10 @@ otherwise_none o = told (transmitters o.bus o.contention)
     told (x ∷ y ∷ more) n = refl
 
 -- what the replies since set-up tell of a success
-success-waited :
+success_waited :
     (r : Request) (calls : List Call) → step_refusal (reach machine r calls) ≡ 0 → (probe (opened (reach machine r calls))).0.event ≡ success
     → Waited (replies machine (set_up r).1 calls) (probe (opened (reach machine r calls))).0
-success-waited r calls ok won =
+success_waited r calls ok won =
     let h = success_names (reach machine r calls) ok won in
     let since = reached_since r calls h.waits in
     let counted = counts_are_true machine demand2_machine r calls in
@@ -228,15 +228,15 @@ pub waits_are_true : (E : Engine) → Demand2 E → WaitsAreTrue E
 waits_are_true E d =
     record {
       succeeds = λ r calls c.
-          subst₂ (λ (rs : List Reply) (said : List Answer). All (λ a. a.event ≡ success → Waited rs a) said) (sym (replies-agree E d r [] calls))
+          subst₂ (λ (rs : List Reply) (said : List Answer). All (λ a. a.event ≡ success → Waited rs a) said) (sym (replies_agree E d r [] calls))
           (sym (answers_agree E d r calls (c ∷ [])))
-          (answer-cases (reach machine r calls) (λ a. a.event ≡ success → Waited (replies machine (set_up r).1 calls) a)
+          (answer_cases (reach machine r calls) (λ a. a.event ≡ success → Waited (replies machine (set_up r).1 calls) a)
           (λ n z won. absurd (omega arith))
-          (success-waited r calls)
+          (success_waited r calls)
           c);
       otherwise = λ r calls c.
           subst (All (λ a. ¬ (a.event ≡ success) → a.wait ≡ 0)) (sym (answers_agree E d r calls (c ∷ [])))
-          (answer-cases (reach machine r calls) (λ a. ¬ (a.event ≡ success) → a.wait ≡ 0) (λ n z e. refl)
+          (answer_cases (reach machine r calls) (λ a. ¬ (a.event ≡ success) → a.wait ≡ 0) (λ n z e. refl)
           (λ z. otherwise_none (opened (reach machine r calls)))
           c);
     }

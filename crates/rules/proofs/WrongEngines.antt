@@ -20,7 +20,7 @@ use Rattle.rules.specs.Demands.{Demand2, adds_lost, numbers_answered, ClosesAsCo
 use Rattle.rules.specs.Examples.{arrives, steps, listing, pri, rtdg, arrivals, circuits, apart, packet_since, pair as twoStations, admitted_later, chatty, meanwhile}
 use Rattle.rules.specs.WrongEngines.{refuses_all, refuses_calls, untouched, one_too_low, always_idle, made_up_drops, made_up_sent, low_byte, two_for_one, transmitters_kept, made_up_probes, first_station, wait_to_the_end, wait_of_the_contention, wait_from_the_arrival, arrival_times, drops_later, offers_anew, begin_takes_a_slot, top_ends_round, each_ends_round, top_sent, round_goes_on, counts12_too, counts15_twice, counts14_alone, starts_again}
 use Rattle.rules.proofs.Laws.{clash}
-use Rattle.rules.proofs.Reach.{steps_agree, closing-agrees}
+use Rattle.rules.proofs.Reach.{steps_agree, closing_agrees}
 use Rattle.rules.proofs.Ending.{top_only}
 use Rattle.rules.proofs.Passing.{passes_from_set_up}
 use Rattle.rules.proofs.Computing.{Brings, Same, number, bus, test, pair, computed, closed, bus_same, test_same, number_same, pair_same, computed_replies, closed_closing}
@@ -42,7 +42,7 @@ closes_agree E bring same demand r calls =
     ap
     (λ t. t.turned)
     (closed_closing E bring same (E.set_up r).1 calls
-    ∙ closing-agrees E demand r calls
+    ∙ closing_agrees E demand r calls
     ∙ sym (closed_closing machine bus bus_same (set_up r).1 calls))
 
 -- read off replies, each summed: the events (0 idle, 1 collision, 2 success), the winners' addresses, the drops, the numbers that admissions
@@ -316,11 +316,11 @@ top_ends_round_passes = passes_from_set_up top_sent top_only
 
 -- The events of its run over the calls of row 70, and the winners' addresses: circuit 0, of address 5, sends once before circuit 1, of address 6, sends
 -- again, and no contention is idle between.
-pub topEndsRound-chatty :
+pub top_ends_round_chatty :
     map {B = ℕ × ℕ} (λ a. (a.event, a.address)) (probes_in (replies top_ends_round (set_up circuits).1 chatty))
     ≡ (success, 6) ∷ (success, 7) ∷ (collision, 0) ∷ (collision, 0) ∷ (success, 5) ∷ (success, 6) ∷ (idle, 0) ∷ (success, 5) ∷ []
 unfolding exponent_of is_power
-topEndsRound-chatty =
+top_ends_round_chatty =
     ap (λ rs. map {B = ℕ × ℕ} (λ a. (a.event, a.address)) (probes_in rs)) (sym (computed_replies top_ends_round bus bus_same (set_up circuits).1 chatty))
 
 -- a circuit that has sent sits out

@@ -1,5 +1,5 @@
 -- Admission (paper 01, 'Admission' and refusals 11 to 16; P4). 'Admission tries 1, then 11 to 16.' Assumes nothing.
-use Rattle.std.specs.Prelude.{ℕ, suc, ◌+◌, ◌≡◌, ◌⊎◌, Bool, not, ◌&&◌, ◌||◌, cond, List, [], ◌∷◌, ◌++◌, map, leb, ltb, eqb, length}
+use Rattle.std.specs.Prelude.{ℕ, suc, ◌≡◌, ◌⊎◌, Bool, not, ◌&&◌, ◌||◌, cond, List, [], ◌∷◌, ◌++◌, map, leb, ltb, eqb, length}
 pub use Rattle.rules.specs.declared.Admitted.{Admitted}
 use Rattle.rules.specs.Lists.{some_of, first_of}
 use Rattle.rules.specs.Bus.{places, most_admitted, most_turned, Packet, late, Station, Bus, with_turned}

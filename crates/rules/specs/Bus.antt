@@ -2,7 +2,7 @@
 --
 -- The ranges are those of paper 01's table. A station that contends keeps its offer with it, so that a station contends with
 -- one packet at the most. `last` is the capability of the round's last winner. Assumes nothing.
-use Rattle.std.specs.Prelude.{ℕ, ◌+◌, Bool, false, List, [], ◌∷◌, ◌++◌, map, ltb, length}
+use Rattle.std.specs.Prelude.{ℕ, Bool, false, List, [], ◌∷◌, ◌++◌, map, ltb, length}
 use Rattle.std.proofs.Math.Option.{Option, none}
 use Rattle.window.specs.declared.Window.{Window}
 pub use Rattle.rules.specs.declared.Slot.{Slot}

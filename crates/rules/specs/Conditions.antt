@@ -1,6 +1,6 @@
 -- Paper 01's table of refusal numbers as conditions, in the order in which they are tried, and the statement that each number is
 -- given exactly when its condition holds and none tried earlier does. Assumes nothing.
-use Rattle.std.specs.Prelude.{ℕ, suc, ◌+◌, ◌≤◌, ◌<◌, ◌≡◌, ◌⊎◌, ◌≢◌, List, [], ◌∷◌, ◌++◌, length, take}
+use Rattle.std.specs.Prelude.{ℕ, suc, ◌≤◌, ◌<◌, ◌≡◌, ◌⊎◌, ◌≢◌, List, [], ◌∷◌, ◌++◌, length, take}
 use Rattle.std.proofs.Math.Option.{none}
 use Rattle.rules.specs.Lists.{All, Some, Given}
 use Rattle.rules.specs.Bus.{most_stations, least_space, most_space, most_step, places, longest_packet, last_slot, most_admitted, Discipline, PRI, RTDG, RTVC, code, Bus}

@@ -1,7 +1,7 @@
 -- Set-up (paper 01, 'The bus and its numbers' and refusals 2 to 10): what is asked for, what refuses it, the state it gives.
 -- 'Set-up tries 2 to 6, then the stations in turn, each 7 to 10; the first faulty station in the listed order decides.'
 -- Assumes nothing.
-use Rattle.std.specs.Prelude.{ℕ, zero, suc, ◌+◌, Bool, not, ◌&&◌, ◌||◌, cond, List, [], ◌∷◌, ◌++◌, map, leb, ltb, eqb, length, take}
+use Rattle.std.specs.Prelude.{ℕ, zero, suc, Bool, not, ◌&&◌, ◌||◌, cond, List, [], ◌∷◌, ◌++◌, map, leb, ltb, eqb, length, take}
 use Rattle.std.proofs.Math.Option.{none}
 pub use Rattle.rules.specs.declared.Verdict.{Verdict}
 use Rattle.rules.specs.Lists.{has, outside, first_of}

@@ -59,10 +59,10 @@ ended x turns previous at rest e = simp (ne_eqb x.kind 3 e) (go (eqb x.kind 4) (
 
 module _ {input : List ℕ} {at : ℕ} {arrivals : List Arrival} where
   -- where the record at an offset is an arrival, it is the first of those that stand there, and the others stand past its bytes
-  pub arrivals-here :
+  pub arrivals_here :
       ArrivalsAt input at arrivals → (read_record (drop at input)).kind ≡ 3
       → (later : List Arrival) × (arrivals ≡ arrival_from (read_record (drop at input)).values ∷ later) × ArrivalsAt input (at + 16) later
-  arrivals-here here e = go here.turns here.fine here.collected
+  arrivals_here here e = go here.turns here.fine here.collected
     where
       x : Said
       x = read_record (drop at input)

@@ -17,16 +17,16 @@ use Rattle.scenario.proofs.Unique as Unique
 use Rattle.scenario.proofs.Written as Written
 
 -- no good scenario is refused
-pub accepted-if :
+pub accepted_if :
     (r : Request) (arrivals : List Arrival) (steps : ℕ) → Good r arrivals steps
     → reading (written r arrivals steps) ≡ accepted r arrivals steps
-accepted-if = Written.accepted-if
+accepted_if = Written.accepted_if
 
 -- and an input of bytes that is accepted is the writing of a good one
-pub accepted-only :
+pub accepted_only :
     (input : List ℕ) (r : Request) (arrivals : List Arrival) (steps : ℕ) → Bytes input → reading input ≡ accepted r arrivals steps
     → (input ≡ written r arrivals steps) × Good r arrivals steps
-accepted-only = Written.accepted-only
+accepted_only = Written.accepted_only
 
 -- no two answers to a record read say the same
 pub said_injective : (r r' : Record) → said r ≡ said r' → r ≡ r'

@@ -81,9 +81,9 @@ record_fits rest = go (ltb (length rest) 4)
     go false = rows_fit rest (kind_in rest) (length_in rest) kinds refl
 
 -- and so ends within the input
-pub record-within :
+pub record_within :
     (input : List ℕ) (at k : ℕ) → (read_record (drop at input)).kind ≡ k → 0 < size_of k → at + size_of k ≤ length input
-record-within input at k e some! =
+record_within input at k e some! =
     let h : size_of k ≤ length (drop at input) = subst (λ n. size_of n ≤ length (drop at input)) e (record_fits (drop at input)) in
     omega (arith, length-drop at input)
 
@@ -98,10 +98,10 @@ kind_tag (Is.Arrival a) = refl
 kind_tag (Is.Run steps) = refl
 
 -- a record that is one of the other variants is not of the kind
-pub other-kind :
+pub other_kind :
     (k : ℕ) (others : List ℕ) (found : Record) (x : Said) → said found ≡ x → has k others ≡ false → OneOf others (tag_of the_type found)
     → ¬ (x.kind ≡ k)
-other-kind k others found x e none one s =
+other_kind k others found x e none one s =
     let tag : k ≡ tag_of the_type found = sym s ∙ ap (λ (y : Said). y.kind) (sym e) ∙ kind_tag found in
     go others none one tag
   where
@@ -131,11 +131,11 @@ stations_after input stations n i =
     with_stations (map asked_of (take i stations)) (stations_from (n - i) (station_offset i) (drop (station_offset i) input))
 
 -- one turn where the next record is a station, which is put into the array
-pub station-turn :
+pub station_turn :
     (input : List ℕ) (stations : List Listed) (n i : ℕ) (s : Listed) → i < n → i < length stations
     → said (Is.Station s) ≡ read_record (drop (station_offset i) input)
     → stations_after input stations n i ≡ stations_after input (set stations i s) n (i + 1)
-station-turn input stations n i s h l e =
+station_turn input stations n i s h l e =
     ap (λ k. with_stations before (stations_from k (station_offset i) rest)) more
     ∙ ap (λ x. with_stations before (stations_by x m (station_offset i) rest)) (sym e)
     ∙ ap₂
@@ -171,7 +171,7 @@ station-turn input stations n i s h l e =
         ∙ map-append asked_of (take i stations) (s ∷ [])
 
 -- where it is none
-pub station-other :
+pub station_other :
     (input : List ℕ) (stations : List Listed) (n i : ℕ) → i < n → ¬ ((read_record (drop (station_offset i) input)).kind ≡ 2)
     → stations_after input stations n i
     ≡ record {
@@ -179,7 +179,7 @@ pub station-other :
       offset = station_offset i;
       asked = map asked_of (take i stations);
     }
-station-other input stations n i h e =
+station_other input stations n i h e =
     let more : n - i ≡ suc (n - (i + 1)) = omega arith in
     ap (λ k. with_stations before (stations_from k (station_offset i) (drop (station_offset i) input))) more
     ∙ simp (ne_eqb x.kind 2 e)
@@ -192,10 +192,10 @@ station-other input stations n i h e =
     before = map asked_of (take i stations)
 
 -- and where all are read
-pub stations-end :
+pub stations_end :
     (input : List ℕ) (stations : List Listed) (n i : ℕ) → i ≤ n → n ≤ i
     → stations_after input stations n i ≡ record { refusal = 0; offset = 0; asked = map asked_of (take n stations) }
-stations-end input stations n i h l =
+stations_end input stations n i h l =
     let same : i ≡ n = omega arith in
     let none : n - i ≡ 0 = omega arith in
     ap (λ k. with_stations (map asked_of (take i stations)) (stations_from k (station_offset i) (drop (station_offset i) input))) none
@@ -248,17 +248,17 @@ enough (suc turns) (suc turns') previous offset rest h h' =
         → (length (drop arrival_bytes rest) < turns → length (drop arrival_bytes rest) < turns' → later turns ≡ later turns')
         → by t (later turns) ≡ by t (later turns')
     go true e same =
-        let long : 16 ≤ length rest = record-within rest 0 3 (eqb-true x.kind 3 e) (omega arith) in
+        let long : 16 ≤ length rest = record_within rest 0 3 (eqb-true x.kind 3 e) (omega arith) in
         let left = length-drop arrival_bytes rest in
         ap (by true) (same (omega arith) (omega arith))
     go false e same = refl
 
 -- an arrival's record ends within the input
 pub arrival_within : (input : List ℕ) (at : ℕ) → (read_record (drop at input)).kind ≡ arrival_kind.kind → at + arrival_bytes ≤ length input
-arrival_within input at e = record-within input at 3 e (omega arith)
+arrival_within input at e = record_within input at 3 e (omega arith)
 
 -- one turn where the record is an arrival; t is whether its time is below the previous one's
-pub arrival-turn :
+pub arrival_turn :
     (input : List ℕ) (at previous : ℕ) (a : Arrival) (t : Bool) → said (Is.Arrival a) ≡ read_record (drop at input)
     → t ≡ ltb a.time.0 previous
     → arrivals_from (suc (length input)) previous at (drop at input)
@@ -266,7 +266,7 @@ pub arrival-turn :
     t
     (refused_ending 21 at)
     (with_arrival a (arrivals_from (suc (length input)) a.time.0 (at + arrival_bytes) (drop (at + arrival_bytes) input)))
-arrival-turn input at previous a t e late =
+arrival_turn input at previous a t e late =
     let within : at + 16 ≤ length input = arrival_within input at (ap (λ (y : Said). y.kind) (sym e)) in
     let left = length-drop (at + arrival_bytes) input in
     ap (λ x. arrivals_by x (length input) previous at (drop at input)) (sym e)
@@ -279,26 +279,26 @@ arrival-turn input at previous a t e late =
     (enough (length input) (suc (length input)) a.time.0 (at + arrival_bytes) (drop (at + arrival_bytes) input) (omega arith) (omega arith))
 
 -- and where it is none
-pub arrivals-over :
+pub arrivals_over :
     (input : List ℕ) (turns previous at : ℕ) → ¬ ((read_record (drop at input)).kind ≡ 3)
     → arrivals_from (suc turns) previous at (drop at input) ≡ run_at input at
-arrivals-over input turns previous at e = rw (ne_eqb (read_record (drop at input)).kind 3 e)
+arrivals_over input turns previous at e = rw (ne_eqb (read_record (drop at input)).kind 3 e)
 
 -- ---- the run
 
 -- where the record is no run
-pub run-other :
+pub run_other :
     (input : List ℕ) (at : ℕ) → ¬ ((read_record (drop at input)).kind ≡ 4)
     → run_at input at ≡ refused_ending (out_of_place (read_record (drop at input))) at
-run-other input at e = rw (ne_eqb (read_record (drop at input)).kind 4 e)
+run_other input at e = rw (ne_eqb (read_record (drop at input)).kind 4 e)
 
 -- where it is one; t is whether bytes come after it
-pub run-here :
+pub run_here :
     (input : List ℕ) (at steps : ℕ) (t : Bool) → said (Is.Run steps) ≡ read_record (drop at input)
     → t ≡ ltb (at + run_bytes) (length input)
     → run_at input at
     ≡ cond t (refused_ending 20 (at + run_bytes)) (record { refusal = 0; offset = 0; arrivals = []; steps = steps })
-run-here input at steps t e more =
+run_here input at steps t e more =
     ap (λ x. run_from x at after) (sym e) ∙ ap (λ b. cond b last (refused_ending 20 (at + run_bytes))) (none t more) ∙ swap t
   where
     after : ℕ
@@ -331,48 +331,48 @@ About i [] = Unit {0}
 About i (t ∷ ts) = (t.0.station ≡ i) × About i ts
 
 -- the verdict is about one of m stations where the first tests are about such a one, and the others' verdict is
-tests-about :
+tests_about :
     (m i : ℕ) (ts us : List (Verdict × Bool)) → About i ts → i ≤ m → (first_of fine us).station ≤ m → (first_of fine (ts ++ us)).station ≤ m
-tests-about m i [] us a h l = l
-tests-about m i (t ∷ ts) us a h l = go t.1 (tests-about m i ts us a.1 h l)
+tests_about m i [] us a h l = l
+tests_about m i (t ∷ ts) us a h l = go t.1 (tests_about m i ts us a.1 h l)
   where
     go : (b : Bool) → (first_of fine (ts ++ us)).station ≤ m → (verdict b t.0 (first_of fine (ts ++ us))).station ≤ m
     go true k = let e = a.0 in omega arith
     go false k = k
 
 -- the verdict on the stations from place i on is about one of m, if these are that many at most
-row-about :
+row_about :
     (r : Request) (m i : ℕ) (earlier later : List Asked) → i + length later ≤ m
     → (first_of fine (row_tests r i earlier later)).station ≤ m
-row-about r m i earlier [] h = omega arith
-row-about r m i earlier (s ∷ later) h =
-    tests-about
+row_about r m i earlier [] h = omega arith
+row_about r m i earlier (s ∷ later) h =
+    tests_about
     m
     i
     (station_tests r i earlier s)
     (row_tests r (suc i) (earlier ++ (s ∷ [])) later)
     (refl, (refl, (refl, (refl, tt))))
     (omega arith)
-    (row-about r m (suc i) (earlier ++ (s ∷ [])) later (omega arith))
+    (row_about r m (suc i) (earlier ++ (s ∷ [])) later (omega arith))
 
 -- the verdict on a set-up is about one of its stations
 pub verdict_about : (r : Request) → (set_up_verdict r).station ≤ r.N
 verdict_about r =
-    tests-about
+    tests_about
     r.N
     0
     (settings_tests r)
     (row_tests r 0 [] (take r.N r.row))
     (refl, (refl, (refl, (refl, (refl, tt)))))
     (omega arith)
-    (row-about r r.N 0 [] (take r.N r.row) (omega (arith, length-take r.N r.row)))
+    (row_about r r.N 0 [] (take r.N r.row) (omega (arith, length-take r.N r.row)))
 
 -- ---- refusals
 
 -- a number that is not 0 refuses
-pub refused-by :
+pub refused_by :
     (n m offset at : ℕ) (x : Reading) → m ≡ n → at ≡ offset → ¬ (m ≡ 0) → refused m at ≡ cond (eqb n 0) x (refused n offset)
-refused-by n m offset at x e f h =
+refused_by n m offset at x e f h =
     ap₂ refused e f ∙ ap (λ t. cond t x (refused n offset)) (sym (ne_eqb n 0 (λ z. h (e ∙ z))))
 
 -- and 0 does not

@@ -47,10 +47,10 @@ pub known_long : (kind long : ℕ) → is_kind kind long ≡ true → 4 ≤ 2 + 
 known_long = by_kind (λ (kind long : ℕ). 4 ≤ 2 + long) (omega arith) (omega arith) (omega arith) (omega arith)
 
 -- A known kind's record is read by its kind.
-known-body :
+known_body :
     (rest : List ℕ) (kind long : ℕ) → is_kind kind long ≡ true
     → read_body (row_of kind long kinds) rest ≡ cond (ltb (length rest) (2 + long)) (refused_record 18) (said_by_kind kind (body_in long rest))
-known-body rest =
+known_body rest =
     by_kind
     (λ (kind long : ℕ).
     read_body (row_of kind long kinds) rest ≡ cond (ltb (length rest) (2 + long)) (refused_record 18) (said_by_kind kind (body_in long rest)))
@@ -81,11 +81,11 @@ module _ (rest : List ℕ) (kind long : ℕ) (four : 4 ≤ length rest) (k : kin
       → cond short (refused_record 18) (said_by_kind kind (body_in long rest)) ≡ read_record rest
   read_known short s e =
       ap (λ (t : Bool). cond t (refused_record 18) (said_by_kind kind (body_in long rest))) (sym s)
-      ∙ sym (read_as ∙ known-body rest kind long e)
+      ∙ sym (read_as ∙ known_body rest kind long e)
 
 -- What a body says by its row, from the numbers at the offsets of its fields.
-pub said-by :
+pub said_so_by :
     (row : Kind) (body : List ℕ) (values : List ℕ) → values ≡ fields_from row.widths 0 body
     → ◌≡◌ {A = Said} (record { refusal = 0; kind = row.kind; values = values }) (said_by row body)
-said-by row body values e =
+said_so_by row body values e =
     ap {B = Said} (λ (vs : List ℕ). record { refusal = 0; kind = row.kind; values = vs }) (e ∙ sym (fields_are_from row.widths 0 body))

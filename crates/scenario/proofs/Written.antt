@@ -20,7 +20,7 @@ use Rattle.rules.proofs.Standing.{set_up_accepted}
 use Rattle.state.specs.declared.Arrival.{Arrival}
 use Rattle.state.specs.declared.Settings.{Settings}
 use Rattle.state.specs.SetUp.{request_with, settings_refusal}
-use Rattle.state.proofs.SettingUp.{SettingsPass, set-up-turn, set_up_pass}
+use Rattle.state.proofs.SettingUp.{SettingsPass, set_up_turn, set_up_pass}
 use Rattle.scenario.specs.Format.{set_up_kind, station_kind, arrival_kind, run_kind, Said, read_record, out_of_place}
 use Rattle.scenario.specs.Reading.{most_bytes, set_up_bytes, station_bytes, arrival_bytes, run_bytes}
 use Rattle.scenario.specs.Reading.{settings_from, asked_from, arrival_from, steps_from, StationsRead, with_station, stations_from}
@@ -31,7 +31,7 @@ use Rattle.scenario.specs.Writing.{Bytes, record_bytes, set_up_values, station_v
 use Rattle.scenario.specs.Writing.{stations_bytes, ending_bytes, written, ArrivalFits, InOrder, Good}
 use Rattle.scenario.proofs.ReadingLaws.{arrivals_by, not_refused}
 use Rattle.scenario.proofs.WrittenRecords.{bytes_drop, Fit, set_up_row, station_row, arrival_row, run_row}
-use Rattle.scenario.proofs.WrittenRecords.{past_record, record_read, told, place_refused, record-written}
+use Rattle.scenario.proofs.WrittenRecords.{past_record, record_read, told, place_refused, record_written}
 
 -- ---- an accepted set-up
 
@@ -127,16 +127,16 @@ module _ (r : Request) (e : (set_up_verdict r).refusal ≡ 0) where
 
       go : (t : Bool) → eqb v.refusal 0 ≡ t → v.refusal ≡ 0
       go true same = eqb-true v.refusal 0 same
-      go false same = ap (λ (w : Verdict). w.refusal) (sym (set-up-turn settings_of r.row v false refl same)) ∙ e
+      go false same = ap (λ (w : Verdict). w.refusal) (sym (set_up_turn settings_of r.row v false refl same)) ∙ e
 
 -- ---- the writing of a good scenario is accepted
 
 -- stations that fit are read as they are written
-stations-read :
+stations_read :
     (row : List Asked) (offset : ℕ) (more : List ℕ) → All StationFits row
     → stations_from (length row) offset (stations_bytes row ++ more) ≡ record { refusal = 0; offset = 0; asked = row }
-stations-read [] offset more f = refl
-stations-read (s ∷ later) offset more f =
+stations_read [] offset more f = refl
+stations_read (s ∷ later) offset more f =
     ap (stations_from (suc (length later)) offset) (append_assoc this (stations_bytes later) more)
     ∙ ap
     (λ x.
@@ -146,7 +146,7 @@ stations-read (s ∷ later) offset more f =
     (record { refusal = out_of_place x; offset = offset; asked = [] }))
     (record_read station_kind (station_values s) (stations_bytes later ++ more) station_row fits)
     ∙ ap (λ l. with_station s (next l)) (past_record station_kind (station_values s) (stations_bytes later ++ more) station_row fits)
-    ∙ ap (with_station s) (stations-read later (offset + station_bytes) more (λ x i. f x (in_tail i)))
+    ∙ ap (with_station s) (stations_read later (offset + station_bytes) more (λ x i. f x (in_tail i)))
   where
     this : List ℕ
     this = record_bytes station_kind (station_values s)
@@ -170,16 +170,16 @@ pub arrival_fit : (a : Arrival) → ArrivalFits a → Fit arrival_kind.widths (a
 arrival_fit a f = (f.time, (f.address, (f.value, (f.length, tt))))
 
 -- arrivals that fit and come in order are read as they are written, and so is the run after them
-ending-read :
+ending_read :
     (arrivals : List Arrival) (steps turns previous offset : ℕ) → length arrivals < turns → All ArrivalFits arrivals
     → InOrder previous arrivals → steps < 65_536
     → arrivals_from turns previous offset (ending_bytes arrivals steps) ≡ record { refusal = 0; offset = 0; arrivals = arrivals; steps = steps }
-ending-read arrivals steps zero previous offset h f o k = absurd (omega arith)
-ending-read [] steps (suc turns) previous offset h f o k =
+ending_read arrivals steps zero previous offset h f o k = absurd (omega arith)
+ending_read [] steps (suc turns) previous offset h f o k =
     ap
     (λ x. arrivals_by x turns previous offset (record_bytes run_kind (run_values steps)))
     (record_read run_kind (run_values steps) [] run_row (k, tt))
-ending-read (a ∷ later) steps (suc turns) previous offset h f o k =
+ending_read (a ∷ later) steps (suc turns) previous offset h f o k =
     ap (λ x. arrivals_by x turns previous offset rest) (record_read arrival_kind (arrival_values a) (ending_bytes later steps) arrival_row fits)
     ∙ ap₂
     (λ t l. cond t (refused_ending 21 offset) (with_arrival a (next l)))
@@ -187,7 +187,7 @@ ending-read (a ∷ later) steps (suc turns) previous offset h f o k =
     (past_record arrival_kind (arrival_values a) (ending_bytes later steps) arrival_row fits)
     ∙ ap
     (with_arrival a)
-    (ending-read later steps turns a.time.0 (offset + arrival_bytes) (omega arith) (λ x i. f x (in_tail i)) o.1 k)
+    (ending_read later steps turns a.time.0 (offset + arrival_bytes) (omega arith) (λ x i. f x (in_tail i)) o.1 k)
   where
     rest : List ℕ
     rest = record_bytes arrival_kind (arrival_values a) ++ ending_bytes later steps
@@ -204,16 +204,16 @@ ending_long [] steps = omega arith
 ending_long (a ∷ later) steps = omega (arith, ending_long later steps)
 
 -- No good scenario is refused: its bytes are accepted, as what they were written from.
-pub accepted-if :
+pub accepted_if :
     (r : Request) (arrivals : List Arrival) (steps : ℕ) → Good r arrivals steps
     → reading (written r arrivals steps) ≡ accepted r arrivals steps
-accepted-if r arrivals steps good =
+accepted_if r arrivals steps good =
     ap (λ t. cond t (refused 22 0) (read_set_up (read_record input) input)) (le-ltb most_bytes (length input) good.short)
     ∙ ap (λ x. read_set_up x input) (record_read set_up_kind (set_up_values r) behind set_up_row fits)
     ∙ not_refused (settings_refusal g) (settings_refusal g) 0 (read_stations g stations input) refl (settings_fine r good.set_up_call)
     ∙ ap (λ x. read_stations g x input) stations_are
     ∙ not_refused (set_up_verdict r).refusal (set_up_verdict r).refusal _ _ refl good.set_up_call
-    ∙ ap (read_ending r) ending-is
+    ∙ ap (read_ending r) ending_is
   where
     input : List ℕ
     input = written r arrivals steps
@@ -236,7 +236,7 @@ accepted-if r arrivals steps good =
     stations_are : stations ≡ record { refusal = 0; offset = 0; asked = r.row }
     stations_are =
         ap₂ (λ n l. stations_from n set_up_bytes l) (sym good.stations) past_set_up
-        ∙ stations-read r.row set_up_bytes (ending_bytes arrivals steps) (stations_fit r good.set_up_call good.stations)
+        ∙ stations_read r.row set_up_bytes (ending_bytes arrivals steps) (stations_fit r good.set_up_call good.stations)
 
     past_stations : drop (station_offset r.N) input ≡ ending_bytes arrivals steps
     past_stations =
@@ -245,12 +245,12 @@ accepted-if r arrivals steps good =
         ∙ drop_at (stations_bytes r.row) (ending_bytes arrivals steps) (station_bytes * r.N)
         (stations_count r.row ∙ ap (λ n. station_bytes * n) good.stations)
 
-    ending-is :
+    ending_is :
         arrivals_from (suc (length input)) 0 (station_offset r.N) (drop (station_offset r.N) input)
         ≡ record { refusal = 0; offset = 0; arrivals = arrivals; steps = steps }
-    ending-is =
+    ending_is =
         ap (arrivals_from (suc (length input)) 0 (station_offset r.N)) past_stations
-        ∙ ending-read
+        ∙ ending_read
         arrivals
         steps
         (suc (length input))
@@ -264,13 +264,13 @@ accepted-if r arrivals steps good =
 -- ---- an accepted scenario is the writing of a good one
 
 -- stations that are not refused are written from what is read, and are as many as are to be read
-stations-written :
+stations_written :
     (n offset : ℕ) (rest : List ℕ) → Bytes rest → (stations_from n offset rest).refusal ≡ 0
     → (rest ≡ stations_bytes (stations_from n offset rest).asked ++ drop (station_bytes * n) rest)
     × (length (stations_from n offset rest).asked ≡ n)
-stations-written zero offset rest b e = (refl, refl)
-stations-written (suc n) offset rest b e =
-    go (eqb x.kind 2) refl e (stations-written n (offset + station_bytes) (drop station_bytes rest) (bytes_drop station_bytes rest b))
+stations_written zero offset rest b e = (refl, refl)
+stations_written (suc n) offset rest b e =
+    go (eqb x.kind 2) refl e (stations_written n (offset + station_bytes) (drop station_bytes rest) (bytes_drop station_bytes rest b))
   where
     x : Said
     x = read_record rest
@@ -290,7 +290,7 @@ stations-written (suc n) offset rest b e =
         → (rest ≡ stations_bytes (by t).asked ++ drop (station_bytes * suc n) rest) × (length (by t).asked ≡ suc n)
     go true k f more =
         let this =
-        record-written station_kind station_row (λ vs. station_values (asked_from vs)) (λ body. refl) rest x (told rest) b (eqb-true _ _ k) in
+        record_written station_kind station_row (λ vs. station_values (asked_from vs)) (λ body. refl) rest x (told rest) b (eqb-true _ _ k) in
         let those = more f in
         let one_more : station_bytes + station_bytes * n ≡ station_bytes * suc n = omega arith in (
           this.0
@@ -311,10 +311,10 @@ record Ended (rest : List ℕ) (previous : ℕ) (x : EndingRead) : Type 0 where
   few : x.steps < 65_536
 
 -- the run
-run-written :
+run_written :
     (rest : List ℕ) (previous offset : ℕ) → Bytes rest → (run_from (read_record rest) offset (length (drop run_bytes rest))).refusal ≡ 0
     → Ended rest previous (run_from (read_record rest) offset (length (drop run_bytes rest)))
-run-written rest previous offset b e = go (eqb x.kind 4) refl (eqb (length (drop run_bytes rest)) 0) refl e
+run_written rest previous offset b e = go (eqb x.kind 4) refl (eqb (length (drop run_bytes rest)) 0) refl e
   where
     x : Said
     x = read_record rest
@@ -334,7 +334,7 @@ run-written rest previous offset b e = go (eqb x.kind 4) refl (eqb (length (drop
         (t : Bool) → eqb x.kind 4 ≡ t → (u : Bool) → eqb (length (drop run_bytes rest)) 0 ≡ u → (by t u).refusal ≡ 0
         → Ended rest previous (by t u)
     go true k true l f =
-        let this = record-written run_kind run_row (λ vs. run_values (steps_from vs)) (λ body. refl) rest x (told rest) b (eqb-true _ _ k) in
+        let this = record_written run_kind run_row (λ vs. run_values (steps_from vs)) (λ body. refl) rest x (told rest) b (eqb-true _ _ k) in
         record {
           bytes = this.0 ∙ ap (λ l. record_bytes run_kind (run_values (steps_from x.values)) ++ l) (none _ (eqb-true _ _ l));
           fit = all_nil ArrivalFits;
@@ -345,18 +345,18 @@ run-written rest previous offset b e = go (eqb x.kind 4) refl (eqb (length (drop
     go false k u l f = absurd (place_refused rest x (told rest) f)
 
 -- and before it the arrivals
-ending-written :
+ending_written :
     (turns previous offset : ℕ) (rest : List ℕ) → Bytes rest → (arrivals_from turns previous offset rest).refusal ≡ 0
     → Ended rest previous (arrivals_from turns previous offset rest)
-ending-written zero previous offset rest b e = absurd (omega arith)
-ending-written (suc turns) previous offset rest b e =
+ending_written zero previous offset rest b e = absurd (omega arith)
+ending_written (suc turns) previous offset rest b e =
     go
     (eqb x.kind 3)
     refl
     (ltb a.time.0 previous)
     refl
     e
-    (ending-written turns a.time.0 (offset + arrival_bytes) (drop arrival_bytes rest) (bytes_drop arrival_bytes rest b))
+    (ending_written turns a.time.0 (offset + arrival_bytes) (drop arrival_bytes rest) (bytes_drop arrival_bytes rest b))
   where
     x : Said
     x = read_record rest
@@ -378,7 +378,7 @@ ending-written (suc turns) previous offset rest b e =
     go true k true l f more = absurd (omega arith)
     go true k false l f more =
         let this =
-        record-written arrival_kind arrival_row (λ vs. arrival_values (arrival_from vs)) (λ body. refl) rest x (told rest) b (eqb-true _ _ k) in
+        record_written arrival_kind arrival_row (λ vs. arrival_values (arrival_from vs)) (λ body. refl) rest x (told rest) b (eqb-true _ _ k) in
         let those = more f in
         record {
           bytes = this.0 ∙ ap (λ l. record_bytes arrival_kind (arrival_values a) ++ l) those.bytes;
@@ -390,7 +390,7 @@ ending-written (suc turns) previous offset rest b e =
           order = (ltb-false a.time.0 previous l, those.order);
           few = those.few;
         }
-    go false k late l f more = run-written rest previous offset b f
+    go false k late l f more = run_written rest previous offset b f
 
 -- what a reading tells: an accepted input is the writing of a good scenario
 Wrote : List ℕ → Reading → Type 0
@@ -398,11 +398,11 @@ Wrote input (refused n offset) = Unit {0}
 Wrote input (accepted r arrivals steps) = (input ≡ written r arrivals steps) × Good r arrivals steps
 
 -- what is told by a test, where else it is refused
-by-test :
+by_test :
     (input : List ℕ) (t : Bool) (x : Reading) (n offset : ℕ) → (t ≡ true → Wrote input x) → Wrote input (cond t x (refused n offset))
 unfolding Wrote
-by-test input true x n offset h = h refl
-by-test input false x n offset h = tt
+by_test input true x n offset h = h refl
+by_test input false x n offset h = tt
 
 -- any input of bytes
 wrote : (input : List ℕ) → Bytes input → Wrote input (reading input)
@@ -433,10 +433,10 @@ wrote input b = go (ltb most_bytes (length input)) refl
         → (input ≡ written r ending.arrivals ending.steps) × Good r ending.arrivals ending.steps
     all short k s p e =
         let first =
-        record-written set_up_kind set_up_row (λ vs. set_up_values (request_with (settings_from vs) [])) (λ body. refl) input x (told input) b k in
-        let row = stations-written g.n set_up_bytes (drop set_up_bytes input) (bytes_drop set_up_bytes input b) s in
+        record_written set_up_kind set_up_row (λ vs. set_up_values (request_with (settings_from vs) [])) (λ body. refl) input x (told input) b k in
+        let row = stations_written g.n set_up_bytes (drop set_up_bytes input) (bytes_drop set_up_bytes input b) s in
         let last =
-        ending-written
+        ending_written
         (suc (length input))
         0
         (station_offset r.N)
@@ -462,16 +462,16 @@ wrote input b = go (ltb most_bytes (length input)) refl
     go : (t : Bool) → ltb most_bytes (length input) ≡ t → Wrote input (cond t (refused 22 0) (read_set_up x input))
     go true l = tt
     go false l =
-        by-test input (eqb x.kind 1) (read_settings g input) (out_of_place x) 0 (λ k.
-        by-test input (eqb (settings_refusal g) 0) (read_stations g stations input) (settings_refusal g) 0 (λ q.
-        by-test input (eqb stations.refusal 0) (read_arrivals r input) stations.refusal stations.offset (λ s.
-        by-test input (eqb v.refusal 0) (read_ending r ending) v.refusal (station_offset v.station) (λ p.
-        by-test input (eqb ending.refusal 0) (accepted r ending.arrivals ending.steps) ending.refusal ending.offset (λ e.
+        by_test input (eqb x.kind 1) (read_settings g input) (out_of_place x) 0 (λ k.
+        by_test input (eqb (settings_refusal g) 0) (read_stations g stations input) (settings_refusal g) 0 (λ q.
+        by_test input (eqb stations.refusal 0) (read_arrivals r input) stations.refusal stations.offset (λ s.
+        by_test input (eqb v.refusal 0) (read_ending r ending) v.refusal (station_offset v.station) (λ p.
+        by_test input (eqb ending.refusal 0) (accepted r ending.arrivals ending.steps) ending.refusal ending.offset (λ e.
         all (ltb-false _ _ l) (eqb-true _ _ k) (eqb-true _ _ s) (eqb-true _ _ p) (eqb-true _ _ e))))))
 
 -- Nothing else is accepted: an accepted input of bytes is the writing of a good scenario, the one that it is read as.
-pub accepted-only :
+pub accepted_only :
     (input : List ℕ) (r : Request) (arrivals : List Arrival) (steps : ℕ) → Bytes input → reading input ≡ accepted r arrivals steps
     → (input ≡ written r arrivals steps) × Good r arrivals steps
 unfolding Wrote
-accepted-only input r arrivals steps b e = subst (Wrote input) e (wrote input b)
+accepted_only input r arrivals steps b e = subst (Wrote input) e (wrote input b)

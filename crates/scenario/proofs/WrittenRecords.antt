@@ -238,11 +238,11 @@ place_refused rest x (by_row row known k l long) e =
     omega arith
 
 -- a whole record is written from the fields of its body
-whole-record :
+whole_record :
     (row : Kind) (rest : List ℕ) → InTable row → Bytes rest → kind_in rest ≡ row.kind → length_in rest ≡ row.length
     → 2 + row.length ≤ length rest
     → rest ≡ record_bytes row (fields row.widths (body_in row.length rest)) ++ drop (2 + row.length) rest
-whole-record row rest known b k l long =
+whole_record row rest known b k l long =
     number_first 2 row.length rest (omega arith) b l
     ∙ ap
     (λ xs. bytes_of 2 row.length ++ xs)
@@ -263,16 +263,16 @@ whole-record row rest known b k l long =
     count = length-take-le (row.length - 2) (drop 4 rest) (omega (arith, length-drop 4 rest)) ∙ omega (arith, known.sized)
 
 -- a record of a row's kind is written from its values, if `again` gives the fields of any body
-pub record-written :
+pub record_written :
     (row : Kind) → InTable row → (again : List ℕ → List ℕ) → ((body : List ℕ) → again (fields row.widths body) ≡ fields row.widths body)
     → (rest : List ℕ) (x : Said) → Told rest x → Bytes rest → x.kind ≡ row.kind
     → (rest ≡ record_bytes row (again x.values) ++ drop (2 + row.length) rest) × Fit row.widths (again x.values)
-record-written row known again same rest x (nothing n h) b e = absurd (omega (arith, known.named))
-record-written row known again same rest x (by_row row' known' k l long) b e =
+record_written row known again same rest x (nothing n h) b e = absurd (omega (arith, known.named))
+record_written row known again same rest x (by_row row' known' k l long) b e =
     subst
     (λ (y : Kind). (rest ≡ record_bytes y (again values) ++ drop (2 + y.length) rest) × Fit y.widths (again values))
     one (
-      whole-record row' rest known' b k l long ∙ ap (λ vs. record_bytes row' vs ++ drop (2 + row'.length) rest) (sym as_read),
+      whole_record row' rest known' b k l long ∙ ap (λ vs. record_bytes row' vs ++ drop (2 + row'.length) rest) (sym as_read),
       subst (Fit row'.widths) (sym as_read) (fields_fit row'.widths body (bytes_take (row'.length - 2) (drop 4 rest) (bytes_drop 4 rest b))),
     )
   where

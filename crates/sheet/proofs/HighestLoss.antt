@@ -49,10 +49,10 @@ module _ (done : List Run) (r : Run) where
   last-is = get_or-append_seam done r [] no_run
 
   -- the new run comes highest: it has a figure, and every loss before it is below its own
-  new-highest :
+  new_highest :
       Figure (loss_of r) → ((i : ℕ) → i < length done → Figure (loss_in done i) → Below (loss_in done i) (loss_of r))
       → IsHighest more (placed (length done) r)
-  new-highest figure below =
+  new_highest figure below =
       record {
         there = omega (arith, one_more);
         its = ap (placed (length done)) (sym last-is);
@@ -85,7 +85,7 @@ module _ (done : List Run) (r : Run) where
   says_more Is.NoFigure none = go (has_figure r) refl
     where
       go : (t : Bool) → has_figure r ≡ t → Says more (cond t (Is.Run (placed (length done) r)) Is.NoFigure)
-      go true e = new-highest (ltb-true 0 (loss_of r).ended e) (λ i l f. absurd (none i l f))
+      go true e = new_highest (ltb-true 0 (loss_of r).ended e) (λ i l f. absurd (none i l f))
       go false e =
           each (λ x. ¬ Figure (loss_of x)) none (λ f. let l = ltb-false 0 (loss_of r).ended e in omega arith)
   says_more (Is.Run p) h = go (above (loss_of r) (loss_at p)) refl
@@ -102,7 +102,7 @@ module _ (done : List Run) (r : Run) where
       go : (t : Bool) → above (loss_of r) (loss_at p) ≡ t → Says more (cond t (Is.Run (placed (length done) r)) (Is.Run p))
       go true e =
           let below = above_is (loss_of r) (loss_at p) e in
-          new-highest (figure below) (λ i l f. at_most_below (loss_in done i) (loss_at p) (loss_of r) f (h.most i l f) below)
+          new_highest (figure below) (λ i l f. at_most_below (loss_in done i) (loss_at p) (loss_of r) f (h.most i l f) below)
       go false e = old_highest p h (above_not (loss_of r) (loss_at p) e)
 
 -- ---- all runs

@@ -10,7 +10,7 @@ use lib.ListN.{length, get_or, take, set, replicate, length-map, length-take, dr
 use lib.Seq.{slice, slice-cons, set_at, append_snoc, take-suc, length-take-le}
 use Rattle.sheet.specs.Sheet.{Run, Sums, Highest, most_runs, no_run, balances, unbalanced, row_of, sum_of, sums_of, loss_of, placed, further}
 use Rattle.sheet.specs.Sheet.{highest_from, highest_of, refused_batch, drawn}
-use Rattle.sheet.proofs.Refusals.{drawn-by}
+use Rattle.sheet.proofs.Refusals.{drawn_by}
 use Rattle.sheet.specs.declared.Highest.TheVariants as Is
 use Rattle.sheet.specs.Parts.{short, Few, plus, loss, takes_place, highest_so}
 
@@ -31,10 +31,10 @@ module _ (count : ℕ) (runs : List Run) (i : ℕ) where
       ap (unbalanced i) (left_turn h k)
       ∙ ap (λ t. cond t (unbalanced (suc i) (slice (i + 1) count runs)) i) (sym e ∙ not-true answer told)
 
-  pub unbalanced-later :
+  pub unbalanced_later :
       {answer : Bool} → i < count → count ≤ length runs → answer ≡ balances (get_or runs i no_run) → not answer ≡ false
       → from_here ≡ unbalanced (i + 1) (slice (i + 1) count runs)
-  unbalanced-later {answer} h k e told =
+  unbalanced_later {answer} h k e told =
       ap (unbalanced i) (left_turn h k)
       ∙ ap (λ t. cond t (unbalanced (suc i) (slice (i + 1) count runs)) i) (sym e ∙ not-false answer told)
       ∙ ap (λ j. unbalanced j (slice (i + 1) count runs)) (sym (add-one i))
@@ -42,11 +42,11 @@ module _ (count : ℕ) (runs : List Run) (i : ℕ) where
 -- ---- the rows
 
 -- one row more
-pub rows-turn :
+pub rows_turn :
     (runs : List Run) (i : ℕ) {rows : List Run} {r : Run} → i < length runs → length runs ≡ most_runs
     → rows ≡ map row_of (take i runs) ++ replicate (most_runs - i) no_run → r ≡ row_of (get_or runs i no_run)
     → set rows i r ≡ map row_of (take (i + 1) runs) ++ replicate (most_runs - (i + 1)) no_run
-rows-turn runs i {rows} {r} h full e same =
+rows_turn runs i {rows} {r} h full e same =
     ap₂ (λ (l : List Run) (x : Run). set l i x) (e ∙ ap (λ n. done ++ replicate n no_run) left) same
     ∙ set_at done no_run (replicate (most_runs - (i + 1)) no_run) (row_of (get_or runs i no_run)) i long
     ∙ sym (append_snoc done (row_of (get_or runs i no_run)) (replicate (most_runs - (i + 1)) no_run))
@@ -78,19 +78,19 @@ sum_more count (x ∷ runs) r = let later = sum_more count runs r in omega arith
 sums_more : (runs : List Run) (r : Run) → sums_of (runs ++ (r ∷ [])) ≡ plus (sums_of runs) r
 sums_more runs r = simp sum_more
 
-pub sums-turn :
+pub sums_turn :
     (runs : List Run) (i : ℕ) {sums : Sums} → i < length runs → sums ≡ sums_of (take i runs)
     → plus sums (get_or runs i no_run) ≡ sums_of (take (i + 1) runs)
-sums-turn runs i {sums} h e =
+sums_turn runs i {sums} h e =
     ap (λ (s : Sums). plus s (get_or runs i no_run)) e
     ∙ sym (sums_more (take i runs) (get_or runs i no_run))
     ∙ ap sums_of (sym (ap (λ n. take n runs) (add-one i) ∙ take-suc runs i no_run h))
 
 -- the sums of one run more are no larger than they may be
-pub few-more :
+pub few_more :
     (i : ℕ) (sums : Sums) (r : Run) → Few i sums → short r.admitted → short r.sent → short r.lost → short r.waiting
     → short r.turned → Few (i + 1) (plus sums r)
-few-more i sums r few a b c d e =
+few_more i sums r few a b c d e =
     record {
       admitted = omega (arith, few.admitted);
       sent = omega (arith, few.sent);
@@ -102,7 +102,7 @@ few-more i sums r few a b c d e =
 -- ---- the highest loss
 
 -- one run more, by whether it takes the place of the highest so far
-highest-turn :
+highest_turn :
     (count : ℕ) (runs : List Run) (i : ℕ) (found : Bool) (place lost ended : ℕ) (t : Bool) → i < count → count ≤ length runs
     → t ≡ takes_place found (loss lost ended) (loss_of (get_or runs i no_run))
     → highest_from (highest_so found place lost ended) i (slice i count runs)
@@ -110,7 +110,7 @@ highest-turn :
     (cond t (Is.Run (placed i (get_or runs i no_run))) (highest_so found place lost ended))
     (i + 1)
     (slice (i + 1) count runs)
-highest-turn count runs i found place lost ended t h k e =
+highest_turn count runs i found place lost ended t h k e =
     ap (highest_from (highest_so found place lost ended) i) (left_turn count runs i h k)
     ∙ ap (λ n. highest_from (further (highest_so found place lost ended) i r) n (slice (i + 1) count runs)) (sym (add-one i))
     ∙ ap (λ (x : Highest). highest_from x (i + 1) (slice (i + 1) count runs)) (go found)
@@ -133,21 +133,21 @@ module _ (count : ℕ) (runs : List Run) (i : ℕ) (found : Bool) (place lost en
   so = highest_so found place lost ended
 
   -- it does not
-  pub highest-stays :
+  pub highest_stays :
       {t : Bool} → i < count → count ≤ length runs → t ≡ takes_place found (loss lost ended) (loss_of (get_or runs i no_run)) → not t ≡ true
       → highest_from so i (slice i count runs) ≡ highest_from so (i + 1) (slice (i + 1) count runs)
-  highest-stays {t} h k e told =
-      highest-turn count runs i found place lost ended t h k e
+  highest_stays {t} h k e told =
+      highest_turn count runs i found place lost ended t h k e
       ∙ ap
       (λ b. highest_from (cond b (Is.Run (placed i (get_or runs i no_run))) so) (i + 1) (slice (i + 1) count runs))
       (not-true t told)
 
   -- it does
-  pub highest-taken :
+  pub highest_taken :
       {t : Bool} → i < count → count ≤ length runs → t ≡ takes_place found (loss lost ended) (loss_of (get_or runs i no_run)) → not t ≡ false
       → highest_from so i (slice i count runs) ≡ highest_from (Is.Run (placed i (get_or runs i no_run))) (i + 1) (slice (i + 1) count runs)
-  highest-taken {t} h k e told =
-      highest-turn count runs i found place lost ended t h k e
+  highest_taken {t} h k e told =
+      highest_turn count runs i found place lost ended t h k e
       ∙ ap
       (λ b. highest_from (cond b (Is.Run (placed i (get_or runs i no_run))) so) (i + 1) (slice (i + 1) count runs))
       (not-false t told)
@@ -163,14 +163,14 @@ module _ (row : List Run) (count : ℕ) (few : count ≤ most_runs) (full : leng
   long = length-take-le count row (omega arith)
 
   pub drawn_24 : (place : ℕ) → place ≡ unbalanced 0 (take count row) → place < count → refused_batch 24 place ≡ drawn row count
-  drawn_24 place e h = sym (drawn-by row count few place true e (lt-ltb place (length (take count row)) (omega (arith, long))))
+  drawn_24 place e h = sym (drawn_by row count few place true e (lt-ltb place (length (take count row)) (omega (arith, long))))
 
-  pub drawn-sheet :
+  pub drawn_sheet :
       {place : ℕ} {rows : List Run} {sums : Sums} {highest : Highest} → place ≡ unbalanced 0 (take count row) → count ≤ place
       → rows ≡ map row_of (take count row) ++ replicate (most_runs - count) no_run → sums ≡ sums_of (take count row)
       → highest ≡ highest_of (take count row)
       → record { refusal = 0; place = 0; sheet = record { rows = rows; count = count; sums = sums; highest = highest } } ≡ drawn row count
-  drawn-sheet {place} {rows} {sums} {highest} e h f g k =
+  drawn_sheet {place} {rows} {sums} {highest} e h f g k =
       ap₂
       (λ (l : List Run) (n : ℕ). record { refusal = 0; place = 0; sheet = record { rows = l; count = n; sums = sums; highest = highest } })
       (f ∙ ap (λ n. map row_of (take count row) ++ replicate (most_runs - n) no_run) (sym long))
@@ -190,4 +190,4 @@ module _ (row : List Run) (count : ℕ) (few : count ≤ most_runs) (full : leng
       })
       g
       k
-      ∙ sym (drawn-by row count few place false e (le-ltb place (length (take count row)) (omega (arith, long))))
+      ∙ sym (drawn_by row count few place false e (le-ltb place (length (take count row)) (omega (arith, long))))

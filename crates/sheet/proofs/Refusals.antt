@@ -83,19 +83,19 @@ module _ (row : List Run) (count : ℕ) where
     runs = take count row
 
     -- by the place of the first run that does not balance
-    pub drawn-by :
+    pub drawn_by :
         (place : ℕ) (t : Bool) → place ≡ unbalanced 0 runs → ltb place (length runs) ≡ t
         → drawn row count ≡ cond t (refused_batch 24 place) (sheet_drawn runs)
-    drawn-by place t e l =
+    drawn_by place t e l =
         ap (λ b. cond b (refused_batch 23 0) (drawn_of runs)) (le-ltb most_runs count few)
         ∙ ap (λ n. cond (ltb n (length runs)) (refused_batch 24 n) (sheet_drawn runs)) (sym e)
         ∙ ap (λ b. cond b (refused_batch 24 place) (sheet_drawn runs)) l
 
     -- '24, a run whose admitted count is not sent + lost + waiting'; the first of them
     pub drawn_uneven : (place : ℕ) → FirstUnbalanced runs place → drawn row count ≡ refused_batch 24 place
-    drawn_uneven place h = drawn-by place true (sym (first_found runs 0 place h ∙ zero-add place)) (lt-ltb place (length runs) h.there)
+    drawn_uneven place h = drawn_by place true (sym (first_found runs 0 place h ∙ zero-add place)) (lt-ltb place (length runs) h.there)
 
     -- nothing else refuses a batch
     pub drawn_whole : AllBalanced runs → drawn row count ≡ sheet_drawn runs
     drawn_whole h =
-        drawn-by (length runs) false (sym (none_found runs 0 h ∙ zero-add (length runs))) (le-ltb (length runs) (length runs) (omega arith))
+        drawn_by (length runs) false (sym (none_found runs 0 h ∙ zero-add (length runs))) (le-ltb (length runs) (length runs) (omega arith))

@@ -11,7 +11,7 @@ use Rattle.text.specs.Text.{space, decimal}
 use Rattle.words.specs.Words.{while, in_line, in_word, first_word, after_word, same, number_end, number_of, label}
 use Rattle.words.proofs.Runs.{passes_one, passes_append}
 use Rattle.words.proofs.Comparing.{same_self}
-use Rattle.words.proofs.Written.{word-then, after_then, word_space, after_space}
+use Rattle.words.proofs.Written.{word_then, after_then, word_space, after_space}
 use Rattle.words.proofs.Figures.{decimal_word, decimal_line, decimal_some, decimal_back, label_word, label_line, label_back}
 use Rattle.layout.specs.Layout.{address_label, label_bytes, word_missing, Fields, faulty, field_in, fields_in}
 use Rattle.shown.specs.Shown.{number_text, fields_text}
@@ -70,7 +70,7 @@ fields_read (word ∷ words) (n ∷ ns) h =
     ap₂ (λ w more. by w (first_word more) (after_word more)) (word_space (label_bytes word) after h.0.0 h.0.1)
     (after_space (label_bytes word) after h.0.0 h.0.1)
     ∙ ap₂ (by (label_bytes word))
-    (word-then (number_text word n) later number.some_bytes number.word (fields-stop words ns))
+    (word_then (number_text word n) later number.some_bytes number.word (fields-stop words ns))
     (after_then (number_text word n) later number.some_bytes number.word (fields-stop words ns))
     ∙ ap (λ t. cond t (field_in word (number_of (number_text word n)) (fields_in words later)) (faulty (word_missing word))) (same_self (label_bytes word))
     ∙ ap₂ (field_in word) number.back (fields_read words ns h.2)

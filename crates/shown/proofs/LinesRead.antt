@@ -23,7 +23,7 @@ use Rattle.text.specs.Text.{bytes, newline}
 use Rattle.words.specs.Words.{while, in_line, in_word, lines_of, first_word, after_word, same}
 use Rattle.words.proofs.Runs.{passes_append}
 use Rattle.words.proofs.Lines.{lines_then}
-use Rattle.words.proofs.Written.{word-then, after_then}
+use Rattle.words.proofs.Written.{word_then, after_then}
 use Rattle.layout.specs.Layout.{bus_line, station_line, arrival_line, attempt_line, run_line, kind_of, discipline_named}
 use Rattle.layout.specs.Layout.{d_label, address_label, capability_label, labels_of, address_large, length_large, steps_large, fields_in}
 use Rattle.layout.specs.Layout.{in_stations, in_arrivals, Plan, start, Taken, taken}
@@ -38,10 +38,10 @@ use Rattle.shown.proofs.FieldsRead.{Worded, Readable, fields-stop, fields_line, 
 abbrev pub well : Plan → Taken
 well q = record { fault = 0; plan = q }
 
-pub read-line :
+pub read_line :
     (p q : Plan) (words rest : List ℕ) (line : ℕ) → while in_line words ≡ words → take_line p words ≡ well q
     → read_lines line p (lines_of (words ++ (newline ∷ rest))) ≡ read_lines (suc line) q (lines_of rest)
-read-line p q words rest line one e =
+read_line p q words rest line one e =
     ap (read_lines line p) (lines_then words rest one)
     ∙ ap (λ (t : Taken). cond (eqb t.fault 0) (read_lines (suc line) t.plan (lines_of rest)) (wrong (suc line) t.fault)) e
 
@@ -78,11 +78,11 @@ module _ (word words ns : List ℕ) (kind : ℕ) (o : Opens word kind) (r : Read
   opens_line = passes_append in_line word (fields_text words ns) o.line (fields_line words ns r)
 
   -- where the kind has its place and these are its words, the line says the numbers
-  opens-said :
+  opens_said :
       (p : Plan) → place_fault p.stage p.settings.n kind ≡ 0 → labels_of kind p.settings.discipline ≡ words
       → take_line p (word ++ fields_text words ns) ≡ take_said p kind ns
-  opens-said p place labels =
-      ap₂ by (word-then word rest o.some_bytes o.word stops) (after_then word rest o.some_bytes o.word stops)
+  opens_said p place labels =
+      ap₂ by (word_then word rest o.some_bytes o.word stops) (after_then word rest o.some_bytes o.word stops)
       ∙ ap₂ (λ t k. cond t (taken 0 p p) (placed (place_fault p.stage p.settings.n k) k rest)) (not_empty word o.some_bytes) o.kind
       ∙ ap (λ fault. placed fault kind rest) place
       ∙ ap₂
@@ -150,7 +150,7 @@ module _ (g : Settings) (fits : Fit set_up_kind.widths (set_up_values (request_w
   pub bus_taken : g.discipline ≤ 2 → bus_fault g ≡ 0 → take_line start (bus_words g) ≡ well (plan_of g in_stations 0 [] [])
   bus_taken known fine =
       ap₂ (λ w more. take_bus start (discipline_named w) (fields_in (labels_of bus_line 0) more))
-      (word-then name rest (named_some x) (named_word x) (fields-stop (labels_of bus_line 0) ns))
+      (word_then name rest (named_some x) (named_word x) (fields-stop (labels_of bus_line 0) ns))
       (after_then name rest (named_some x) (named_word x) (fields-stop (labels_of bus_line 0) ns))
       ∙ ap₂ (take_bus start) (named_back g.discipline known) (fields_read (labels_of bus_line 0) ns bus_readable)
       ∙ ap₂
@@ -210,12 +210,12 @@ module _ (g : Settings) (s : Asked) (f : StationFits g s) where
   station_said p true e = refl
   station_said p false e = ap (λ n. take_station p (record { address = s.address; capability = n })) (sym (f.none (eqb-false _ _ e)))
 
-  pub station-taken :
+  pub station_was_taken :
       (n : ℕ) (xs : List Asked) → n < most_stations → (set_up_verdict (request_with (counted (suc n) g) (xs ++ (s ∷ [])))).refusal ≡ 0
       → take_line (plan_of g in_stations n xs []) (station_words g s) ≡ well (plan_of g in_stations (suc n) (xs ++ (s ∷ [])) [])
-  station-taken n xs few accepted =
+  station_was_taken n xs few accepted =
       ap (λ text. take_line p (bytes "station" ++ text)) (shown_by_test t)
-      ∙ opens-said (bytes "station") (words_by t) (numbers_by t) station_line opens_station (station_readable t) p refl refl
+      ∙ opens_said (bytes "station") (words_by t) (numbers_by t) station_line opens_station (station_readable t) p refl refl
       ∙ station_said p t refl
       ∙ ap₂ (λ b fault. taken (cond b 6 fault) p (with_station p s)) (lt-leb most_stations n few) accepted
     where
@@ -267,11 +267,11 @@ module _ (g : Settings) (a : Arrival) (f : ArrivalFits a) where
       go true = opens_line (bytes "arrival") words (arrival_values a) arrival_line opens_arrival arrival_readable
       go false = opens_line (bytes "attempt") words (arrival_values a) attempt_line opens_attempt arrival_readable
 
-  pub arrival-taken :
+  pub arrival_was_taken :
       (stage n : ℕ) (row : List Asked) (xs : List Arrival) → Open stage n
       → set_up_bytes + station_bytes * n + arrival_bytes * (length xs + 1) + run_bytes ≤ most_bytes → inserted a xs ≡ xs ++ (a ∷ [])
       → take_line (plan_of g stage n row xs) (arrival_words g a) ≡ well (plan_of g in_arrivals n row (xs ++ (a ∷ [])))
-  arrival-taken stage n row xs place short last = go (fits_ranges g a) refl
+  arrival_was_taken stage n row xs place short last = go (fits_ranges g a) refl
     where
       p : Plan
       p = plan_of g stage n row xs
@@ -293,10 +293,10 @@ module _ (g : Settings) (a : Arrival) (f : ArrivalFits a) where
           → take_line p (arrival_word t ++ fields_text words (arrival_values a)) ≡ well (plan_of g in_arrivals n row (xs ++ (a ∷ [])))
       go true e =
           let both = and-true (value_is_fit (discipline_of g.discipline) g.d a.value) (length_fits a.length) e in
-          opens-said (bytes "arrival") words (arrival_values a) arrival_line opens_arrival arrival_readable p (place arrival_line refl) refl
+          opens_said (bytes "arrival") words (arrival_values a) arrival_line opens_arrival arrival_readable p (place arrival_line refl) refl
           ∙ then _ (none_of _ _ _ _ address both.0 both.1 long)
       go false e =
-          opens-said (bytes "attempt") words (arrival_values a) attempt_line opens_attempt arrival_readable p (place attempt_line refl) refl
+          opens_said (bytes "attempt") words (arrival_values a) attempt_line opens_attempt arrival_readable p (place attempt_line refl) refl
           ∙ then
           _
           (ap₂
@@ -319,5 +319,5 @@ module _ (steps : ℕ) (few : steps < 65_536) where
 
   pub run_taken : (p : Plan) → Open p.stage p.settings.n → take_line p (run_words steps) ≡ well (with_run p steps)
   run_taken p place =
-      opens-said (bytes "run") (labels_of run_line 0) (steps ∷ []) run_line opens_run run_readable p (place run_line refl) refl
+      opens_said (bytes "run") (labels_of run_line 0) (steps ∷ []) run_line opens_run run_readable p (place run_line refl) refl
       ∙ ap (λ t. taken (cond t steps_large 0) p (with_run p steps)) (le-ltb 65_535 steps (omega arith))

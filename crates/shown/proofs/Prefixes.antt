@@ -24,22 +24,22 @@ none_given accepted v (c ∷ cs) none (inl held) = absurd (none.0 held.0)
 none_given accepted v (c ∷ cs) none (inr later) = none_given accepted v cs none.1 later.1
 
 -- the first of stations in turn, whatever N and the row that is asked for
-first-held :
+first_held :
     (g : Settings) (m n : ℕ) (row row' : List Asked) (i : ℕ) (earlier xs ys : List Asked)
     → NoneHolds (row_conditions (request_with (counted m g) row) i earlier (xs ++ ys))
     → NoneHolds (row_conditions (request_with (counted n g) row') i earlier xs)
-first-held g m n row row' i earlier [] ys h = tt
-first-held g m n row row' i earlier (x ∷ xs) ys h =
-    (h.0, (h.1.0, (h.1.1.0, (h.1.1.1.0, first-held g m n row row' (suc i) (earlier ++ (x ∷ [])) xs ys h.1.1.1.1))))
+first_held g m n row row' i earlier [] ys h = tt
+first_held g m n row row' i earlier (x ∷ xs) ys h =
+    (h.0, (h.1.0, (h.1.1.0, (h.1.1.1.0, first_held g m n row row' (suc i) (earlier ++ (x ∷ [])) xs ys h.1.1.1.1))))
 
 -- a set-up of as many stations as its row has
 abbrev pub request_for : Settings → List Asked → Request
 request_for g row = request_with (counted (length row) g) row
 
-pub prefix-accepted :
+pub prefix_accepted :
     (g : Settings) (xs ys : List Asked) → 1 ≤ length xs → (set_up_verdict (request_for g (xs ++ ys))).refusal ≡ 0
     → (set_up_verdict (request_for g xs)).refusal ≡ 0
-prefix-accepted g xs ys some! e =
+prefix_accepted g xs ys some! e =
     ap (λ (v : Verdict). v.refusal) (none_given fine (set_up_verdict r) (set_up_conditions r) none (given fine (set_up_tried r)))
   where
     r : Request
@@ -64,7 +64,7 @@ prefix-accepted g xs ys some! e =
             subst
             (λ (l : List Asked). NoneHolds (row_conditions r 0 [] l))
             (sym (take_all (length xs) xs (omega arith)))
-            (first-held g _ _ _ _ 0 [] xs ys
+            (first_held g _ _ _ _ 0 [] xs ys
             (subst
             (λ (l : List Asked). NoneHolds (row_conditions (request_for g (xs ++ ys)) 0 [] l))
             (take_all (length (xs ++ ys)) (xs ++ ys) (omega arith))

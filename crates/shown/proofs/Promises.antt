@@ -10,7 +10,7 @@ use Rattle.rules.specs.SetUp.{Request}
 use Rattle.state.specs.declared.Arrival.{Arrival}
 use Rattle.scenario.specs.Reading.{accepted, reading}
 use Rattle.scenario.specs.Writing.{Bytes, written, Good}
-use Rattle.scenario.proofs.Promises.{accepted-only}
+use Rattle.scenario.proofs.Promises.{accepted_only}
 use Rattle.layout.specs.Layout.{says, layout_says}
 use Rattle.shown.specs.Shown.{layout_of, shown_from}
 use Rattle.shown.specs.Examples.{lines_text, pri_request, pri_arrivals, pri_lines, rtdg_request, rtdg_arrivals, rtdg_lines}
@@ -20,28 +20,28 @@ use Rattle.shown.proofs.Turns as Turns
 use Rattle.shown.proofs.Examples as Examples
 
 -- the bytes of a good scenario, shown record by record, are its layout; as many calls as it has records are enough
-pub shown-turns :
+pub shown_turns :
     (r : Request) (arrivals : List Arrival) (steps most : ℕ) → Good r arrivals steps → length r.row + length arrivals + 2 ≤ most
     → shown_from most (written r arrivals steps) 0 ≡ layout_of r arrivals steps
-shown-turns = Turns.shown-turns
+shown_turns = Turns.shown_turns
 
 -- the layout of a good scenario says that scenario
-pub shown-back :
+pub shown_back :
     (r : Request) (arrivals : List Arrival) (steps : ℕ) → Good r arrivals steps → layout_says (layout_of r arrivals steps) ≡ says r arrivals steps
-shown-back = RoundTrip.shown-back
+shown_back = RoundTrip.shown_back
 
 -- so does what is shown of any input of bytes that the reader accepts, by as many calls as it has bytes
-pub accepted-back :
+pub accepted_back :
     (input : List ℕ) (r : Request) (arrivals : List Arrival) (steps most : ℕ) → Bytes input → reading input ≡ accepted r arrivals steps
     → length input ≤ most → layout_says (shown_from most input 0) ≡ says r arrivals steps
-accepted-back = Turns.accepted-back
+accepted_back = Turns.accepted_back
 
 -- so that its writing is the same bytes
 pub same_bytes :
     (input : List ℕ) (r : Request) (arrivals : List Arrival) (steps most : ℕ) → Bytes input → reading input ≡ accepted r arrivals steps
     → length input ≤ most → (layout_says (shown_from most input 0) ≡ says r arrivals steps) × (written r arrivals steps ≡ input)
 same_bytes input r arrivals steps most bytes e h =
-    (accepted-back input r arrivals steps most bytes e h, sym (accepted-only input r arrivals steps bytes e).0)
+    (accepted_back input r arrivals steps most bytes e h, sym (accepted_only input r arrivals steps bytes e).0)
 
 -- three scenarios and their lines, letter by letter, and one of them by its bytes
 pub pri_holds : layout_of pri_request pri_arrivals 40 ≡ lines_text pri_lines

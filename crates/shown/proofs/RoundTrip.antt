@@ -28,9 +28,9 @@ use Rattle.text.specs.Text.{newline}
 use Rattle.words.specs.Words.{lines_of}
 use Rattle.layout.specs.Layout.{Plan, in_stations, in_arrivals, counted, bus_fault, inserted, start, with_run, Saying, says, read_lines, layout_says}
 use Rattle.shown.specs.Shown.{station_text, station_lines, ending_lines, settings_of, layout_of}
-use Rattle.shown.proofs.Prefixes.{request_for, prefix-accepted}
-use Rattle.shown.proofs.LinesRead.{read-line, plan_of, bus_words, bus_one_line, bus_taken, StationFits, station_words, station_one_line, station-taken}
-use Rattle.shown.proofs.LinesRead.{Open, open_stations, open_arrivals, arrival_words, arrival_one_line, arrival-taken, run_words, run_one_line, run_taken}
+use Rattle.shown.proofs.Prefixes.{request_for, prefix_accepted}
+use Rattle.shown.proofs.LinesRead.{read_line, plan_of, bus_words, bus_one_line, bus_taken, StationFits, station_words, station_one_line, station_was_taken}
+use Rattle.shown.proofs.LinesRead.{Open, open_stations, open_arrivals, arrival_words, arrival_one_line, arrival_was_taken, run_words, run_one_line, run_taken}
 
 -- ---- arrivals in order
 
@@ -55,21 +55,21 @@ bytes_of n arrivals = set_up_bytes + station_bytes * n + arrival_bytes * arrival
 module _ (g : Settings) (n : ℕ) (row : List Asked) (arrivals : List Arrival) (steps : ℕ) (order : InOrder 0 arrivals)
     (short : bytes_of n (length arrivals) ≤ most_bytes) (few : steps < 65_536) where
   -- after some of the arrivals, the others and the run are read as they are shown
-  ending-back :
+  ending_back :
       (xs ys : List Arrival) (stage line : ℕ) → arrivals ≡ xs ++ ys → Open stage n → All ArrivalFits ys
       → read_lines line (plan_of g stage n row xs) (lines_of (ending_lines g ys steps)) ≡ says (request_with (counted n g) row) arrivals steps
-  ending-back xs [] stage line e place fit =
-      read-line p (with_run p steps) (run_words steps) [] line (run_one_line steps few) (run_taken steps few p place)
+  ending_back xs [] stage line e place fit =
+      read_line p (with_run p steps) (run_words steps) [] line (run_one_line steps few) (run_taken steps few p place)
       ∙ ap (λ (l : List Arrival). says (request_with (counted n g) row) l steps) (sym (e ∙ append-nil xs))
     where
       p : Plan
       p = plan_of g stage n row xs
-  ending-back xs (a ∷ ys) stage line e place fit =
+  ending_back xs (a ∷ ys) stage line e place fit =
       ap (λ text. read_lines line p (lines_of text)) (append_assoc (arrival_words g a) (newline ∷ []) (ending_lines g ys steps))
-      ∙ read-line p (plan_of g in_arrivals n row (xs ++ (a ∷ []))) (arrival_words g a) (ending_lines g ys steps) line (arrival_one_line g a here)
-      (arrival-taken g a here stage n row xs place (omega (arith, ap length e, length-append xs (a ∷ ys)))
+      ∙ read_line p (plan_of g in_arrivals n row (xs ++ (a ∷ []))) (arrival_words g a) (ending_lines g ys steps) line (arrival_one_line g a here)
+      (arrival_was_taken g a here stage n row xs place (omega (arith, ap length e, length-append xs (a ∷ ys)))
       (inserted_last a xs ys 0 (subst (InOrder 0) e order)))
-      ∙ ending-back (xs ++ (a ∷ [])) ys in_arrivals (suc line) (e ∙ sym (append_snoc xs a ys)) (open_arrivals n) (λ x i. fit x (in_tail i))
+      ∙ ending_back (xs ++ (a ∷ [])) ys in_arrivals (suc line) (e ∙ sym (append_snoc xs a ys)) (open_arrivals n) (λ x i. fit x (in_tail i))
     where
       p : Plan
       p = plan_of g stage n row xs
@@ -82,19 +82,19 @@ module _ (g : Settings) (n : ℕ) (row : List Asked) (arrivals : List Arrival) (
 -- after some stations of an accepted row, the others are read as they are shown, and then what comes after them
 module _ (g : Settings) (row : List Asked) (accepted : (set_up_verdict (request_for g row)).refusal ≡ 0) (rest : List ℕ) (s : Saying)
     (later : (line : ℕ) → read_lines line (plan_of g in_stations (length row) row []) (lines_of rest) ≡ s) where
-  stations-back :
+  stations_back :
       (n : ℕ) (xs ys : List Asked) (line : ℕ) → row ≡ xs ++ ys → n ≡ length xs → All (StationFits g) ys
       → read_lines line (plan_of g in_stations n xs []) (lines_of (station_lines g ys ++ rest)) ≡ s
-  stations-back n xs [] line e count fit =
+  stations_back n xs [] line e count fit =
       let same = e ∙ append-nil xs in
       ap₂ (λ (m : ℕ) (l : List Asked). read_lines line (plan_of g in_stations m l []) (lines_of rest)) (count ∙ ap length (sym same)) (sym same)
       ∙ later line
-  stations-back n xs (x ∷ ys) line e count fit =
+  stations_back n xs (x ∷ ys) line e count fit =
       ap (λ text. read_lines line p (lines_of text))
       (append_assoc (station_text g x) (station_lines g ys) rest ∙ append_assoc (station_words g x) (newline ∷ []) (station_lines g ys ++ rest))
-      ∙ read-line p (plan_of g in_stations (suc n) more []) (station_words g x) (station_lines g ys ++ rest) line (station_one_line g x here)
-      (station-taken g x here n xs (omega (arith, (set_up_pass (counted (length row) g) row accepted).few, ap length next, length-append more ys, long)) first)
-      ∙ stations-back (suc n) more ys (suc line) next long (λ y i. fit y (in_tail i))
+      ∙ read_line p (plan_of g in_stations (suc n) more []) (station_words g x) (station_lines g ys ++ rest) line (station_one_line g x here)
+      (station_was_taken g x here n xs (omega (arith, (set_up_pass (counted (length row) g) row accepted).few, ap length next, length-append more ys, long)) first)
+      ∙ stations_back (suc n) more ys (suc line) next long (λ y i. fit y (in_tail i))
     where
       p : Plan
       p = plan_of g in_stations n xs []
@@ -114,18 +114,18 @@ module _ (g : Settings) (row : List Asked) (accepted : (set_up_verdict (request_
       first : (set_up_verdict (request_with (counted (suc n) g) more)).refusal ≡ 0
       first =
           ap (λ m. (set_up_verdict (request_with (counted m g) more)).refusal) long
-          ∙ prefix-accepted g more ys (omega (arith, long)) (subst (λ (l : List Asked). (set_up_verdict (request_for g l)).refusal ≡ 0) next accepted)
+          ∙ prefix_accepted g more ys (omega (arith, long)) (subst (λ (l : List Asked). (set_up_verdict (request_for g l)).refusal ≡ 0) next accepted)
 
 -- those of an accepted row fit: but in RTVC, the capability is 0
-no-capability :
+no_capability :
     (r : Request) (i : ℕ) (earlier later : List Asked) → NoneHolds (row_conditions r i earlier later)
     → All (λ s. ¬ (r.discipline ≡ code RTVC) → s.capability ≡ 0) later
-no-capability r i earlier [] h = all_nil (λ s. ¬ (r.discipline ≡ code RTVC) → s.capability ≡ 0)
-no-capability r i earlier (s ∷ later) h =
+no_capability r i earlier [] h = all_nil (λ s. ¬ (r.discipline ≡ code RTVC) → s.capability ≡ 0)
+no_capability r i earlier (s ∷ later) h =
     all_cons
     s
     (λ other. stable (equal s.capability 0) (λ m. h.1.1.0 (inr (other, m))))
-    (no-capability r (suc i) (earlier ++ (s ∷ [])) later h.1.1.1.1)
+    (no_capability r (suc i) (earlier ++ (s ∷ [])) later h.1.1.1.1)
 
 -- ---- the whole
 
@@ -141,14 +141,14 @@ written_count r arrivals steps =
     (arith, length-append (stations_bytes r.row) (ending_bytes arrivals steps), stations_count r.row, ending_count arrivals steps)
 
 -- A good scenario that is shown and read back is the same.
-pub shown-back :
+pub shown_back :
     (r : Request) (arrivals : List Arrival) (steps : ℕ) → Good r arrivals steps → layout_says (layout_of r arrivals steps) ≡ says r arrivals steps
-shown-back r arrivals steps good =
+shown_back r arrivals steps good =
     ap (λ text. read_lines 0 start (lines_of text)) (append_assoc (bus_words g) (newline ∷ []) (station_lines g r.row ++ ending))
-    ∙ read-line start (plan_of g in_stations 0 [] []) (bus_words g) (station_lines g r.row ++ ending) 0 (bus_one_line g fits)
+    ∙ read_line start (plan_of g in_stations 0 [] []) (bus_words g) (station_lines g r.row ++ ending) 0 (bus_one_line g fits)
     (bus_taken g fits pass.discipline (bus_fine r.row refl))
-    ∙ stations-back g r.row accepted ending (says (request_for g r.row) arrivals steps)
-    (λ line. ending-back g (length r.row) r.row arrivals steps good.order short good.few [] arrivals in_stations line refl
+    ∙ stations_back g r.row accepted ending (says (request_for g r.row) arrivals steps)
+    (λ line. ending_back g (length r.row) r.row arrivals steps good.order short good.few [] arrivals in_stations line refl
     (open_stations (length r.row) some!) good.fit)
     0 [] r.row 1 refl refl stations
     ∙ ap (λ (x : Request). says x arrivals steps) same
@@ -186,11 +186,11 @@ shown-back r arrivals steps good =
     bus_fine (s ∷ later) e =
         settings_fine
         (request_for g (s ∷ []))
-        (prefix-accepted g (s ∷ []) later (omega arith) (subst (λ (l : List Asked). (set_up_verdict (request_for g l)).refusal ≡ 0) e accepted))
+        (prefix_accepted g (s ∷ []) later (omega arith) (subst (λ (l : List Asked). (set_up_verdict (request_for g l)).refusal ≡ 0) e accepted))
 
     stations : All (StationFits g) r.row
     stations s i =
         let fit = stations_fit r good.set_up_call good.stations s i in
         let whole = take_all r.N r.row (omega (arith, good.stations)) in
         let read = subst (λ (l : List Asked). NoneHolds (row_conditions r 0 [] l)) whole none.1.1.1.1.1 in
-        record { address = fit.0; capability = fit.1.0; none = no-capability r 0 [] r.row read s i }
+        record { address = fit.0; capability = fit.1.0; none = no_capability r 0 [] r.row read s i }

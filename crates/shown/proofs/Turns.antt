@@ -17,11 +17,11 @@ use Rattle.scenario.specs.Reading.{set_up_bytes, station_bytes, arrival_bytes, s
 use Rattle.scenario.specs.Writing.{record_bytes, set_up_values, station_values, arrival_values, run_values, stations_bytes, ending_bytes, written}
 use Rattle.scenario.specs.Writing.{Bytes, ArrivalFits, Good}
 use Rattle.scenario.proofs.WrittenRecords.{Fit, InTable, set_up_row, station_row, arrival_row, run_row, past_record, record_read}
-use Rattle.scenario.proofs.Written.{StationFits, set_up_fits, stations_fit, arrival_fit, accepted-only}
+use Rattle.scenario.proofs.Written.{StationFits, set_up_fits, stations_fit, arrival_fit, accepted_only}
 use Rattle.layout.specs.Layout.{says, layout_says}
 use Rattle.shown.specs.Shown.{bus_text, station_text, arrival_text, run_text, station_lines, ending_lines, settings_of, layout_of}
 use Rattle.shown.specs.Shown.{Line, line_then, line_of, shown_at, shown_from}
-use Rattle.shown.proofs.RoundTrip.{written_count, shown-back}
+use Rattle.shown.proofs.RoundTrip.{written_count, shown_back}
 
 -- an input whose first record is a set-up with these numbers
 module _ (input : List ℕ) (r : Request) (first : read_record input ≡ record { refusal = 0; kind = set_up_kind.kind; values = set_up_values r }) where
@@ -51,49 +51,49 @@ module _ (input : List ℕ) (r : Request) (first : read_record input ≡ record 
       ap (λ (l : Line). l.text ++ cond (eqb l.next 0) [] (shown_from most input l.next)) e
       ∙ ap₂ (λ t (lines : List ℕ). text ++ cond t [] lines) (ne_eqb next 0 (λ z. omega arith)) later
 
-  ending-shown :
+  ending_shown :
       (arrivals : List Arrival) (steps most at : ℕ) → length arrivals < most → All ArrivalFits arrivals → steps < 65_536
       → drop at input ≡ ending_bytes arrivals steps → shown_from most input at ≡ ending_lines g arrivals steps
-  ending-shown arrivals steps zero at enough fit few e = absurd (omega arith)
-  ending-shown [] steps (suc most) at enough fit few e =
+  ending_shown arrivals steps zero at enough fit few e = absurd (omega arith)
+  ending_shown [] steps (suc most) at enough fit few e =
       ap
       (λ (l : Line). l.text ++ cond (eqb l.next 0) [] (shown_from most input l.next))
       (here at run_kind (run_values steps) [] run_row (few, tt) e)
       ∙ append-nil (run_text steps)
-  ending-shown (a ∷ later) steps (suc most) at enough fit few e =
+  ending_shown (a ∷ later) steps (suc most) at enough fit few e =
       let fits = arrival_fit a (fit a (at_head refl)) in
       on most at (at + arrival_bytes) (arrival_text g a) (ending_lines g later steps)
       (here at arrival_kind (arrival_values a) (ending_bytes later steps) arrival_row fits e)
       (omega arith)
-      (ending-shown later steps most (at + arrival_bytes) (omega arith) (λ x i. fit x (in_tail i)) few
+      (ending_shown later steps most (at + arrival_bytes) (omega arith) (λ x i. fit x (in_tail i)) few
       (past at arrival_kind (arrival_values a) (ending_bytes later steps) arrival_row fits e))
 
-  stations-shown :
+  stations_shown :
       (row : List Asked) (arrivals : List Arrival) (steps most at : ℕ) → length row + length arrivals < most → All StationFits row
       → All ArrivalFits arrivals → steps < 65_536 → drop at input ≡ stations_bytes row ++ ending_bytes arrivals steps
       → shown_from most input at ≡ station_lines g row ++ ending_lines g arrivals steps
-  stations-shown row arrivals steps zero at enough fits fit few e = absurd (omega arith)
-  stations-shown [] arrivals steps (suc most) at enough fits fit few e = ending-shown arrivals steps (suc most) at (omega arith) fit few e
-  stations-shown (s ∷ later) arrivals steps (suc most) at enough fits fit few e =
+  stations_shown row arrivals steps zero at enough fits fit few e = absurd (omega arith)
+  stations_shown [] arrivals steps (suc most) at enough fits fit few e = ending_shown arrivals steps (suc most) at (omega arith) fit few e
+  stations_shown (s ∷ later) arrivals steps (suc most) at enough fits fit few e =
       let more = stations_bytes later ++ ending_bytes arrivals steps in
       let stands = e ∙ append_assoc (record_bytes station_kind (station_values s)) (stations_bytes later) (ending_bytes arrivals steps) in
       on most at (at + station_bytes) (station_text g s) (station_lines g later ++ ending_lines g arrivals steps)
       (here at station_kind (station_values s) more station_row (fits s (at_head refl)) stands)
       (omega arith)
-      (stations-shown later arrivals steps most (at + station_bytes) (omega arith) (λ x i. fits x (in_tail i)) fit few
+      (stations_shown later arrivals steps most (at + station_bytes) (omega arith) (λ x i. fits x (in_tail i)) fit few
       (past at station_kind (station_values s) more station_row (fits s (at_head refl)) stands))
       ∙ sym (append_assoc (station_text g s) (station_lines g later) (ending_lines g arrivals steps))
 
 -- The lines of a good scenario's bytes, from the first record on to the next until there is none, are its layout. There is a line for each
 -- record, so that as many calls are enough.
-pub shown-turns :
+pub shown_turns :
     (r : Request) (arrivals : List Arrival) (steps most : ℕ) → Good r arrivals steps → length r.row + length arrivals + 2 ≤ most
     → shown_from most (written r arrivals steps) 0 ≡ layout_of r arrivals steps
-shown-turns r arrivals steps zero good enough = absurd (omega arith)
-shown-turns r arrivals steps (suc most) good enough =
+shown_turns r arrivals steps zero good enough = absurd (omega arith)
+shown_turns r arrivals steps (suc most) good enough =
     on input r first most 0 set_up_bytes (bus_text (settings_of r)) _ (here input r first 0 set_up_kind (set_up_values r) behind set_up_row fits refl)
     (omega arith)
-    (stations-shown input r first r.row arrivals steps most set_up_bytes (omega arith) (stations_fit r good.set_up_call good.stations) good.fit
+    (stations_shown input r first r.row arrivals steps most set_up_bytes (omega arith) (stations_fit r good.set_up_call good.stations) good.fit
     good.few (past input r first 0 set_up_kind (set_up_values r) behind set_up_row fits refl))
   where
     input : List ℕ
@@ -109,12 +109,12 @@ shown-turns r arrivals steps (suc most) good enough =
     first = record_read set_up_kind (set_up_values r) behind set_up_row fits
 
 -- So any accepted input of bytes that is shown and read back is the same, by as many calls as it has bytes.
-pub accepted-back :
+pub accepted_back :
     (input : List ℕ) (r : Request) (arrivals : List Arrival) (steps most : ℕ) → Bytes input → reading input ≡ accepted r arrivals steps
     → length input ≤ most → layout_says (shown_from most input 0) ≡ says r arrivals steps
-accepted-back input r arrivals steps most b e enough =
-    let wrote = accepted-only input r arrivals steps b e in
+accepted_back input r arrivals steps most b e enough =
+    let wrote = accepted_only input r arrivals steps b e in
     let long = ap length wrote.0 ∙ written_count r arrivals steps in
     ap (λ (l : List ℕ). layout_says (shown_from most l 0)) wrote.0
-    ∙ ap layout_says (shown-turns r arrivals steps most wrote.1 (omega arith))
-    ∙ shown-back r arrivals steps wrote.1
+    ∙ ap layout_says (shown_turns r arrivals steps most wrote.1 (omega arith))
+    ∙ shown_back r arrivals steps wrote.1

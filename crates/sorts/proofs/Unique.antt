@@ -8,7 +8,7 @@ use Rattle.sorts.proofs.slots_until.Reads as slots-until
 use Rattle.sorts.proofs.same_address.Reads as same_address
 use Rattle.sorts.proofs.address_past.Reads as address-past
 use Rattle.sorts.proofs.address_number.Reads as address-number
-use Rattle.sorts.proofs.same_capability.Reads as same-capability
+use Rattle.sorts.proofs.same_capability.Reads as same_capability
 use Rattle.sorts.proofs.not_above.Reads as not-above
 use Rattle.sorts.proofs.capability_past.Reads as capability-past
 use Rattle.sorts.proofs.capability_number.Reads as capability-number
@@ -37,7 +37,7 @@ address_past_determined κs args r r' end end' = unique
 pub address_number_determined : Determines address-number.Learnt
 address_number_determined κs args r r' end end' = unique
 
-pub same_capability_determined : Determines same-capability.Learnt
+pub same_capability_determined : Determines same_capability.Learnt
 same_capability_determined κs args r r' end end' = unique
 
 pub not_above_determined : Determines not-above.Learnt

@@ -27,7 +27,7 @@ use Rattle.rules.proofs.Standing.{set_up_stands}
 use Rattle.state.specs.State.{Packet, Contender, Contention, Round, State, Held, no_packet, no_contender, nobody, recorded_in, recorded_at, recorded, contender_in, places_at, queue_at, offer_of, station_at, stations_of, last_of, contention_of, meaning, no_station, station_or, listed_form, contender_form, round_form, tied_form, contention_form, segment_form, queues_form, form, has_no_packet, queue_padded, contender_padded, station_padded, has_no_station, each_place, round_padded, no_window, contention_padded, padded}
 use Rattle.state.proofs.Contenders.{recorded_held, place_recorded, recorded_ext}
 use Rattle.state.proofs.Places.{places_count, place_at}
-use Rattle.state.proofs.Rows.{each_place_all, all_each_place, values_length, values_at, values-ext, row_length, row_at, row_ext}
+use Rattle.state.proofs.Rows.{each_place_all, all_each_place, values_length, values_at, values_ext, row_length, row_at, row_ext}
 
 -- ---- the rows of a form are as long as the code's arrays
 
@@ -187,9 +187,9 @@ pub places_length : (s : State) → Held s → (i : ℕ) → i < most_stations �
 places_length s h i l = places_count s.queues i l h.packets
 
 -- where the places past a queue's end are zero, its packets are what stands at its places
-padded-place :
+padded_place :
     (n : ℕ) (packets : List Packet) → queue_padded n packets ≡ true → (m : ℕ) → get_or packets m no_packet ≡ get_or (take n packets) m no_packet
-padded-place n packets e m = go (ltb m n) refl
+padded_place n packets e m = go (ltb m n) refl
   where
     go : (t : Bool) → ltb m n ≡ t → get_or packets m no_packet ≡ get_or (take n packets) m no_packet
     go true h = sym (get_or-take n packets m no_packet (ltb-true m n h))
@@ -260,14 +260,14 @@ module _ (s : State) (h : Held s) (p : Padded s) where
       let room = leb-true n places (and-true (leb n places) (each_of has_no_packet (drop n (places_at s.queues i))) (p.queues i l)).0 in
       length-take-le n (places_at s.queues i) (omega (arith, places_length s h i l))
 
-  packet-at :
+  packet_at :
       (j : ℕ) → j < places * most_stations
       → get_or s.queues.packets j no_packet ≡ get_or (queue_at s.queues (j / places)) (j % places) no_packet
-  packet-at j l =
+  packet_at j l =
       let split : j ≡ places * (j / places) + j % places = omega arith in
       ap (λ k. get_or s.queues.packets k no_packet) split
       ∙ sym (place_at s.queues (j / places) (j % places) (omega arith))
-      ∙ padded-place
+      ∙ padded_place
       (get_or s.queues.lengths (j / places) 0)
       (places_at s.queues (j / places))
       (p.queues (j / places) (omega arith))
@@ -291,7 +291,7 @@ module _ (s : State) (h : Held s) (p : Padded s) where
       s.queues.packets
       no_packet
       h.packets
-      (λ j l. packet-at j l ∙ ap (λ x. get_or x.queue (j % places) no_packet) (station_at_place s p (j / places) (omega arith)))
+      (λ j l. packet_at j l ∙ ap (λ x. get_or x.queue (j % places) no_packet) (station_at_place s p (j / places) (omega arith)))
 
   is_form : s ≡ form (meaning s)
   is_form =
@@ -344,9 +344,9 @@ bits_past_n s h p i m = go (ltb i most_stations) refl
         not-true c.contends (and-true none_there (not c.contends) (p.past_n i m (ltb-true i most_stations e))).1
     go false e = bit_past most_stations s.segment.contenders i h.contenders.word (ltb-false i most_stations e)
 
-pub zero-without-bit :
+pub zero_without_bit :
     (s : State) → Padded s → (i : ℕ) → i < most_stations → bit_at s.segment.contenders i ≡ false → recorded_at s.segment i ≡ no_contender
-zero-without-bit s p i l e =
+zero_without_bit s p i l e =
     let c = recorded_at s.segment i in
     contender_is_form c (p.contenders i l)
     ∙ ap (λ t. contender_form (cond t (some (record { parameter = c.parameter; packet = c.packet })) none)) e
@@ -431,10 +431,10 @@ module _ (b : Bus) where
   pub length_at : (i : ℕ) → i < most_stations → get_or (form b).queues.lengths i 0 ≡ length (station_or b i).queue
   length_at i l = row_at most_stations (λ k. length (station_or b k).queue) i 0 l
 
-  pub packet-in :
+  pub packet_in :
       (i : ℕ) → i < most_stations → (m : ℕ) → m < places
       → get_or (places_at (form b).queues i) m no_packet ≡ get_or (station_or b i).queue m no_packet
-  packet-in i l m h =
+  packet_in i l m h =
       let station : (places * i + m) / places ≡ i = omega arith in
       let place : (places * i + m) % places ≡ m = omega arith in
       place_at (form b).queues i m h
@@ -453,7 +453,7 @@ module _ (b : Bus) (fits : Fits b) where
   pub queue_in : (i : ℕ) → i < most_stations → queue_at (form b).queues i ≡ (station_or b i).queue
   queue_in i l =
       ap (λ n. take n (places_at (form b).queues i)) (length_at b i l)
-      ∙ front (station_or b i).queue (places_at (form b).queues i) (has_room i) (places_length (form b) (held_form b) i l) (packet-in b i l)
+      ∙ front (station_or b i).queue (places_at (form b).queues i) (has_room i) (places_length (form b) (held_form b) i l) (packet_in b i l)
 
   pub station_in : (i : ℕ) → i < most_stations → station_at (form b) i ≡ station_or b i
   station_in i l =
@@ -468,7 +468,7 @@ module _ (b : Bus) (fits : Fits b) where
   stations_in : stations_of (form b) ≡ b.stations
   stations_in =
       sym
-      (values-ext
+      (values_ext
       (station_at (form b))
       0
       (length b.stations)
@@ -500,7 +500,7 @@ module _ (b : Bus) (fits : Fits b) where
   queue_zeros : (i : ℕ) → i < most_stations → queue_padded (get_or (form b).queues.lengths i 0) (places_at (form b).queues i) ≡ true
   queue_zeros i l =
       ap (λ n. queue_padded n (places_at (form b).queues i)) (length_at b i l)
-      ∙ zeros_past (station_or b i).queue (places_at (form b).queues i) (has_room i) (places_length (form b) (held_form b) i l) (packet-in b i l)
+      ∙ zeros_past (station_or b i).queue (places_at (form b).queues i) (has_room i) (places_length (form b) (held_form b) i l) (packet_in b i l)
 
   past_zeros : (i : ℕ) → length b.stations ≤ i → i < most_stations → has_no_station (form b) i ≡ true
   past_zeros i n l =

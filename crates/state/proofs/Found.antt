@@ -47,10 +47,10 @@ Hung numbers links x = Found numbers links x (x % 2048) (x / 2048)
 abbrev pub Kept : List ℕ → List ℕ → Type 0
 Kept links links' = (at : ℕ) → 0 < get_or links at 0 → get_or links' at 0 ≡ get_or links at 0
 
-found-kept :
+found_kept :
     {numbers links links' : List ℕ} {x at rest : ℕ} → Kept links links' → Found numbers links x at rest → Found numbers links' x at rest
-found-kept {at = at} k (here h e) = let same = k at h in here {at = at} (omega arith) (rw same e)
-found-kept {at = at} {rest = rest} k (on h f) = let same = k at h in on {at = at} {rest = rest} (omega arith) (rw same (found-kept k f))
+found_kept {at = at} k (here h e) = let same = k at h in here {at = at} (omega arith) (rw same e)
+found_kept {at = at} {rest = rest} k (on h f) = let same = k at h in on {at = at} {rest = rest} (omega arith) (rw same (found_kept k f))
 
 -- what stands at a link: 0, or one more than the place of a number among the first k, whose own links lie further on
 abbrev pub Sound : List ℕ → ℕ → ℕ → ℕ → Type 0
@@ -90,9 +90,9 @@ pub record Way (numbers links : List ℕ) (k at rest : ℕ) : Type 0 where
   pub onward : Among (get_or numbers k 0) (take k numbers) → Found numbers links (get_or numbers k 0) at rest
   pub back : (links' : List ℕ) → Kept links links' → Found numbers links' (get_or numbers k 0) at rest → Hung numbers links' (get_or numbers k 0)
 
-pub way-start :
+pub way_start :
     {numbers links : List ℕ} {k : ℕ} → Known numbers links k → Way numbers links k (get_or numbers k 0 % 2048) (get_or numbers k 0 / 2048)
-way-start {numbers} {k = k} g =
+way_start {numbers} {k = k} g =
     record {
       known = g;
       low = omega (arith, mod-lt (get_or numbers k 0) {m = 2048} (omega arith));
@@ -107,10 +107,10 @@ module _ {numbers links : List ℕ} {k at rest : ℕ} (w : Way numbers links k a
   x = get_or numbers k 0
 
   -- the number is known
-  pub way-again :
+  pub way_again :
       {n : ℕ} → k < n → n ≤ length numbers → 0 < get_or links at 0 → get_or numbers (get_or links at 0 - 1) 0 ≡ get_or numbers k 0
       → false ≡ distinct (take n numbers)
-  way-again {n} l m h e =
+  way_again {n} l m h e =
       let split =
       split_at (take n numbers) k 0 (omega (arith, length-take-le n numbers m))
       ∙ ap₂ (λ ns y. ns ++ y ∷ drop (suc k) (take n numbers)) (take-take k n numbers (omega arith)) (get_or-take n numbers k 0 l) in
@@ -167,7 +167,7 @@ module _ {numbers links : List ℕ} {k at rest : ℕ} (w : Way numbers links k a
       itself = omega arith
 
       found : (y : ℕ) → Among y (take k numbers) ⊎ Among y (x ∷ []) → Hung numbers links' y
-      found y (inl i) = found-kept kept (w.known.hung y i)
+      found y (inl i) = found_kept kept (w.known.hung y i)
       found y (inr (at_head e)) =
           subst (Hung numbers links') (sym e) (w.back links' kept (here {at = at} (omega (arith, stored)) (rw (stored, itself))))
       found y (inr (in_tail i)) = absurd (among_none i)

@@ -36,10 +36,10 @@ place_at qs i j h = get_or-take 16 (drop (16 * i) qs.packets) j no_packet h ∙ 
 -- ---- loops that copy places
 
 -- one place more
-pub copied-one :
+pub copied_one :
     (d : List Packet) (at : ℕ) (s : List Packet) (j : ℕ) {xs : List Packet} {p : Packet} {k : ℕ} → xs ≡ paste d at s j
     → p ≡ get_or s j no_packet → k ≡ at + j → at + j < length d → j < length s → set xs k p ≡ paste d at s (j + 1)
-copied-one d at s j {xs} {p} e same place h k =
+copied_one d at s j {xs} {p} e same place h k =
     ap (λ n. set xs n p) place ∙ ap₂ (λ ys q. set ys (at + j) q) e same ∙ paste-suc d at s j no_packet h k
     ∙ ap (λ n. paste d at s n) (sym (add-one j))
 
@@ -51,19 +51,19 @@ copied_all d at s j n e done h =
     e ∙ ap (λ k. paste d at s k) done ∙ ap (λ t. take at d ++ t ++ drop (at + n) d) (take_all n s (omega arith))
 
 -- station i's places taken out of the row: one place more
-pub taken-one :
+pub taken_one :
     (qs : Queues) (i j : ℕ) {places : List Packet} → i < 64 → length qs.packets ≡ 1024 → j < 16
     → places ≡ paste (replicate 16 no_packet) 0 (places_at qs i) j
     → set places j (get_or qs.packets (16 * i + j) no_packet) ≡ paste (replicate 16 no_packet) 0 (places_at qs i) (j + 1)
-taken-one qs i j here row h e =
+taken_one qs i j here row h e =
     let n = places_count qs i here row in
-    copied-one (replicate 16 no_packet) 0 (places_at qs i) j e (sym (place_at qs i j h)) (omega arith) (omega arith) (omega arith)
+    copied_one (replicate 16 no_packet) 0 (places_at qs i) j e (sym (place_at qs i j h)) (omega arith) (omega arith) (omega arith)
 
 -- all of them
-pub taken-all :
+pub taken_all :
     (qs : Queues) (i j : ℕ) {places : List Packet} → i < 64 → length qs.packets ≡ 1024 → j ≡ 16
     → places ≡ paste (replicate 16 no_packet) 0 (places_at qs i) j → places ≡ places_at qs i
-taken-all qs i j here row done e =
+taken_all qs i j here row done e =
     copied_all (replicate 16 no_packet) 0 (places_at qs i) j 16 e done (places_count qs i here row) ∙ append-nil (places_at qs i)
 
 -- a packet's number

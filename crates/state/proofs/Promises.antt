@@ -43,10 +43,10 @@ pub bits_past_n :
     (s : State) → Held s → standing s ≡ true → (i : ℕ) → s.segment.settings.n ≤ i → bit_at s.segment.contenders i ≡ false
 bits_past_n s held e = Form.bits_past_n s held (Stands.lent_held s held e).zeros
 
-pub zero-without-bit :
+pub zero_without_bit :
     (s : State) → Held s → standing s ≡ true → (i : ℕ) → i < most_stations → bit_at s.segment.contenders i ≡ false
     → recorded_at s.segment i ≡ no_contender
-zero-without-bit s held e = Form.zero-without-bit s (Stands.lent_held s held e).zeros
+zero_without_bit s held e = Form.zero_without_bit s (Stands.lent_held s held e).zeros
 
 -- what its lengths count as waiting are the packets that wait
 pub waiting_counted :
@@ -56,15 +56,15 @@ waiting_counted s held e = Stands.waiting_counted s (Stands.lent_held s held e)
 -- ---- set-up
 
 -- 'Refusals 2 to 6 come as the set-up is read': those of the numbers alone are those of a set-up whose row has its N stations
-pub settings-known :
+pub settings_known :
     (g : Settings) (row : List Asked) → g.n ≤ length row
     → (first_of fine (settings_tests (request_with g row))).refusal ≡ settings_refusal g
-settings-known = SettingUp.settings-known
+settings_known = SettingUp.settings_known
 
 -- and what the numbers alone are refused with, every set-up with them is refused with, whatever its row
-pub settings-first :
+pub settings_first :
     (g : Settings) (row : List Asked) → ¬ (settings_refusal g ≡ 0) → (coded_set_up (request_with g row)).0.refusal ≡ settings_refusal g
-settings-first = SettingUp.settings-first
+settings_first = SettingUp.settings_first
 
 -- 'Every call that accepts keeps these conditions.'
 pub keeps_standing_set_up : (r : Request) → (coded_set_up r).0.refusal ≡ 0 → standing (coded_set_up r).1 ≡ true

@@ -81,9 +81,9 @@ module _ {X : Type 0} where
       ap₂ ◌∷◌ (h i (omega arith) (omega arith)) (values_same f g (suc i) k (λ j l m. h j (omega arith) (omega arith)))
 
   -- a list that has these values at its places
-  pub values-ext :
+  pub values_ext :
       (f : ℕ → X) (i k : ℕ) (xs : List X) (d : X) → length xs ≡ k → ((j : ℕ) → j < k → get_or xs j d ≡ f (i + j)) → xs ≡ values_from f i k
-  values-ext f i k xs d e h =
+  values_ext f i k xs d e h =
       ext_get_or
       d
       xs
@@ -93,7 +93,7 @@ module _ {X : Type 0} where
 
   pub values_take : (xs : List X) (d : X) (n : ℕ) → n ≤ length xs → take n xs ≡ values_from (λ i. get_or xs i d) 0 n
   values_take xs d n h =
-      values-ext
+      values_ext
       (λ i. get_or xs i d)
       0
       n
@@ -140,7 +140,7 @@ module _ {X : Type 0} where
   -- a row is what stands at its places
   pub row_ext : (n : ℕ) (f : ℕ → X) (xs : List X) (d : X) → length xs ≡ n → ((i : ℕ) → i < n → get_or xs i d ≡ f i) → xs ≡ row n f
   unfolding row
-  row_ext n f xs d e h = values-ext f 0 n xs d e (λ i l. h i l ∙ ap f (sym (zero-add i)))
+  row_ext n f xs d e h = values_ext f 0 n xs d e (λ i l. h i l ∙ ap f (sym (zero-add i)))
 
   pub row_same : (n : ℕ) (f g : ℕ → X) → ((i : ℕ) → i < n → f i ≡ g i) → row n f ≡ row n g
   unfolding row

@@ -21,7 +21,7 @@ use Rattle.rules.specs.SetUp.{Asked, Request, fault, fine, settings_tests, stati
 use Rattle.rules.specs.Standing.{asked, asked_for}
 use Rattle.rules.specs.Conditions.{settings_conditions}
 use Rattle.rules.proofs.Laws.{and-true}
-use Rattle.rules.proofs.Tests.{below, out_of, by_case, equal, negated, one_of, inside, Tried, done, ◌then◌, NoneHolds, none-held}
+use Rattle.rules.proofs.Tests.{below, out_of, by_case, equal, negated, one_of, inside, Tried, done, ◌then◌, NoneHolds, none_held}
 use Rattle.state.specs.State.{Settings, Listed, State, no_packet, no_contender, no_contention, no_round, nobody, row, station_or, listed_form, contender_form, contender_in, recorded, form, station_at, stations_of, meaning}
 use Rattle.state.specs.SetUp.{SetUp, asked_of, request_with, settings_refusal, coded_set_up, set_up_result}
 use Rattle.state.specs.Parts.{Compared, number_of, shared, no_contenders, fresh_state}
@@ -54,12 +54,12 @@ abbrev pub shared_from : Compared → List Listed → ℕ → ℕ → Bool
 shared_from compared stations i e = shared compared (get_or stations i nobody) (slice e i stations)
 
 -- one turn of the search for it; b is whether one before e has it, t whether one up to e has
-pub earlier-turn :
+pub earlier_turn :
     (compared : Compared) (stations : List Listed) (i e : ℕ) (b t : Bool) → length stations ≡ 64 → e < i → i < 64
     → t ≡ (b || eqb (number_of compared (asked_of (get_or stations i nobody))) (number_of compared (asked_of (get_or stations e nobody))))
     → shared_from compared stations i 0 ≡ (b || shared_from compared stations i e)
     → shared_from compared stations i 0 ≡ (t || shared_from compared stations i (e + 1))
-earlier-turn compared stations i e b t count h l same so_far =
+earlier_turn compared stations i e b t count h l same so_far =
     let has_it = eqb (number_of compared (asked_of (get_or stations i nobody))) (number_of compared (asked_of (get_or stations e nobody))) in
     so_far
     ∙ ap (λ xs. b || shared compared (get_or stations i nobody) xs) (slice-cons e i stations nobody h (omega arith))
@@ -67,10 +67,10 @@ earlier-turn compared stations i e b t count h l same so_far =
     ∙ ap₂ (λ x k. x || shared_from compared stations i k) (sym same) (sym (add-one e))
 
 -- and its end
-pub earlier-end :
+pub earlier_end :
     (compared : Compared) (stations : List Listed) (i e : ℕ) (b : Bool) → e ≤ i → i ≤ e
     → shared_from compared stations i 0 ≡ (b || shared_from compared stations i e) → b ≡ shared_from compared stations i 0
-earlier-end compared stations i e b h l so_far =
+earlier_end compared stations i e b h l so_far =
     let s : e ≡ i = omega arith in
     sym
     (so_far
@@ -85,13 +85,13 @@ pub tested : {s b t : Bool} (v rest : Verdict) → s ≡ b → s ≡ t → verdi
 tested v rest p h = ap (λ t. verdict t v rest) (sym h ∙ p)
 
 -- Where every refusal has a number from 1 on: further tests decide if the first ones give 0.
-in-turn :
+turn_kept :
     (ts us : List (Verdict × Bool)) → each_of (λ t. ltb 0 t.0.refusal) ts ≡ true
     → first_of fine (ts ++ us) ≡ cond (eqb (first_of fine ts).refusal 0) (first_of fine us) (first_of fine ts)
-in-turn [] us k = refl
-in-turn (t ∷ ts) us k =
+turn_kept [] us k = refl
+turn_kept (t ∷ ts) us k =
     let both = and-true (ltb 0 t.0.refusal) (each_of (λ s. ltb 0 s.0.refusal) ts) k in
-    go t.1 (ltb-true 0 t.0.refusal both.0) (in-turn ts us both.1)
+    go t.1 (ltb-true 0 t.0.refusal both.0) (turn_kept ts us both.1)
   where
     go :
         (b : Bool) → 0 < t.0.refusal
@@ -110,15 +110,15 @@ abbrev pub fault_from : Request → List Listed → ℕ → ℕ → Verdict
 fault_from r stations n i = first_of fine (tests_from r stations n i)
 
 -- one turn of the search for a faulty station; v is the verdict on station i
-pub faulty-turn :
+pub faulty_turn :
     (r : Request) (stations : List Listed) (i n : ℕ) (v : Verdict) (t : Bool) → length stations ≡ 64 → i < n → n ≤ 64
     → v ≡ first_of fine (station_tests r i (map asked_of (take i stations)) (asked_of (get_or stations i nobody))) → eqb v.refusal 0 ≡ t
     → fault_from r stations n i ≡ cond t (fault_from r stations n (i + 1)) v
-faulty-turn r stations i n v t count h l e same =
+faulty_turn r stations i n v t count h l e same =
     ap
     (λ xs. first_of fine (row_tests r i (map asked_of (take i stations)) (map asked_of xs)))
     (slice-cons i n stations nobody h (omega arith))
-    ∙ in-turn tests (tests_after (map asked_of (take i stations) ++ (asked_of s ∷ []))) refl
+    ∙ turn_kept tests (tests_after (map asked_of (take i stations) ++ (asked_of s ∷ []))) refl
     ∙ ap₂ (λ w us. cond (eqb w.refusal 0) (first_of fine us) w) (sym e) next
     ∙ ap (λ b. cond b (fault_from r stations n (i + 1)) v) same
   where
@@ -146,14 +146,14 @@ faulty_end r stations i n h l =
 -- ---- the whole set-up
 
 -- the first n of a row that is asked for
-pub asked-first :
+pub asked_first :
     (stations : List Listed) (n count : ℕ) → n ≤ count → take n (map asked_of (take count stations)) ≡ map asked_of (take n stations)
-asked-first stations n count h = take-map asked_of n (take count stations) ∙ ap (map asked_of) (take-take n count stations h)
+asked_first stations n count h = take-map asked_of n (take count stations) ∙ ap (map asked_of) (take-take n count stations h)
 
 -- how long it is
-pub asked-count :
+pub asked_count :
     (stations : List Listed) (count : ℕ) → length stations ≡ 64 → length (map asked_of (take count stations)) ≡ min count most_stations
-asked-count stations count e = length-map (take count stations) asked_of ∙ length-take count stations ∙ ap (min count) e
+asked_count stations count e = length-map (take count stations) asked_of ∙ length-take count stations ∙ ap (min count) e
 
 -- the stations' tests do not read the row
 unread :
@@ -164,12 +164,12 @@ unread g row i earlier (s ∷ later) =
     ap (λ tests. station_tests (request_with g []) i earlier s ++ tests) (unread g row (suc i) (earlier ++ (s ∷ [])) later)
 
 -- the verdict on the row decides where that on the settings, v, is 0
-pub set-up-turn :
+pub set_up_turn :
     (g : Settings) (row : List Asked) (v : Verdict) (t : Bool) → v ≡ first_of fine (settings_tests (request_with g row))
     → eqb v.refusal 0 ≡ t
     → set_up_verdict (request_with g row) ≡ cond t (first_of fine (row_tests (request_with g []) 0 [] (take g.n row))) v
-set-up-turn g row v t e same =
-    in-turn (settings_tests r) (row_tests r 0 [] (take g.n row)) refl
+set_up_turn g row v t e same =
+    turn_kept (settings_tests r) (row_tests r 0 [] (take g.n row)) refl
     ∙ ap (λ w. cond (eqb w.refusal 0) (first_of fine (row_tests r 0 [] (take g.n row))) w) (sym e)
     ∙ ap₂ (λ b tests. cond b (first_of fine tests) v) same (unread g row 0 [] (take g.n row))
   where
@@ -201,7 +201,7 @@ settings_pass g row e =
         then done
 
     none : NoneHolds (settings_conditions r)
-    none = none-held fine (λ v. v.refusal) tried refl e
+    none = none_held fine (λ v. v.refusal) tried refl e
 
 -- and so do those of a set-up that is accepted
 pub set_up_pass : (g : Settings) (row : List Asked) → (set_up_verdict (request_with g row)).refusal ≡ 0 → SettingsPass g row
@@ -212,7 +212,7 @@ set_up_pass g row e = settings_pass g row (go (eqb v.refusal 0) refl)
 
     go : (t : Bool) → eqb v.refusal 0 ≡ t → v.refusal ≡ 0
     go true same = eqb-true v.refusal 0 same
-    go false same = ap (λ (w : Verdict). w.refusal) (sym (set-up-turn g row v false refl same)) ∙ e
+    go false same = ap (λ (w : Verdict). w.refusal) (sym (set_up_turn g row v false refl same)) ∙ e
 
 -- ---- 2 to 6 before the stations are known
 
@@ -248,7 +248,7 @@ for_any_row g false short h = go (eqb (first_of fine (before_count g)).refusal 0
     earlier = first_of fine (before_count g)
 
     turn : (t : Bool) → by_count g t ≡ cond (eqb earlier.refusal 0) (verdict t (fault 6 0) fine) earlier
-    turn t = in-turn (before_count g) ((fault 6 0, t) ∷ []) refl
+    turn t = turn_kept (before_count g) ((fault 6 0, t) ∷ []) refl
 
     go :
         (z : Bool) → by_count g short ≡ cond z (verdict short (fault 6 0) fine) earlier → by_count g false ≡ cond z fine earlier
@@ -260,21 +260,21 @@ numbers_alone : (g : Settings) → settings_refusal g ≡ (by_count g (outside 1
 numbers_alone g = ap (λ t. (by_count g t).refusal) (long_enough g.n)
 
 -- so 2 to 6 of the numbers alone are those of a set-up whose row has its N stations
-pub settings-known :
+pub settings_known :
     (g : Settings) (row : List Asked) → g.n ≤ length row
     → (first_of fine (settings_tests (request_with g row))).refusal ≡ settings_refusal g
-settings-known g row h =
+settings_known g row h =
     let long = le-ltb (length row) g.n h in
     ap (λ t. (by_count g (outside 1 most_stations g.n || t)).refusal) long
     ∙ ap (λ t. (by_count g t).refusal) (or-false (outside 1 most_stations g.n))
     ∙ sym (numbers_alone g)
 
 -- and what they are refused with, every set-up with them is refused with, whatever its row
-pub settings-first :
+pub settings_first :
     (g : Settings) (row : List Asked) → ¬ (settings_refusal g ≡ 0) → (set_up_verdict (request_with g row)).refusal ≡ settings_refusal g
-settings-first g row h =
+settings_first g row h =
     let v = first_of fine (settings_tests (request_with g row)) in
-    ap (λ (w : Verdict). w.refusal) (set-up-turn g row v false refl (ne_eqb v.refusal 0 (λ z. h (sym same ∙ z)))) ∙ same
+    ap (λ (w : Verdict). w.refusal) (set_up_turn g row v false refl (ne_eqb v.refusal 0 (λ z. h (sym same ∙ z)))) ∙ same
   where
     same : (first_of fine (settings_tests (request_with g row))).refusal ≡ settings_refusal g
     same =
@@ -284,11 +284,11 @@ settings-first g row h =
 -- ---- the state that a set-up gives
 
 -- the answer of a set-up, by the verdict and whether that is 0
-pub set-up-answer :
+pub set_up_answer :
     (r : Request) (v : Verdict) (s : State) (t : Bool) → v ≡ set_up_verdict r → eqb v.refusal 0 ≡ t
     → s ≡ form (cond t (fresh_bus r) nothing)
     → ◌≡◌ {A = SetUp} (record { verdict = v; state = s }) (set_up_result (coded_set_up r))
-set-up-answer r v s t e same given =
+set_up_answer r v s t e same given =
     ap₂
     (λ (w : Verdict) (x : State). record { verdict = w; state = x })
     e
@@ -307,11 +307,11 @@ first_placed stations n i = go (ltb i n) refl
     go false e = get_or-eq_default (take n stations) nobody (omega (arith, ltb-false i n e, length-take n stations))
 
 -- the fresh bus is held in a fresh state: its stations have no packets and no offers
-pub fresh-form :
+pub fresh_form :
     (g : Settings) (stations : List Listed) (count : ℕ) → SettingsPass g (map asked_of (take count stations))
     → form (fresh_bus (request_with g (map asked_of (take count stations))))
     ≡ fresh_state g (row 64 (λ i. cond (ltb i g.n) (get_or stations i nobody) nobody))
-fresh-form g stations count pass = λ j.
+fresh_form g stations count pass = λ j.
     record {
       segment = record {
         settings =
@@ -364,7 +364,7 @@ fresh-form g stations count pass = λ j.
     at : (i : ℕ) → station_or b i ≡ fresh_station (asked_of (get_or (take g.n stations) i nobody))
     at i =
         get_or-map fresh_station (take g.n rest) i (asked_of nobody)
-        ∙ ap (λ asked. fresh_station (get_or asked i (asked_of nobody))) (asked-first stations g.n count within)
+        ∙ ap (λ asked. fresh_station (get_or asked i (asked_of nobody))) (asked_first stations g.n count within)
         ∙ ap fresh_station (get_or-map asked_of (take g.n stations) i nobody)
 
     nobody_contends : recorded (contender_in b) ≡ no_contenders
@@ -386,11 +386,11 @@ many_refused : (g : Settings) (row : List Asked) → most_stations < g.n → eqb
 many_refused g row h = ne_eqb (set_up_verdict (request_with g row)).refusal 0 (λ e. omega (arith, (set_up_pass g row e).few))
 
 -- The row of all 64 places passes 2 to 10 exactly when what the meaning would be asked for by does.
-pub passes-as-asked :
+pub passes_as_asked :
     (s : State) → length s.segment.listed ≡ 64 → s.segment.settings.discipline ≤ 2
     → eqb (set_up_verdict (request_with s.segment.settings (map asked_of (take 64 s.segment.listed)))).refusal 0
     ≡ eqb (set_up_verdict (asked_for (meaning s))).refusal 0
-passes-as-asked s count d = go (leb g.n 64) refl ∙ ap (λ (r : Request). eqb (set_up_verdict r).refusal 0) (sym again)
+passes_as_asked s count d = go (leb g.n 64) refl ∙ ap (λ (r : Request). eqb (set_up_verdict r).refusal 0) (sym again)
   where
     g : Settings
     g = s.segment.settings
@@ -436,7 +436,7 @@ passes-as-asked s count d = go (leb g.n 64) refl ∙ ap (λ (r : Request). eqb (
         g
         all
         meant
-        (omega (arith, asked-count listed 64 count))
+        (omega (arith, asked_count listed 64 count))
         (omega (arith, meant_length))
-        (asked-first listed g.n 64 h ∙ sym (meant_first h) ∙ sym (take_all g.n meant (omega (arith, meant_length)))))
+        (asked_first listed g.n 64 h ∙ sym (meant_first h) ∙ sym (take_all g.n meant (omega (arith, meant_length)))))
     go false e = let h = leb-false g.n 64 e in many_refused g all h ∙ sym (many_refused g meant h)

@@ -30,7 +30,7 @@ use Rattle.state.specs.contracts.State as state
 use Rattle.state.proofs.Rows.{rest_suc, rest_none, each_place_turn, each_place_end, values_take}
 use Rattle.state.proofs.Form.{padded_parts, places_length}
 use Rattle.state.proofs.Places.{queues_arrays}
-use Rattle.state.proofs.SettingUp.{set_up_pass, passes-as-asked}
+use Rattle.state.proofs.SettingUp.{set_up_pass, passes_as_asked}
 
 -- ---- tests
 
@@ -79,7 +79,7 @@ each_values test f i (suc k) = ap (λ t. test (f i) && t) (each_values test f (s
 -- ---- a station
 
 -- `parameter_fits` is `offer_fits` of the station's offer
-fits-same :
+fits_same :
     (d : Discipline) (s : State) (i : ℕ)
     → parameter_fits d (get_or s.segment.listed i nobody).capability (recorded_at s.segment i)
     ≡ offer_fits
@@ -89,12 +89,12 @@ fits-same :
       parameter = (recorded_at s.segment i).parameter;
       packet = (recorded_at s.segment i).packet;
     })
-fits-same PRI s i = refl
-fits-same RTDG s i = refl
-fits-same RTVC s i = refl
+fits_same PRI s i = refl
+fits_same RTDG s i = refl
+fits_same RTVC s i = refl
 
 -- a station's place among the contenders
-contender-same :
+contender_same :
     (s : State) (i : ℕ)
     → contender_sound
     s.segment.settings
@@ -104,7 +104,7 @@ contender-same :
     (queue_at s.queues i)
     ≡ (contender_padded (recorded_at s.segment i)
     && offer_stands (meaning s) (station_at s i) (meaning s).contention (station_at s i).offer)
-contender-same s i = ap (λ t. contender_padded c && t) (go c.contends s.segment.contention.begun)
+contender_same s i = ap (λ t. contender_padded c && t) (go c.contends s.segment.contention.begun)
   where
     c : Contender
     c = recorded_at s.segment i
@@ -126,7 +126,7 @@ contender-same s i = ap (λ t. contender_padded c && t) (go c.contends s.segment
     go true true =
         ap
         (λ t. some_of (same_packet c.packet) (queue_at s.queues i) && ltb c.parameter s.segment.settings.d && t)
-        (fits-same (discipline_of s.segment.settings.discipline) s i)
+        (fits_same (discipline_of s.segment.settings.discipline) s i)
 
 -- the parts of a station, in the order of the code and in the order of `station_padded` and `station_stands`
 station_order : (p r e c o : Bool) → (p && r && e && (c && o)) ≡ (p && c && (r && e && o))
@@ -146,7 +146,7 @@ queue_in_places qs i =
 station_same :
     (s : State) (i : ℕ) → station_sound s.segment s.queues i ≡ (station_padded s i && station_stands (meaning s) (station_at s i))
 station_same s i =
-    ap (λ t. queue_padded (get_or s.queues.lengths i 0) (places_at s.queues i) && rises && fits && t) (contender-same s i)
+    ap (λ t. queue_padded (get_or s.queues.lengths i 0) (places_at s.queues i) && rises && fits && t) (contender_same s i)
     ∙ station_order
     (queue_padded (get_or s.queues.lengths i 0) (places_at s.queues i))
     rises
@@ -172,25 +172,25 @@ station_same s i =
 -- ---- a place past N
 
 -- the parts of a place past N, in the order of the code and in the order of `station_padded` and `has_no_station`: a length of 0 is in range
-nobody-order :
+nobody_order :
     (address capability empty contends parameter packet zeros room : Bool) → (empty ≡ true → room ≡ true)
     → (address && capability && empty && (not contends && parameter && packet) && zeros)
     ≡ (room && zeros && (contends || (parameter && packet)) && (address && capability && empty && not contends))
-nobody-order false capability empty contends parameter packet zeros room h =
+nobody_order false capability empty contends parameter packet zeros room h =
     sym (and-false (room && zeros && (contends || (parameter && packet))))
-nobody-order true false empty contends parameter packet zeros room h =
+nobody_order true false empty contends parameter packet zeros room h =
     sym (and-false (room && zeros && (contends || (parameter && packet))))
-nobody-order true true false contends parameter packet zeros room h =
+nobody_order true true false contends parameter packet zeros room h =
     sym (and-false (room && zeros && (contends || (parameter && packet))))
-nobody-order true true true true parameter packet zeros room h = sym (and-false (room && zeros && true))
-nobody-order true true true false parameter packet zeros room h =
+nobody_order true true true true parameter packet zeros room h = sym (and-false (room && zeros && true))
+nobody_order true true true false parameter packet zeros room h =
     and_comm (parameter && packet) zeros
     ∙ sym (and-last-true (zeros && (parameter && packet)))
     ∙ ap (λ t. t && zeros && (parameter && packet) && true) (sym (h refl))
 
 nobody_same : (s : State) (i : ℕ) → nobody_at s.segment s.queues i ≡ (station_padded s i && has_no_station s i)
 nobody_same s i =
-    nobody-order
+    nobody_order
     (eqb (get_or s.segment.listed i nobody).address.0 0)
     (eqb (get_or s.segment.listed i nobody).capability.0 0)
     (eqb n 0)
@@ -276,16 +276,16 @@ numbers_count (s ∷ stations) =
     length-append (numbers_in s.queue) (numbers stations) ∙ ap₂ ◌+◌ (length-map s.queue (λ p. p.number)) (numbers_count stations)
 
 -- the packets waiting at the k stations from i on, by the lengths of their queues
-waiting-from :
+waiting_from :
     (s : State) → Held s → (i k : ℕ) → i + k ≤ most_stations
     → waiting (values_from (station_at s) i k) ≡ total (λ n. min n places) (values_from (λ j. get_or s.queues.lengths j 0) i k)
-waiting-from s h i zero l = refl
-waiting-from s h i (suc k) l =
+waiting_from s h i zero l = refl
+waiting_from s h i (suc k) l =
     let n = get_or s.queues.lengths i 0 in
     ap₂
     ◌+◌
     (length-take n (places_at s.queues i) ∙ ap (min n) (places_length s h i (omega arith)))
-    (waiting-from s h (suc i) k (omega arith))
+    (waiting_from s h (suc i) k (omega arith))
 
 -- the first n of a list are its first n up to its length
 pub first_few : {X : Type 0} (xs : List X) (n k : ℕ) → length xs ≡ k → take (min n k) xs ≡ take n xs
@@ -306,33 +306,33 @@ held_whole (k ∷ lengths) (suc n) room =
     ap₂ ◌+◌ (min-eq_left (room 0 (omega arith))) (held_whole lengths n (λ i h. room (suc i) (omega arith)))
 
 -- what waits is what the lengths count
-pub waiting-same :
+pub waiting_same :
     (s : State) → Held s → s.segment.settings.n ≤ most_stations
     → waiting_in s.queues.lengths s.segment.settings.n ≡ waiting (stations_of s)
-waiting-same s h l =
+waiting_same s h l =
     let n = s.segment.settings.n in
     ap (total (λ k. min k places)) (values_take s.queues.lengths 0 n (omega (arith, h.lengths)))
-    ∙ sym (waiting-from s h 0 n (omega arith))
+    ∙ sym (waiting_from s h 0 n (omega arith))
 
 -- ---- the round
 
 -- two tests of values that agree at each place
-some-values :
+some_values :
     {X Y : Type 0} (one : X → Bool) (two : Y → Bool) (f : ℕ → X) (g : ℕ → Y) → ((j : ℕ) → one (f j) ≡ two (g j)) → (i k : ℕ)
     → some_of one (values_from f i k) ≡ some_of two (values_from g i k)
-some-values one two f g h i zero = refl
-some-values one two f g h i (suc k) = ap₂ ◌||◌ (h i) (some-values one two f g h (suc i) k)
+some_values one two f g h i zero = refl
+some_values one two f g h i (suc k) = ap₂ ◌||◌ (h i) (some_values one two f g h (suc i) k)
 
 -- `held` is whether a station has the last winner's capability
-last-same :
+last_same :
     (discipline last : ℕ) (won held : Bool) (stations : List Machine.Station) → held ≡ some_of (λ s. eqb last s.capability) stations
     → (not won || (leb 2 discipline && held)) ≡ last_stands (discipline_of discipline) stations (cond won (some last) none)
-last-same zero last false held stations e = refl
-last-same (suc zero) last false held stations e = refl
-last-same (suc (suc d)) last false held stations e = refl
-last-same zero last true held stations e = refl
-last-same (suc zero) last true held stations e = refl
-last-same (suc (suc d)) last true held stations e = ap (λ t. t && held) (le-leb 2 (suc (suc d)) (omega arith)) ∙ e
+last_same zero last false held stations e = refl
+last_same (suc zero) last false held stations e = refl
+last_same (suc (suc d)) last false held stations e = refl
+last_same zero last true held stations e = refl
+last_same (suc zero) last true held stations e = refl
+last_same (suc (suc d)) last true held stations e = ap (λ t. t && held) (le-leb 2 (suc (suc d)) (omega arith)) ∙ e
 
 round_same :
     (s : State) → Held s → s.segment.settings.n ≤ most_stations
@@ -343,14 +343,14 @@ round_same s h l =
     let last = s.segment.round.last.0 in
     ap
     (λ t. round_padded s.segment.round && t)
-    (last-same
+    (last_same
     s.segment.settings.discipline
     last
     s.segment.round.won
     (some_of (λ l. eqb last l.capability.0) (take n s.segment.listed))
     (stations_of s)
     (ap (some_of (λ l. eqb last l.capability.0)) (values_take s.segment.listed nobody n (omega (arith, h.listed)))
-    ∙ some-values
+    ∙ some_values
     (λ l. eqb last l.capability.0)
     (λ x. eqb last x.capability)
     (λ i. get_or s.segment.listed i nobody)
@@ -392,11 +392,11 @@ pub few_tried : (s : State) → (set_up_verdict (tried s)).refusal ≡ 0 → s.s
 few_tried s e = (set_up_pass s.segment.settings (tried s).row e).few
 
 -- the code's test is that the discipline is one of the three and the meaning passes
-set-up-same :
+set_up_same :
     (s : State) → Held s
     → (leb s.segment.settings.discipline 2 && eqb (set_up_verdict (asked_for (meaning s))).refusal 0)
     ≡ eqb (set_up_verdict (tried s)).refusal 0
-set-up-same s h = go (leb d 2) refl (eqb (set_up_verdict (tried s)).refusal 0) refl
+set_up_same s h = go (leb d 2) refl (eqb (set_up_verdict (tried s)).refusal 0) refl
   where
     d : ℕ
     d = s.segment.settings.discipline
@@ -404,7 +404,7 @@ set-up-same s h = go (leb d 2) refl (eqb (set_up_verdict (tried s)).refusal 0) r
     go :
         (t : Bool) → leb d 2 ≡ t → (v : Bool) → eqb (set_up_verdict (tried s)).refusal 0 ≡ v
         → (t && eqb (set_up_verdict (asked_for (meaning s))).refusal 0) ≡ v
-    go true e v k = sym (passes-as-asked s h.listed (leb-true d 2 e)) ∙ k
+    go true e v k = sym (passes_as_asked s h.listed (leb-true d 2 e)) ∙ k
     go false e false k = refl
     go false e true k =
         clash (le-leb d 2 (set_up_pass s.segment.settings (tried s).row (eqb-true (set_up_verdict (tried s)).refusal 0 k)).discipline) e
@@ -434,11 +434,11 @@ state_held s vs owned =
 
 -- The parts in the order of `standing`, and as the code has them. `sound` is the test of the 64 places: the tests `zeros`, `past` and
 -- `stand`.
-parts-order :
+parts_order :
     (zeros past round contention clock admitted turned counts stand apart last window sound : Bool) → sound ≡ (zeros && past && stand)
     → (zeros && past && round && contention && (clock && admitted && turned && counts && stand && apart && last && window))
     ≡ (clock && (admitted && (turned && ((round && last) && ((contention && window) && (sound && (counts && apart)))))))
-parts-order zeros past round contention clock admitted turned counts stand apart last window sound same =
+parts_order zeros past round contention clock admitted turned counts stand apart last window sound same =
     and_four (zeros && past && round) contention (clock && admitted && turned && counts && stand && apart && last) window
     ∙ ap (λ t. t && (contention && window)) (and_four (zeros && past) round (clock && admitted && turned && counts && stand && apart) last)
     ∙ ap (λ t. t && (round && last) && (contention && window)) (gather (zeros && past) (clock && admitted && turned))
@@ -472,7 +472,7 @@ not_set_up s h n = go (standing s) refl
         (true-and
         (le-leb s.segment.settings.discipline 2 (padded_parts s both.0).discipline)
         (eq-eqb (set_up_verdict (asked_for (meaning s))).refusal 0 (passes (stands_exactly (meaning s)) both.1)))
-        (set-up-same s h ∙ ne_eqb (set_up_verdict (tried s)).refusal 0 n)
+        (set_up_same s h ∙ ne_eqb (set_up_verdict (tried s)).refusal 0 n)
 
 -- ---- the queues, place by place
 
@@ -520,10 +520,10 @@ module _ (g : Segment) (qs : Queues) where
     pub place_fails : i < most_stations → place_sound g qs i ≡ false → from_place seen i ≡ false
     place_fails h e = simp (each_place_turn (place_sound g qs) i most_stations h, e)
 
-    pub place-passes :
+    pub place_passes :
         {more : List ℕ} → i < most_stations → place_sound g qs i ≡ true → more ≡ seen ++ numbers_in (queue_at qs i)
         → from_place seen i ≡ from_place more (i + 1)
-    place-passes h e same =
+    place_passes h e same =
         let order = append_assoc seen (numbers_in (queue_at qs i)) (later (suc i)) in
         rw (same, add-one i, order, each_place_turn (place_sound g qs) i most_stations h, e, (next i e).1)
 
@@ -547,10 +547,10 @@ abbrev pub from_admitted : State → Bool
 from_admitted s = leb s.segment.admitted most_admitted && from_turned s
 
 -- a state that a set-up would not refuse stands as the code's other tests tell
-pub standing-parts :
+pub standing_parts :
     (s : State) → Held s → (set_up_verdict (tried s)).refusal ≡ 0 → standing s ≡ (leb s.segment.clock.0 clock_end && from_admitted s)
-standing-parts s h e =
-    let passes = set-up-same s h ∙ eq-eqb (set_up_verdict (tried s)).refusal 0 e in
+standing_parts s h e =
+    let passes = set_up_same s h ∙ eq-eqb (set_up_verdict (tried s)).refusal 0 e in
     let both = and-true (leb s.segment.settings.discipline 2) (eqb (set_up_verdict (asked_for (meaning s))).refusal 0) passes in
     let few = few_tried s e in
     let n = s.segment.settings.n in
@@ -572,6 +572,6 @@ standing-parts s h e =
     let same =
     ap (λ k. counted k && apart) (sym (numbers_count (stations_of s))) ∙ ap (numbers_sound s.segment) (numbers_same s 0 n) in
     ap₂ (λ d v. d && zeros && past && round && contention && (v && clock && admitted && turned && counts && stand && apart && last && window)) both.0 both.1
-    ∙ parts-order zeros past round contention clock admitted turned counts stand apart last window sound (places_same s few)
+    ∙ parts_order zeros past round contention clock admitted turned counts stand apart last window sound (places_same s few)
     ∙ ap₂ (λ r c. clock && (admitted && (turned && (r && (c && (sound && (counts && apart))))))) (sym (round_same s h few)) (sym (contention_same s))
     ∙ ap (λ t. clock && (admitted && (turned && (round_sound s.segment && (begun && (sound && t)))))) same

@@ -24,7 +24,7 @@ use Rattle.state.specs.SetUp.{coded_set_up}
 use Rattle.state.specs.contracts.State as state
 use Rattle.state.proofs.Rows.{values_length}
 use Rattle.state.proofs.Form.{Padded, padded_parts, form_meaning, standing_fits, nothing_fits, meaning_form, padded_form}
-use Rattle.state.proofs.StandingParts.{state_held, waiting-same}
+use Rattle.state.proofs.StandingParts.{state_held, waiting_same}
 
 pub form_stands : (b : Bus) → Standing b → standing (form b) ≡ true
 form_stands b h =
@@ -85,4 +85,4 @@ few_packets s r i l =
 
 -- what waits is what the lengths count
 pub waiting_counted : (s : State) → Lent s → waiting_in s.queues.lengths s.segment.settings.n ≡ waiting (stations_of s)
-waiting_counted s r = waiting-same s r.held r.few
+waiting_counted s r = waiting_same s r.held r.few

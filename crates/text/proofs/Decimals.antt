@@ -37,24 +37,24 @@ abbrev turned : ℕ → ℕ → Bool → List ℕ
 turned turns n small = cond small (digit n ∷ []) (decimal_in turns (n / 10) ++ (digit (n % 10) ∷ []))
 
 -- enough turns give the digits from the highest that is not 0, or the only one, down
-turns-digits :
+turns_digits :
     (turns k n : ℕ) → n < turns → n / 10 < 10 ^ k → (k ≡ 0) ⊎ (10 ^ k ≤ n) → decimal_in turns n ≡ digits (suc k) n
-turns-digits zero k n l below above = absurd (omega arith)
-turns-digits (suc turns) zero n l below above =
+turns_digits zero k n l below above = absurd (omega arith)
+turns_digits (suc turns) zero n l below above =
     ap (turned turns n) (lt-ltb n 10 (omega arith))
     ∙ ap (λ m. digit m ∷ []) (omega (arith, div-one n))
-turns-digits (suc turns) (suc k) n l below above =
+turns_digits (suc turns) (suc k) n l below above =
     let some = one-le-pow k 10 (omega arith) in
     let ten = pow-suc 10 k in
     let high : 10 ^ suc k ≤ n = ⊎_elim (λ e. absurd (omega arith)) (λ h. h) above in
     ap (turned turns n) (le-ltb n 10 (omega arith))
-    ∙ ap (λ more. more ++ (digit (n % 10) ∷ [])) (turns-digits turns k (n / 10) (omega arith) (omega arith) (inr (omega arith)))
+    ∙ ap (λ more. more ++ (digit (n % 10) ∷ [])) (turns_digits turns k (n / 10) (omega arith) (omega arith) (inr (omega arith)))
     ∙ digits_last (suc k) n
 
 -- a number in decimal is its digits from the place of its highest power of ten down
 pub decimal-digits : (n p : ℕ) (h : power_for n p) → decimal n ≡ digits (suc h.0) n
 unfolding decimal
-decimal-digits n p h = turns-digits (suc n) h.0 n (omega arith) (rw h.1 at h.2) (rw h.1 at h.3)
+decimal-digits n p h = turns_digits (suc n) h.0 n (omega arith) (rw h.1 at h.2) (rw h.1 at h.3)
 
 -- ---- how many digits
 

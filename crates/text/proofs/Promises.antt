@@ -32,10 +32,10 @@ pub stored_kept : (room : List ℕ) (at : ℕ) (text : List ℕ) → length (sto
 stored_kept = Stores.stored_kept
 
 -- text after text that fits with it is one text
-pub stored-then :
+pub stored_then :
     (room : List ℕ) (at : ℕ) (x y : List ℕ) → at + (length x + length y) ≤ room_bytes
     → stored (stored room at x) (past at x) y ≡ stored room at (x ++ y)
-stored-then = Stores.stored-then
+stored_then = Stores.stored_then
 
 pub past_then : (at : ℕ) (x y : List ℕ) → at + (length x + length y) ≤ room_bytes → past (past at x) y ≡ past at (x ++ y)
 past_then = Stores.past_then

@@ -28,10 +28,10 @@ sets_before room (b ∷ text) at from byte h =
     ∙ ap (λ (l : List ℕ). sets l (suc from) text) (set_comm room from at b byte (λ e. omega arith))
 
 -- a byte that is stored right after text
-pub sets-after :
+pub sets_after :
     (room after text : List ℕ) (at long byte : ℕ) → length text ≡ long → after ≡ sets room at text
     → set after (at + long) byte ≡ sets room at (text ++ (byte ∷ []))
-sets-after room after text at long byte e f =
+sets_after room after text at long byte e f =
     ap₂ (λ (l : List ℕ) (k : ℕ). set l (at + k) byte) f (sym e) ∙ sets_then room text (byte ∷ []) at
 
 -- ---- what was told
@@ -41,9 +41,9 @@ pub told_none : (room : List ℕ) (at most : ℕ) → Told room room at at [] mo
 told_none room at most = record { room = refl; past = sym (add-zero at); few = omega arith }
 
 -- text after text
-pub told-then :
+pub told_then :
     {a b c : List ℕ} {at m n : ℕ} {x y : List ℕ} {p q : ℕ} → Told a b at m x p → Told b c m n y q → Told a c at n (x ++ y) (p + q)
-told-then {a = a} {at = at} {x = x} {y = y} first second =
+told_then {a = a} {at = at} {x = x} {y = y} first second =
     let long = length-append x y in
     record {
       room = second.room
@@ -102,27 +102,27 @@ pub stored_not : (room : List ℕ) (at : ℕ) (text : List ℕ) → room_bytes <
 stored_not room at text h = ap (λ t. cond t (sets room at text) room) (lt-leb (at + length text) room_bytes h)
 
 -- the answers of a function that stores: where the test says that the room has fewer bytes than the text, and where the text was stored
-pub answer-not :
+pub answer_not :
     (room : List ℕ) (at : ℕ) (text : List ℕ) (long : ℕ) {t : Bool} → length text ≡ long → t ≡ leb (at + long) room_bytes → not t ≡ true
     → (at ≡ past at text) × (room ≡ stored room at text)
-answer-not room at text long {t} e test refused =
+answer_not room at text long {t} e test refused =
     let over = leb-false (at + long) room_bytes (sym test ∙ not-true t refused) in
     (sym (past_not at text (omega arith)), sym (stored_not room at text (omega arith)))
 
-pub answer-fits :
+pub answer_fits :
     (room : List ℕ) (at : ℕ) (text : List ℕ) {next : ℕ} {after : List ℕ} → roomy at (length text) → next ≡ at + length text
     → after ≡ sets room at text → (next ≡ past at text) × (after ≡ stored room at text)
-answer-fits room at text h e f = (e ∙ sym (past_fits at text h), f ∙ sym (stored_fits room at text h))
+answer_fits room at text h e f = (e ∙ sym (past_fits at text h), f ∙ sym (stored_fits room at text h))
 
 -- where the test says that it has as many
 pub has_room : (at long : ℕ) {t : Bool} → t ≡ leb (at + long) room_bytes → not t ≡ false → roomy at long
 has_room at long {t} test passed = leb-true (at + long) room_bytes (sym test ∙ not-false t passed)
 
 -- what a contract of src/ says of a text, of no more bytes than there is room for: it was told
-pub told-stored :
+pub told_stored :
     (room : List ℕ) (at : ℕ) (text : List ℕ) (most : ℕ) {next : ℕ} {after : List ℕ} → roomy at most → length text ≤ most
     → (next ≡ past at text) × (after ≡ stored room at text) → Told room after at next text most
-told-stored room at text most h few said =
+told_stored room at text most h few said =
     record {
       room = said.1 ∙ stored_fits room at text (omega arith);
       past = said.0 ∙ past_fits at text (omega arith);
@@ -152,10 +152,10 @@ past_then at x y h =
     ∙ (omega arith)
     ∙ sym (past_fits at (x ++ y) (omega arith))
 
-pub stored-then :
+pub stored_then :
     (room : List ℕ) (at : ℕ) (x y : List ℕ) → roomy at (length x + length y)
     → stored (stored room at x) (past at x) y ≡ stored room at (x ++ y)
-stored-then room at x y h =
+stored_then room at x y h =
     let long = length-append x y in
     ap₂ (λ (l : List ℕ) n. stored l n y) (stored_fits room at x (omega arith)) (past_fits at x (omega arith))
     ∙ stored_fits (sets room at x) (at + length x) y (omega arith)

@@ -11,7 +11,7 @@ use lib.ListN.{length, drop, get_or, length-append, get_or-append}
 use Rattle.text.specs.Text.{digit, decimal_in, decimal}
 use Rattle.words.specs.Words.{while, in_line, in_word, number_end, digit_of, number_from, number_of, hex_digit, label}
 use Rattle.words.proofs.Runs.{passes_one, passes_append}
-use Rattle.words.proofs.Numbers.{digit-on, no_zero}
+use Rattle.words.proofs.Numbers.{digit_on, no_zero}
 use Rattle.words.proofs.Written.{word_byte, line_byte}
 
 -- ---- numbers in decimal
@@ -21,10 +21,10 @@ abbrev turned : ℕ → ℕ → Bool → List ℕ
 turned turns n small = cond small (digit n ∷ []) (decimal_in turns (n / 10) ++ (digit (n % 10) ∷ []))
 
 -- all digits pass a test that each does
-turns-pass :
+turns_pass :
     (test : ℕ → Bool) → ((b : ℕ) → 48 ≤ b → test b ≡ true) → (turns n : ℕ) → while test (decimal_in turns n) ≡ decimal_in turns n
-turns-pass test each zero n = refl
-turns-pass test each (suc turns) n = go (ltb n 10) (turns-pass test each turns (n / 10))
+turns_pass test each zero n = refl
+turns_pass test each (suc turns) n = go (ltb n 10) (turns_pass test each turns (n / 10))
   where
     one : (d : ℕ) → while test (digit d ∷ []) ≡ digit d ∷ []
     one d = passes_one test (digit d) [] (each (digit d) (omega arith)) refl
@@ -35,11 +35,11 @@ turns-pass test each (suc turns) n = go (ltb n 10) (turns-pass test each turns (
 
 pub decimal_word : (n : ℕ) → while in_word (decimal n) ≡ decimal n
 unfolding decimal
-decimal_word n = turns-pass in_word (λ b h. word_byte b (omega arith)) (suc n) n
+decimal_word n = turns_pass in_word (λ b h. word_byte b (omega arith)) (suc n) n
 
 pub decimal_line : (n : ℕ) → while in_line (decimal n) ≡ decimal n
 unfolding decimal
-decimal_line n = turns-pass in_line (λ b h. line_byte b (omega arith)) (suc n) n
+decimal_line n = turns_pass in_line (λ b h. line_byte b (omega arith)) (suc n) n
 
 -- there is a digit
 turns_some : (turns n : ℕ) → 0 < length (decimal_in (suc turns) n)
@@ -95,11 +95,11 @@ turns_back (suc turns) n l h = go (ltb n 10) refl (turns_back turns (n / 10))
         → number_from 10 0 (turned turns n t) ≡ some n
     go true e more =
         let few = ltb-true n 10 e in
-        digit-on 10 0 n (digit n) [] (sym (digit_back n few)) few (omega arith) ∙ ap some (omega arith)
+        digit_on 10 0 n (digit n) [] (sym (digit_back n few)) few (omega arith) ∙ ap some (omega arith)
     go false e more =
         let many = ltb-false n 10 e in
         from_then 10 0 (n / 10) (decimal_in turns (n / 10)) (digit (n % 10) ∷ []) (more (omega arith) (omega arith))
-        ∙ digit-on 10 (n / 10) (n % 10) (digit (n % 10)) [] (sym (digit_back (n % 10) (omega arith))) (omega arith) (omega arith)
+        ∙ digit_on 10 (n / 10) (n % 10) (digit (n % 10)) [] (sym (digit_back (n % 10) (omega arith))) (omega arith) (omega arith)
         ∙ ap some (omega arith)
 
 -- the number reads back
@@ -152,14 +152,14 @@ pub label_line : (n : ℕ) → while in_line (label n) ≡ label n
 label_line = label_pass in_line (λ b h. line_byte b (omega arith))
 
 -- one digit more
-hex-on :
+hex_on :
     (m d n : ℕ) (rest : List ℕ) → d < 16 → m * 16 + d ≡ n → n < number_end → number_from 16 m (hex_digit d ∷ rest) ≡ number_from 16 n rest
-hex-on m d n rest few e h = digit-on 16 m d (hex_digit d) rest (hex_back d few) few (omega arith) ∙ ap (λ k. number_from 16 k rest) e
+hex_on m d n rest few e h = digit_on 16 m d (hex_digit d) rest (hex_back d few) few (omega arith) ∙ ap (λ k. number_from 16 k rest) e
 
 -- the number reads back
 pub label_back : (n : ℕ) → n < 65_536 → number_of (label n) ≡ some n
 label_back n h =
-    hex-on 0 (n / 4096 % 16) (n / 4096) (drop 3 (label n)) (omega arith) (omega arith) (omega arith)
-    ∙ hex-on (n / 4096) (n / 256 % 16) (n / 256) (drop 4 (label n)) (omega arith) (omega arith) (omega arith)
-    ∙ hex-on (n / 256) (n / 16 % 16) (n / 16) (drop 5 (label n)) (omega arith) (omega arith) (omega arith)
-    ∙ hex-on (n / 16) (n % 16) n [] (omega arith) (omega arith) (omega arith)
+    hex_on 0 (n / 4096 % 16) (n / 4096) (drop 3 (label n)) (omega arith) (omega arith) (omega arith)
+    ∙ hex_on (n / 4096) (n / 256 % 16) (n / 256) (drop 4 (label n)) (omega arith) (omega arith) (omega arith)
+    ∙ hex_on (n / 256) (n / 16 % 16) (n / 16) (drop 5 (label n)) (omega arith) (omega arith) (omega arith)
+    ∙ hex_on (n / 16) (n % 16) n [] (omega arith) (omega arith) (omega arith)

@@ -19,10 +19,10 @@ abbrev gone_on : ℕ → ℕ → ℕ → List ℕ → Bool → Bool → Option �
 gone_on base n d rest digit small = cond (digit && small) (number_from base (n * base + d) rest) none
 
 -- a digit that goes on to no number that is too large
-pub digit-on :
+pub digit_on :
     (base n d b : ℕ) (rest : List ℕ) → d ≡ digit_of b → d < base → n * base + d < number_end
     → number_from base n (b ∷ rest) ≡ number_from base (n * base + d) rest
-digit-on base n d b rest e digit small =
+digit_on base n d b rest e digit small =
     ap (λ d. gone_on base n d rest (ltb d base) (ltb (n * base + d) number_end)) (sym e)
     ∙ ap₂ (gone_on base n d rest) (lt-ltb d base digit) (lt-ltb (n * base + d) number_end small)
 

@@ -50,10 +50,10 @@ pub span_within : (line : List ℕ) (at : ℕ) → at ≤ length line → (word_
 span_within = Spans.span_within
 
 -- the word's bytes, and what is left after it
-pub span-word :
+pub span_word :
     (line : List ℕ) (at : ℕ)
     → take ((word_span line at).to - (word_span line at).from) (drop (word_span line at).from line) ≡ first_word (drop at line)
-span-word = Spans.span-word
+span_word = Spans.span_word
 
 pub span_after : (line : List ℕ) (at : ℕ) → drop (word_span line at).to line ≡ after_word (drop at line)
 span_after = Spans.span_after

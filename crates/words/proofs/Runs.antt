@@ -12,10 +12,10 @@ use Rattle.words.specs.Words.{while}
 -- ---- the loop
 
 -- what stands from an offset on, by whether the byte there passes the test
-while-here :
+while_here :
     (test : ℕ → Bool) (text : List ℕ) (at : ℕ) {t : Bool} → at < length text → t ≡ test (get_or text at 0)
     → while test (drop at text) ≡ cond t (get_or text at 0 ∷ while test (drop (suc at) text)) []
-while-here test text at h e =
+while_here test text at h e =
     ap (while test) (drop-cons text at 0 h) ∙ ap (λ t. cond t (get_or text at 0 ∷ while test (drop (suc at) text)) []) (sym e)
 
 -- the offset past the bytes from an offset on: that from the next on, where the byte passes; the offset itself, where it does not, or past the end
@@ -23,14 +23,14 @@ pub past_more :
     (test : ℕ → Bool) (text : List ℕ) (at : ℕ) {t : Bool} → at < length text → t ≡ test (get_or text at 0) → t ≡ true
     → at + length (while test (drop at text)) ≡ at + 1 + length (while test (drop (at + 1) text))
 past_more test text at h e passed =
-    let here = ap length (while-here test text at h (sym passed ∙ e)) in
+    let here = ap length (while_here test text at h (sym passed ∙ e)) in
     let next = ap (λ n. length (while test (drop n text))) (add-one at) in
     omega arith
 
 pub past_stop :
     (test : ℕ → Bool) (text : List ℕ) (at : ℕ) {t : Bool} → at < length text → t ≡ test (get_or text at 0) → t ≡ false
     → at + length (while test (drop at text)) ≡ at
-past_stop test text at h e stopped = let here = ap length (while-here test text at h (sym stopped ∙ e)) in omega arith
+past_stop test text at h e stopped = let here = ap length (while_here test text at h (sym stopped ∙ e)) in omega arith
 
 pub past_end : (test : ℕ → Bool) (text : List ℕ) (at : ℕ) → length text ≤ at → at + length (while test (drop at text)) ≡ at
 past_end test text at h = let none = ap (λ (l : List ℕ). length (while test l)) (drop_of_length-le text h) in omega arith
@@ -77,12 +77,12 @@ pub passes_one : (test : ℕ → Bool) (b : ℕ) (rest : List ℕ) → test b �
 passes_one test b rest e h = ap₂ (λ t (l : List ℕ). cond t (b ∷ l) []) e h
 
 -- before other bytes those go on that pass after them
-pub while-append :
+pub while_append :
     (test : ℕ → Bool) (xs ys : List ℕ) → while test xs ≡ xs → while test (xs ++ ys) ≡ xs ++ while test ys
-while-append test [] ys h = refl
-while-append test (b ∷ rest) ys h =
-    ap₂ (λ t (l : List ℕ). cond t (b ∷ l) []) (passes_first test b rest h) (while-append test rest ys (passes_others test b rest h))
+while_append test [] ys h = refl
+while_append test (b ∷ rest) ys h =
+    ap₂ (λ t (l : List ℕ). cond t (b ∷ l) []) (passes_first test b rest h) (while_append test rest ys (passes_others test b rest h))
 
 -- two such texts
 pub passes_append : (test : ℕ → Bool) (xs ys : List ℕ) → while test xs ≡ xs → while test ys ≡ ys → while test (xs ++ ys) ≡ xs ++ ys
-passes_append test xs ys h k = while-append test xs ys h ∙ ap (λ (l : List ℕ). xs ++ l) k
+passes_append test xs ys h k = while_append test xs ys h ∙ ap (λ (l : List ℕ). xs ++ l) k

@@ -27,9 +27,9 @@ module _ (line : List ℕ) (at : ℕ) where
   span_from = sym (drop-drop (length (blanks (drop at line))) at line)
 
   -- it is the first word
-  pub span-word :
+  pub span_word :
       take ((word_span line at).to - (word_span line at).from) (drop (word_span line at).from line) ≡ first_word (drop at line)
-  span-word =
+  span_word =
       let long : (word_span line at).to - (word_span line at).from ≡ length (first_word (drop at line)) = omega arith in
       ap (λ n. take n (drop (word_span line at).from line)) long
       ∙ ap (take (length (first_word (drop at line)))) span_from

@@ -9,7 +9,7 @@ use lib.Dec.{eqb}
 use lib.ListN.{length, drop}
 use lib.Seq.{drop-append_seam}
 use Rattle.words.specs.Words.{while, in_line, blank, in_word, blanks, unblanked, first_word, after_word}
-use Rattle.words.proofs.Runs.{while-append, passes_first}
+use Rattle.words.proofs.Runs.{while_append, passes_first}
 
 -- ---- bytes
 
@@ -40,26 +40,26 @@ word_unblanked (b ∷ w) rest one h =
     (word_no_blank b (passes_first in_word b w h))
 
 -- a word before what does not go on with it
-pub word-then :
+pub word_then :
     (w rest : List ℕ) → 0 < length w → while in_word w ≡ w → while in_word rest ≡ [] → first_word (w ++ rest) ≡ w
-word-then w rest one h stops =
-    ap (while in_word) (word_unblanked w rest one h) ∙ while-append in_word w rest h ∙ ap (λ (l : List ℕ). w ++ l) stops ∙ append-nil w
+word_then w rest one h stops =
+    ap (while in_word) (word_unblanked w rest one h) ∙ while_append in_word w rest h ∙ ap (λ (l : List ℕ). w ++ l) stops ∙ append-nil w
 
 pub after_then :
     (w rest : List ℕ) → 0 < length w → while in_word w ≡ w → while in_word rest ≡ [] → after_word (w ++ rest) ≡ rest
 after_then w rest one h stops =
-    ap₂ (λ (x y : List ℕ). drop (length x) y) (word-then w rest one h stops) (word_unblanked w rest one h) ∙ drop-append_seam w rest
+    ap₂ (λ (x y : List ℕ). drop (length x) y) (word_then w rest one h stops) (word_unblanked w rest one h) ∙ drop-append_seam w rest
 
 -- before a space
 pub word_space : (w rest : List ℕ) → 0 < length w → while in_word w ≡ w → first_word (w ++ (32 ∷ rest)) ≡ w
-word_space w rest one h = word-then w (32 ∷ rest) one h refl
+word_space w rest one h = word_then w (32 ∷ rest) one h refl
 
 pub after_space : (w rest : List ℕ) → 0 < length w → while in_word w ≡ w → after_word (w ++ (32 ∷ rest)) ≡ 32 ∷ rest
 after_space w rest one h = after_then w (32 ∷ rest) one h refl
 
 -- before nothing
 pub word_alone : (w : List ℕ) → 0 < length w → while in_word w ≡ w → first_word w ≡ w
-word_alone w one h = ap first_word (sym (append-nil w)) ∙ word-then w [] one h refl
+word_alone w one h = ap first_word (sym (append-nil w)) ∙ word_then w [] one h refl
 
 pub after_alone : (w : List ℕ) → 0 < length w → while in_word w ≡ w → after_word w ≡ []
 after_alone w one h = ap after_word (sym (append-nil w)) ∙ after_then w [] one h refl

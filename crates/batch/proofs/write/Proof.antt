@@ -5,7 +5,7 @@ use borrow.Author.Rules.{rules}
 use lib.ListN.{length}
 use lib.Seq.{length-take-le}
 use Rattle.page.specs.Page.{sheet_text}
-use Rattle.page.proofs.Promises.{text-within}
+use Rattle.page.proofs.Promises.{text_within}
 use Rattle.batch.proofs.write.Statement.{statement}
 use Rattle.batch.proofs.write.Tie as tie
 
@@ -14,7 +14,7 @@ within : (c : tie.After-write) → (65536 ≡ length c.write.new.1.0) × (c.writ
 within c =
     let room = c.before.before in
     let args = room.before.args in
-    text-within (sheet_text args.sheet) room.large-buffer.result room.large-buffer.ensures c.write.ensures
+    text_within (sheet_text args.sheet) room.large-buffer.result room.large-buffer.ensures c.write.ensures
 
 large-buffer-requires : tie.Need-large-buffer-requires
 large-buffer-requires c κs = search rules

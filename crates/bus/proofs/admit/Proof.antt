@@ -3,7 +3,7 @@ use mathlib.Core.Path.{sym, ◌∙◌}
 use borrow.Author.Rules.{rules}
 use Rattle.state.proofs.Stands.{lent}
 use Rattle.state.proofs.StandingParts.{state_held}
-use Rattle.bus.proofs.InPlace.{Sound, sound_of, Taken, taken-uncounted, asked-away, asked_in}
+use Rattle.bus.proofs.InPlace.{Sound, sound_of, Taken, taken_uncounted, asked_away, asked_in}
 use Rattle.bus.proofs.admit.Statement.{statement}
 use Rattle.bus.proofs.admit.Tie as tie
 
@@ -75,14 +75,14 @@ returns c =
     let told = accepted.before.before.before.before in
     let args = told.before.before.before.before.before.before.before.args in
     let counted = accepted.before.before.turned-after in
-    taken-uncounted args.s args.address args.value args.length told.asked.result (taken! accepted) accepted.if1.true counted.result counted.ensures
+    taken_uncounted args.s args.address args.value args.length told.asked.result (taken! accepted) accepted.if1.true counted.result counted.ensures
 
 returns-2 : tie.Need-returns-2
 returns-2 c =
     let told = c.before.before.before.before in
     let tested = told.before.before.before.before.before.before in
     let args = tested.before.args in
-    asked-away args.s args.address args.value args.length tested.stands.result (sound! tested) told.asked.result told.asked.ensures c.if1.false
+    asked_away args.s args.address args.value args.length tested.stands.result (sound! tested) told.asked.result told.asked.ensures c.if1.false
     c.before.before.turned-after.result
     c.before.before.turned-after.ensures
 

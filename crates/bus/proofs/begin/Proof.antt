@@ -12,8 +12,8 @@ use Rattle.bus.specs.Parts.{shown_of}
 use Rattle.state.proofs.Places.{queues_arrays}
 use Rattle.state.proofs.Stands.{Lent, lent}
 use Rattle.state.proofs.StandingParts.{state_held}
-use Rattle.bus.proofs.InPlace.{whole, Sound, sound_of, may-leave, fewer_wait, all_dropped, may-begin, begun_whole}
-use Rattle.bus.proofs.Calls.{begin-away, begin-on, begins-now, shown-is}
+use Rattle.bus.proofs.InPlace.{whole, Sound, sound_of, may_leave, fewer_wait, all_dropped, may_begin, begun_whole}
+use Rattle.bus.proofs.Calls.{begin_away, begin_on, begins_now, shown-is}
 use Rattle.bus.proofs.begin.Statement.{statement}
 use Rattle.bus.proofs.begin.Tie as tie
 
@@ -41,7 +41,7 @@ module _ (c : tie.Then1) where
   ready =
       let told = c.before.before in
       let tested = told.before.before in
-      begin-on tested.stands.result s (sound! tested) told.begin-refusal.result told.begin-refusal.ensures c.if1.true
+      begin_on tested.stands.result s (sound! tested) told.begin-refusal.result told.begin-refusal.ensures c.if1.true
 
 dropping-requires : tie.Need-dropping-requires
 dropping-requires c κs = search rules
@@ -50,7 +50,7 @@ without-requires : tie.Need-without-requires
 without-requires c κs =
     let t = c.before.before.before.before in
     let to = c.before.before.dropping in
-    may-leave (s t) (ready t).0 to.result to.ensures
+    may_leave (s t) (ready t).0 to.result to.ensures
 
 module _ (c : tie.After-without) where
   abbrev at : tie.Then1
@@ -71,7 +71,7 @@ begun-requires c κs =
     let past = c.before.before in
     let t = at past in
     let to = past.before.before.before.dropping in
-    may-begin (s t) (ready t).0 to.result to.ensures past.without.result past.without.ensures (arrays past) c.dropped.result c.dropped.ensures
+    may_begin (s t) (ready t).0 to.result to.ensures past.without.result past.without.ensures (arrays past) c.dropped.result c.dropped.ensures
 
 shown-requires : tie.Need-shown-requires
 shown-requires c κs = search rules
@@ -93,7 +93,7 @@ returns c =
     ap (λ (answer : Begun). record { answer = answer; state = whole made.begun.result rest }) c.shown.ensures
     ∙ ap₂ (λ (x : State) (k : ℕ). record { answer = shown_of x.segment k; state = x }) state! drops!
     ∙ ap (λ (answer : Begun). record { answer = answer; state = form (begin (meaning (s t))) }) (shown-is (meaning (s t)))
-    ∙ begins-now (s t) r.0 r.1
+    ∙ begins_now (s t) r.0 r.1
 
 -- ---- one that is refused
 
@@ -103,7 +103,7 @@ returns-2 c =
     let tested = told.before.before in
     let s = tested.before.args.s in
     ap (λ (answer : Begun). record { answer = answer; state = s }) c.before.unbegun.ensures
-    ∙ begin-away tested.stands.result s (sound! tested) told.begin-refusal.result told.begin-refusal.ensures c.if1.false
+    ∙ begin_away tested.stands.result s (sound! tested) told.begin-refusal.result told.begin-refusal.ensures c.if1.false
 
 pub begin_spec : {M : Type 1} → statement M
 begin_spec =

@@ -10,8 +10,8 @@ use Rattle.bus.specs.Coded.{Answer}
 use Rattle.state.proofs.Places.{queues_arrays}
 use Rattle.state.proofs.Stands.{Lent, lent}
 use Rattle.state.proofs.StandingParts.{state_held}
-use Rattle.bus.proofs.InPlace.{Sound, sound_of, may-probe, none_won, winner_there!, may-send, one-won}
-use Rattle.bus.proofs.Calls.{probe-away, probe-on, probes-now}
+use Rattle.bus.proofs.InPlace.{Sound, sound_of, may_probe, none_won, winner_there!, may_send, one_won}
+use Rattle.bus.proofs.Calls.{probe_away, probe_on, probes_now}
 use Rattle.bus.proofs.probe.Statement.{statement}
 use Rattle.bus.proofs.probe.Tie as tie
 
@@ -39,10 +39,10 @@ module _ (c : tie.Then1) where
   ready =
       let told = c.before.before in
       let tested = told.before.before in
-      probe-on tested.stands.result s (sound! tested) told.probe-refusal.result told.probe-refusal.ensures c.if1.true
+      probe_on tested.stands.result s (sound! tested) told.probe-refusal.result told.probe-refusal.ensures c.if1.true
 
 heard-in-requires : tie.Need-heard-in-requires
-heard-in-requires c κs = let r = ready c in may-probe (s c).segment (s c).queues 0 r.0 r.1
+heard-in-requires c κs = let r = ready c in may_probe (s c).segment (s c).queues 0 r.0 r.1
 
 -- ---- the winner's packet leaves its queue
 
@@ -64,7 +64,7 @@ add-without c = let h = place! c in search rules
 without-requires : tie.Need-without-requires
 without-requires c κs =
     let r = ready (on c) in
-    may-send (s (on c)).segment (s (on c)).queues 0 r.0 r.1 (heard c).heard-in.result (heard c).heard-in.ensures c.if2.true
+    may_send (s (on c)).segment (s (on c)).queues 0 r.0 r.1 (heard c).heard-in.result (heard c).heard-in.ensures c.if2.true
 
 returns : tie.Need-returns
 returns c =
@@ -72,16 +72,16 @@ returns c =
     let x = s (on won) in
     let r = ready (on won) in
     let rest = c.without.result in
-    one-won x.segment x.queues 0 r.0 r.1 (heard won).heard-in.result (heard won).heard-in.ensures won.if2.true rest c.without.ensures
+    one_won x.segment x.queues 0 r.0 r.1 (heard won).heard-in.result (heard won).heard-in.ensures won.if2.true rest c.without.ensures
     (queues_arrays rest _ c.without.type-inv)
-    ∙ probes-now x r.0 r.1 r.2
+    ∙ probes_now x r.0 r.1 r.2
 
 returns-2 : tie.Need-returns-2
 returns-2 c =
     let past = c.before.before.before.before in
     let x = s past.before in
     let r = ready past.before in
-    none_won x.segment x.queues 0 r.0 r.1 past.heard-in.result past.heard-in.ensures c.if2.false ∙ probes-now x r.0 r.1 r.2
+    none_won x.segment x.queues 0 r.0 r.1 past.heard-in.result past.heard-in.ensures c.if2.false ∙ probes_now x r.0 r.1 r.2
 
 -- ---- one that is refused
 
@@ -91,7 +91,7 @@ returns-3 c =
     let tested = told.before.before in
     let s = tested.before.args.s in
     ap (λ (answer : Answer). record { answer = answer; state = s }) c.before.refused.ensures
-    ∙ probe-away tested.stands.result s (sound! tested) told.probe-refusal.result told.probe-refusal.ensures c.if1.false
+    ∙ probe_away tested.stands.result s (sound! tested) told.probe-refusal.result told.probe-refusal.ensures c.if1.false
 
 pub probe_spec : {M : Type 1} → statement M
 probe_spec =

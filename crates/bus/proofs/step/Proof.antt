@@ -16,7 +16,7 @@ use Rattle.state.proofs.Stands.{Lent, lent}
 use Rattle.state.proofs.StandingParts.{state_held}
 use Rattle.bus.proofs.ProbedSlot.{open_of, stepped}
 use Rattle.bus.proofs.Steps.{probes}
-use Rattle.bus.proofs.InPlace.{whole, Sound, sound_of, step-away, step-on, Opened, was_open, opened-as, may-leave, fewer_wait, may-begin, late_gone, may-probe, none_won, winner_there!, may-send, one-won}
+use Rattle.bus.proofs.InPlace.{whole, Sound, sound_of, step_away, step_on, Opened, was_open, opened_as, may_leave, fewer_wait, may_begin, late_gone, may_probe, none_won, winner_there!, may_send, one_won}
 use Rattle.bus.proofs.step.Statement.{statement}
 use Rattle.bus.proofs.step.Tie as tie
 
@@ -43,7 +43,7 @@ module _ (t : tie.Then1) where
   ready : (Lent s) × (ltb last_slot s.segment.clock.0 ≡ false)
   ready =
       let tested = t.before.before in
-      step-on tested.before.stands.result s (sound! tested.before) tested.step-refusal.result tested.step-refusal.ensures t.if1.taken
+      step_on tested.before.stands.result s (sound! tested.before) tested.step-refusal.result tested.step-refusal.ensures t.if1.taken
 
 -- ---- late packets leave, and each station offers one
 
@@ -54,7 +54,7 @@ without-requires : tie.Need-without-requires
 without-requires c κs =
     let t = c.before.before.before.before.before.before.before in
     let to = c.before.before.dropping in
-    may-leave (s t) (ready t).0 to.result to.ensures
+    may_leave (s t) (ready t).0 to.result to.ensures
 
 module _ (c : tie.After-without) where
   abbrev turn : tie.Then1
@@ -75,7 +75,7 @@ begun-requires c κs =
     let past = c.before.before in
     let t = turn past in
     let to = past.before.before.before.dropping in
-    may-begin (s t) (ready t).0 to.result to.ensures past.without.result past.without.ensures (arrays past) c.dropped.result c.dropped.ensures
+    may_begin (s t) (ready t).0 to.result to.ensures past.without.result past.without.ensures (arrays past) c.dropped.result c.dropped.ensures
 
 -- ---- the contention is under way, or has just begun
 
@@ -88,11 +88,11 @@ module _ (c : tie.Joined2) where
       let r = (ready at).0 in
       ⊎_elim
       (λ w.
-      opened-as (ap (λ (x : State). x.segment) w.8) (ap (λ (x : State). x.queues) w.8) w.9
+      opened_as (ap (λ (x : State). x.segment) w.8) (ap (λ (x : State). x.queues) w.8) w.9
       (late_gone (s at) r w.1.result w.1.ensures w.4.result w.4.ensures (queues_arrays w.4.result _ w.4.ok) w.6.result w.6.ensures w.7.result
       w.7.ensures
       (denied refl w.0.taken)))
-      (λ w. opened-as (ap (λ (x : State). x.segment) w.1) (ap (λ (x : State). x.queues) w.1) w.2 (was_open (s at) r (granted refl w.0.left)))
+      (λ w. opened_as (ap (λ (x : State). x.segment) w.1) (ap (λ (x : State). x.queues) w.1) w.2 (was_open (s at) r (granted refl w.0.left)))
       c.if2.branch
 
   abbrev queues : Queues
@@ -108,7 +108,7 @@ module _ (c : tie.Joined2) where
   of_step = probes (s at) (ready at).0 (ready at).1 (open_of (whole probing queues) drops) opened!.is
 
 heard-in-requires : tie.Need-heard-in-requires
-heard-in-requires c κs = let o = opened! c in may-probe (probing c) (queues c) (drops c) o.ready o.begun
+heard-in-requires c κs = let o = opened! c in may_probe (probing c) (queues c) (drops c) o.ready o.begun
 
 -- ---- the winner's packet leaves its queue
 
@@ -130,7 +130,7 @@ add-without c = let h = place! c in search rules
 without-requires-2 : tie.Need-without-requires-2
 without-requires-2 c κs =
     let o = opened! (on c) in
-    may-send (probing (on c)) (queues (on c)) (drops (on c)) o.ready o.begun (heard c).heard-in.result (heard c).heard-in.ensures c.if3.true
+    may_send (probing (on c)) (queues (on c)) (drops (on c)) o.ready o.begun (heard c).heard-in.result (heard c).heard-in.ensures c.if3.true
 
 returns : tie.Need-returns
 returns c =
@@ -138,7 +138,7 @@ returns c =
     let j = on won in
     let o = opened! j in
     let rest = c.without2.result in
-    one-won (probing j) (queues j) (drops j) o.ready o.begun (heard won).heard-in.result (heard won).heard-in.ensures won.if3.true rest c.without2.ensures
+    one_won (probing j) (queues j) (drops j) o.ready o.begun (heard won).heard-in.result (heard won).heard-in.ensures won.if3.true rest c.without2.ensures
     (queues_arrays rest _ c.without2.type-inv)
     ∙ of_step j
 
@@ -155,7 +155,7 @@ returns-3 c =
     let tested = told.before in
     let s = tested.before.before.args.s in
     ap (λ (answer : Answer). record { answer = answer; state = s }) told.refused.ensures
-    ∙ step-away tested.before.stands.result s (sound! tested.before) tested.step-refusal.result tested.step-refusal.ensures
+    ∙ step_away tested.before.stands.result s (sound! tested.before) tested.step-refusal.result tested.step-refusal.ensures
     c.if1.false
 
 pub step_spec : {M : Type 1} → statement M

@@ -1,6 +1,6 @@
 -- `say_refusal` is safe: the words that it says are in the room. Assumes nothing.
 use Rattle.meanings.specs.Meanings.{meaning_of}
-use Rattle.meanings.proofs.Telling.{Within, room_start, stored-within, part_there, part_length}
+use Rattle.meanings.proofs.Telling.{Within, room_start, stored_within, part_there, part_length}
 use borrow.Author.Rules.{rules}
 use Rattle.buslayout.proofs.say_refusal.Statement.{statement}
 use Rattle.buslayout.proofs.say_refusal.Tie as tie
@@ -9,7 +9,7 @@ use Rattle.buslayout.proofs.say_refusal.Tie as tie
 within : (c : tie.After-meaning) → Within c.meaning.new.0 c.meaning.result
 within c =
     let room = c.before.before.large-buffer in
-    stored-within (meaning_of _) (room_start room.result room.ensures) c.meaning.ensures
+    stored_within (meaning_of _) (room_start room.result room.ensures) c.meaning.ensures
 
 slice-aggregate-say : tie.Need-slice-aggregate-say
 slice-aggregate-say c = search rules

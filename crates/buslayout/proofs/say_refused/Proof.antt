@@ -1,6 +1,6 @@
 -- `say_refused` is safe: the part of the room that it says is in it. Assumes nothing.
 use Rattle.meanings.specs.Refused.{refused_text}
-use Rattle.meanings.proofs.Telling.{Within, start-within, part_there, part_length}
+use Rattle.meanings.proofs.Telling.{Within, start_within, part_there, part_length}
 use borrow.Author.Rules.{rules}
 use Rattle.buslayout.proofs.say_refused.Statement.{statement}
 use Rattle.buslayout.proofs.say_refused.Tie as tie
@@ -10,7 +10,7 @@ within : (c : tie.After-refused) → Within c.refused.new.1.1.1.0 c.refused.resu
 within c =
     let room = c.before.before in
     let args = room.before.before.args in
-    start-within (refused_text args.input.now args.number args.offset) room.large-buffer.result room.large-buffer.ensures c.refused.ensures
+    start_within (refused_text args.input.now args.number args.offset) room.large-buffer.result room.large-buffer.ensures c.refused.ensures
 
 large-buffer-requires : tie.Need-large-buffer-requires
 large-buffer-requires c κs = search rules

@@ -3,7 +3,7 @@ use mathlib.Core.Path.{◌≡◌, ap, ◌∙◌}
 use lib.ListN.{length}
 use Rattle.shown.specs.Shown.{shown_at}
 use Rattle.shown.specs.declared.Shown.{Shown}
-use Rattle.meanings.proofs.Telling.{Within, start-within, part_there, part_length}
+use Rattle.meanings.proofs.Telling.{Within, start_within, part_there, part_length}
 use borrow.Author.Rules.{rules}
 use Rattle.buslayout.proofs.show_record.Statement.{statement}
 use Rattle.buslayout.proofs.show_record.Tie as tie
@@ -15,7 +15,7 @@ within c =
     let args = room.before.before.args in
     let told = c.show.ensures in
     let counted : c.show.result.length ≡ length (shown_at args.input.now args.at).text = ap (λ (s : Shown). s.length) told.0 in
-    start-within (shown_at args.input.now args.at).text room.large-buffer.result room.large-buffer.ensures (counted, told.1)
+    start_within (shown_at args.input.now args.at).text room.large-buffer.result room.large-buffer.ensures (counted, told.1)
 
 large-buffer-requires : tie.Need-large-buffer-requires
 large-buffer-requires c κs = search rules

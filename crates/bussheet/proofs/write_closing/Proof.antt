@@ -5,7 +5,7 @@ use borrow.Author.Rules.{rules}
 use lib.ListN.{length}
 use lib.Seq.{length-take-le}
 use Rattle.page.specs.Page.{closing_text}
-use Rattle.page.proofs.Promises.{text-within}
+use Rattle.page.proofs.Promises.{text_within}
 use Rattle.bussheet.proofs.write_closing.Statement.{statement}
 use Rattle.bussheet.proofs.write_closing.Tie as tie
 
@@ -14,7 +14,7 @@ within : (c : tie.After-closing) → (65536 ≡ length c.closing.new.1.1.1.0) ×
 within c =
     let room = c.before.before in
     let args = room.before.before.args in
-    text-within (closing_text args.sums args.highest args.name.now) room.large-buffer.result room.large-buffer.ensures c.closing.ensures
+    text_within (closing_text args.sums args.highest args.name.now) room.large-buffer.result room.large-buffer.ensures c.closing.ensures
 
 large-buffer-requires : tie.Need-large-buffer-requires
 large-buffer-requires c κs = search rules

@@ -5,7 +5,7 @@ use borrow.Author.Rules.{rules}
 use lib.ListN.{length}
 use lib.Seq.{length-take-le}
 use Rattle.page.specs.Page.{heading_text}
-use Rattle.page.proofs.Promises.{text-within}
+use Rattle.page.proofs.Promises.{text_within}
 use Rattle.bussheet.proofs.write_heading.Statement.{statement}
 use Rattle.bussheet.proofs.write_heading.Tie as tie
 
@@ -13,7 +13,7 @@ use Rattle.bussheet.proofs.write_heading.Tie as tie
 within : (c : tie.After-heading) → (65536 ≡ length c.heading.new.0) × (c.heading.result ≤ length c.heading.new.0)
 within c =
     let room = c.before.before in
-    text-within (heading_text) room.large-buffer.result room.large-buffer.ensures c.heading.ensures
+    text_within (heading_text) room.large-buffer.result room.large-buffer.ensures c.heading.ensures
 
 large-buffer-requires : tie.Need-large-buffer-requires
 large-buffer-requires c κs = search rules

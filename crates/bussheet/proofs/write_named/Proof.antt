@@ -5,7 +5,7 @@ use borrow.Author.Rules.{rules}
 use lib.ListN.{length}
 use lib.Seq.{length-take-le}
 use Rattle.page.specs.Page.{line_text}
-use Rattle.page.proofs.Promises.{text-within}
+use Rattle.page.proofs.Promises.{text_within}
 use Rattle.bussheet.proofs.write_named.Statement.{statement}
 use Rattle.bussheet.proofs.write_named.Tie as tie
 
@@ -14,7 +14,7 @@ within : (c : tie.After-line) → (65536 ≡ length c.line.new.1.1.0) × (c.line
 within c =
     let room = c.before.before in
     let args = room.before.before.args in
-    text-within (line_text args.entry args.name.now) room.large-buffer.result room.large-buffer.ensures c.line.ensures
+    text_within (line_text args.entry args.name.now) room.large-buffer.result room.large-buffer.ensures c.line.ensures
 
 large-buffer-requires : tie.Need-large-buffer-requires
 large-buffer-requires c κs = search rules

@@ -4,7 +4,7 @@ use native.Mathlib.Omega.{arith}
 use Rattle.layout.specs.Layout.{wrong, says, request_in, layout_says}
 use Rattle.layout.specs.Answers.{answer_form, room_after}
 use Rattle.layout.specs.Parts.{plan_of}
-use Rattle.layout.proofs.Turns.{saying-wrong, saying-right}
+use Rattle.layout.proofs.Turns.{saying_wrong, saying_right}
 use borrow.Author.Rules.{rules}
 use Rattle.layout.proofs.read.Statement.{statement}
 use Rattle.layout.proofs.read.Tie as tie
@@ -18,7 +18,7 @@ returns c =
     let start = found.before.before in
     let r = found.read-lines.result in
     let said : wrong r.line r.fault ≡ layout_says start.args.text.now =
-    sym (saying-wrong r.fault r.line r.plan c.if1.true) ∙ found.read-lines.ensures.0 in
+    sym (saying_wrong r.fault r.line r.plan c.if1.true) ∙ found.read-lines.ensures.0 in
     (ap answer_form said, (ap (λ s. room_after s start.args.room.now) said, omega arith))
 
 write-requires : tie.Need-write-requires
@@ -31,7 +31,7 @@ returns-2 c =
     let start = found.before.before in
     let r = found.read-lines.result in
     let said : says (request_in (plan_of r.plan)) (plan_of r.plan).arrivals r.plan.steps ≡ layout_says start.args.text.now =
-    sym (saying-right r.fault r.line r.plan fine.if1.false) ∙ found.read-lines.ensures.0 in (
+    sym (saying_right r.fault r.line r.plan fine.if1.false) ∙ found.read-lines.ensures.0 in (
       ap (λ n. record { fault = 0; line = 0; length = n }) c.write.ensures.0 ∙ ap answer_form said,
       (c.write.ensures.1.0 ∙ ap (λ s. room_after s start.args.room.now) said, c.write.ensures.1.1),
     )

@@ -11,7 +11,7 @@ use Rattle.words.proofs.Lines.{end_within, line_taken, lines_on, lines_end}
 use Rattle.layout.specs.declared.plan.Plan as Coded
 use Rattle.layout.specs.Layout.{take_line, layout_says, read_lines}
 use Rattle.layout.specs.Parts.{plan_of, taken_of, PlanFits}
-use Rattle.layout.proofs.Turns.{turn_right, turn_wrong, lines-first, saying-wrong}
+use Rattle.layout.proofs.Turns.{turn_right, turn_wrong, lines-first, saying_wrong}
 use Rattle.layout.proofs.read_lines.Statement.{statement}
 use Rattle.layout.proofs.read_lines.Tie as tie
 
@@ -44,10 +44,10 @@ line-end-requires : tie.Need-line-end-requires invariant-loop decreases-loop
 line-end-requires c κs = search rules
 
 -- where the line ends
-ends-within :
+ends_within :
     (c : tie.After-line-end invariant-loop decreases-loop) → let at = c.before in
     c.line-end.result ≤ length at.before.before.before.args.text.now
-ends-within c =
+ends_within c =
     let at = c.before in
     end_within at.before.before.before.args.text.now at.loop.at c.line-end.result at.loop.invariant.within c.line-end.ensures
 
@@ -61,7 +61,7 @@ part-take-start : tie.Need-slice-bounds-take-start invariant-loop decreases-loop
 part-take-start c = omega (arith, c.line-end.ensures)
 
 part-take-end : tie.Need-slice-bounds-take-end invariant-loop decreases-loop
-part-take-end c = ends-within c
+part-take-end c = ends_within c
 
 take-requires : tie.Need-take-requires invariant-loop decreases-loop
 take-requires c κs = c.before.before.loop.invariant.fits
@@ -87,7 +87,7 @@ returns c =
     let at = end.before in
     let text = at.before.before.before.args.text.now in
     let first = lines-first text at.loop.at end.line-end.result at.loop.invariant.within end.line-end.ensures in (
-      saying-wrong _ _ done.take.result.plan c.if1.true
+      saying_wrong _ _ done.take.result.plan c.if1.true
           ∙ turn_wrong at.loop.line (plan_of at.loop.plan) (first_line (drop at.loop.at text)) first.0 (taken_of done.take.result) (taken_here done) c.if1.true
           ∙ ap (read_lines at.loop.line (plan_of at.loop.plan)) (sym first.1)
           ∙ sym at.loop.invariant.left,

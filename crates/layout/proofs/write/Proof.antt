@@ -6,7 +6,7 @@ use native.Mathlib.Omega.{arith}
 use lib.ListN.{length}
 use Rattle.text.proofs.Promises.{past_fits}
 use Rattle.scenario.specs.Writing.{written}
-use Rattle.packing.proofs.Promises.{written-size, whole-stored}
+use Rattle.packing.proofs.Promises.{written_size, whole_stored}
 use Rattle.layout.specs.Layout.{request_in}
 use Rattle.layout.specs.Parts.{plan_of}
 use Rattle.layout.proofs.Planning.{plan_arrays, stations_counted, arrivals_counted}
@@ -31,10 +31,10 @@ returns c =
     let long = plan_arrays g _ start.well-formed.0 in
     let counted = arrivals_counted g start.requires long.1 in
     let stations = stations_counted g start.requires long.0 in
-    let size = written-size (request_in p) p.arrivals g.steps in
+    let size = written_size (request_in p) p.arrivals g.steps in
     let fits : 0 + length (written (request_in p) p.arrivals g.steps) ≤ 65536 = omega (arith, start.requires.short) in
     let whole =
-    whole-stored
+    whole_stored
     start.args.room.now
     0
     (request_in p)

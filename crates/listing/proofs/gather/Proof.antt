@@ -8,7 +8,7 @@ use lib.ListN.{length as size, drop}
 use borrow.Author.Rules.{rules}
 use Rattle.scenario.specs.declared.Record.TheVariants as Is
 use Rattle.scenario.specs.Format.{Said, said, read_record}
-use Rattle.scenario.proofs.ReadingLaws.{other-kind, arrival_within}
+use Rattle.scenario.proofs.ReadingLaws.{other_kind, arrival_within}
 use Rattle.listing.proofs.Gathered.{So-far, at_first, one_more, none_found, row_full, at_last}
 use Rattle.listing.proofs.gather.Statement.{statement}
 use Rattle.listing.proofs.gather.Tie as tie
@@ -50,7 +50,7 @@ returns c =
     let input = found.before.before.before.before.args.input.now in
     at_last turn.invariant.0
     (none_found (64 - turn.length) input turn.at
-    (other-kind 3 (0 ∷ 1 ∷ 2 ∷ 4 ∷ []) found.record-at.result _ found.record-at.ensures refl c.match.keys2))
+    (other_kind 3 (0 ∷ 1 ∷ 2 ∷ 4 ∷ []) found.record-at.result _ found.record-at.ensures refl c.match.keys2))
 
 mul-row : tie.Need-overflow-mul-row invariant-loop decreases-loop
 mul-row c = search rules

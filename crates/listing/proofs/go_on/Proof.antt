@@ -5,7 +5,7 @@ use native.Mathlib.Omega.{arith}
 use borrow.Author.Rules.{rules}
 use Rattle.bus.specs.Stretch.{stretch_form}
 use Rattle.listing.specs.Turns.{next_arrivals, course_of}
-use Rattle.listing.proofs.TurnLaws.{stretch-is, made_few, taken_few, taken_within, stretched-turn}
+use Rattle.listing.proofs.TurnLaws.{stretch_is, made_few, taken_few, taken_within, stretched_turn}
 use Rattle.listing.proofs.go_on.Statement.{statement}
 use Rattle.listing.proofs.go_on.Tie as tie
 
@@ -17,7 +17,7 @@ is :
 is c =
     let gathered = c.before.before in
     let args = gathered.before.before.args in
-    stretch-is args.input.now args.play gathered.gather.result c.play.result gathered.gather.ensures c.play.ensures
+    stretch_is args.input.now args.play gathered.gather.result c.play.result gathered.gather.ensures c.play.ensures
 
 gather-requires : tie.Need-gather-requires
 gather-requires c κs = search rules
@@ -54,7 +54,7 @@ returns : tie.Need-returns
 returns c =
     let played = c.before.before.before.before in
     let args = played.before.before.before.before.args in
-    stretched-turn args.input.now args.play played.play.result (is played) c.before.before.tell-all.ensures
+    stretched_turn args.input.now args.play played.play.result (is played) c.before.before.tell-all.ensures
 
 pub go_on_spec : {M : Type 1} → statement M
 go_on_spec =

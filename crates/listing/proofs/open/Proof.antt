@@ -6,7 +6,7 @@ use borrow.Author.Rules.{rules}
 use borrow.Author.Tests.{eq-eqb, ne_eqb}
 use Rattle.listing.specs.Turns.{opened_by}
 use Rattle.text.proofs.Stores.{told_none, told_within}
-use Rattle.listing.proofs.TurnLaws.{turn-of, opened-turn}
+use Rattle.listing.proofs.TurnLaws.{turn-of, opened_turn}
 use Rattle.listing.proofs.open.Statement.{statement}
 use Rattle.listing.proofs.open.Tie as tie
 
@@ -25,14 +25,14 @@ returns c =
     let test = line.before.before in
     let reading = test.before.before.before in
     turn-of
-    (opened-turn reading.read.result false (ne_eqb _ _ test.if1.true) ∙ ap opened_by reading.read.ensures)
+    (opened_turn reading.read.result false (ne_eqb _ _ test.if1.true) ∙ ap opened_by reading.read.ensures)
     (record { play = c.over.ensures; told = told_within line.refused.ensures (omega arith) })
 
 returns-2 : tie.Need-returns-2
 returns-2 c =
     let reading = c.before.before.before in
     turn-of
-    (opened-turn reading.read.result true (eq-eqb _ _ c.if1.false) ∙ ap opened_by reading.read.ensures)
+    (opened_turn reading.read.result true (eq-eqb _ _ c.if1.false) ∙ ap opened_by reading.read.ensures)
     (record { play = refl; told = told_none _ _ _ })
 
 pub open_spec : {M : Type 1} → statement M

@@ -9,7 +9,7 @@ use borrow.Author.Rules.{rules}
 use Rattle.bus.specs.Stretch.{no_report}
 use Rattle.listing.specs.Turns.{reports_text}
 use Rattle.text.specs.Parts.{Told}
-use Rattle.text.proofs.Stores.{told_none, told-then, told_within}
+use Rattle.text.proofs.Stores.{told_none, told_then, told_within}
 use Rattle.listing.proofs.TurnLaws.{one_report, reports_array}
 use Rattle.listing.proofs.tell_all.Statement.{statement}
 use Rattle.listing.proofs.tell_all.Tie as tie
@@ -48,7 +48,7 @@ loop-again c =
     ap (λ k. reports_text (take k reports)) (add-one turn.i)
     ∙ ap reports_text (take-suc reports turn.i no_report (omega arith))
     ∙ one_report (take turn.i reports) (get_or reports turn.i no_report) in
-    (omega arith, rw one (told_within (told-then turn.invariant.1 c.tell.ensures) (omega arith)))
+    (omega arith, rw one (told_within (told_then turn.invariant.1 c.tell.ensures) (omega arith)))
 
 returns : tie.Need-returns invariant-loop decreases-loop
 returns c =

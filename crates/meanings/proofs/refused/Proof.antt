@@ -5,11 +5,11 @@ use borrow.Author.Rules.{rules}
 use Rattle.text.specs.Text.{bytes, decimal}
 use Rattle.text.specs.Parts.{Told}
 use Rattle.text.proofs.Decimals.{decimal_short}
-use Rattle.text.proofs.Stores.{told_none, told-then, told-stored}
+use Rattle.text.proofs.Stores.{told_none, told_then, told_stored}
 use Rattle.meanings.specs.Meanings.{meaning_of}
 use Rattle.meanings.specs.Refused.{number_text}
 use Rattle.meanings.proofs.Words.{meaning_short}
-use Rattle.meanings.proofs.Telling.{told_more, told_as, told-start, too_long, of-a-record}
+use Rattle.meanings.proofs.Telling.{told_more, told_as, told_start, too_long, of_a_record}
 use Rattle.meanings.proofs.refused.Statement.{statement}
 use Rattle.meanings.proofs.refused.Tie as tie
 
@@ -24,7 +24,7 @@ meant c =
     let word = named.before.before in
     let args = word.before.before.before.before.args in
     let n = args.number in
-    let a = told-stored args.room.now 0 (bytes "refused, number ") 16 (omega arith) (omega arith) word.letters.ensures in
+    let a = told_stored args.room.now 0 (bytes "refused, number ") 16 (omega arith) (omega arith) word.letters.ensures in
     let b = told_more (decimal n) 10 a (omega arith) (decimal_short n (search rules)) named.number.ensures in
     let d = told_more (bytes ": ") 2 b (omega arith) (omega arith) apart.letters2.ensures in
     simp append_assoc at (told_more (meaning_of n) 80 d (omega arith) (meaning_short n) c.meaning.ensures)
@@ -48,7 +48,7 @@ meaning-requires : tie.Need-meaning-requires
 meaning-requires c κs = search rules
 
 returns : tie.Need-returns
-returns c = told-start (omega arith) (told_as (told-then (meant c.before) (told_none _ _ 0)) (too_long _ _ _ c.if1.true))
+returns c = told_start (omega arith) (told_as (told_then (meant c.before) (told_none _ _ 0)) (too_long _ _ _ c.if1.true))
 
 least-requires : tie.Need-least-requires
 least-requires c κs = search rules
@@ -60,8 +60,8 @@ returns-2 : tie.Need-returns-2
 returns-2 c =
     let least = c.before in
     let tested = least.before.before in
-    let same = of-a-record _ _ _ tested.if1.false least.least.ensures in
-    told-start (omega arith) (told_as (told-then (meant tested.before) c.told.ensures) same)
+    let same = of_a_record _ _ _ tested.if1.false least.least.ensures in
+    told_start (omega arith) (told_as (told_then (meant tested.before) c.told.ensures) same)
 
 pub refused_spec : {M : Type 1} → statement M
 refused_spec =

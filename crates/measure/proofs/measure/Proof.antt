@@ -1,6 +1,6 @@
 -- `measure` meets its contract: the scenario is read, and refused or played. Assumes nothing.
 use borrow.Author.Rules.{rules}
-use Rattle.measure.proofs.Finishing.{refused_measured, accepted-measured}
+use Rattle.measure.proofs.Finishing.{refused_measured, accepted_measured}
 use Rattle.measure.proofs.measure.Statement.{statement}
 use Rattle.measure.proofs.measure.Tie as tie
 
@@ -19,7 +19,7 @@ returns-2 : tie.Need-returns-2
 returns-2 c =
     let test = c.before.before in
     let reading = test.before.before in
-    accepted-measured
+    accepted_measured
     reading.before.before.args.input.now
     reading.read.result
     reading.read.ensures

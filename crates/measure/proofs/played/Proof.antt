@@ -6,10 +6,10 @@ use native.Mathlib.Omega.{arith}
 use lib.ListN.{length}
 use borrow.Author.Rules.{rules}
 use Rattle.bus.specs.Stretch.{stretch_form}
-use Rattle.listing.proofs.TurnLaws.{stretch-is, made_few, taken_few, taken_within}
+use Rattle.listing.proofs.TurnLaws.{stretch_is, made_few, taken_few, taken_within}
 use Rattle.sheet.specs.declared.Run.{Run}
 use Rattle.measure.specs.Parts.{Finishes}
-use Rattle.measure.proofs.Finishing.{play_of, stretch_on, one-stretch, turns-fall, Fit, totals_fit, run_with, at_last}
+use Rattle.measure.proofs.Finishing.{play_of, stretch_on, one_stretch, turns_fall, Fit, totals_fit, run_with, at_last}
 use Rattle.measure.proofs.played.Statement.{statement}
 use Rattle.measure.proofs.played.Tie as tie
 
@@ -27,7 +27,7 @@ is :
     c.play.result ≡ stretch_form (stretch_on at.before.before.args.input.now at.loop.state at.loop.at at.loop.steps)
 is c =
     let at = c.before.before.before in
-    stretch-is
+    stretch_is
     at.before.before.args.input.now
     (play_of at.loop.state at.loop.at at.loop.steps)
     c.before.gather.result
@@ -85,7 +85,7 @@ loop-less : tie.Need-loop-smaller invariant-loop decreases-loop
 loop-less c =
     let played = c.before.before.before in
     let at = played.before.before.before in
-    turns-fall
+    turns_fall
     at.before.before.args.input.now
     at.loop.state
     at.loop.at
@@ -104,7 +104,7 @@ loop-again c =
       next_fits played,
       λ r rest.
           at.loop.invariant.1 r
-          (one-stretch input at.loop.at at.loop.steps at.loop.longest r at.loop.state x (is played)
+          (one_stretch input at.loop.at at.loop.steps at.loop.longest r at.loop.state x (is played)
           (subst
           (λ (w : ℕ). Finishes input x.state (at.loop.at + 16 * x.taken) x.left w r)
           told.longest-in.ensures

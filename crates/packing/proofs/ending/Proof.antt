@@ -10,7 +10,7 @@ use Rattle.scenario.specs.Format.{arrival_kind}
 use Rattle.scenario.specs.Reading.{arrival_from}
 use Rattle.scenario.specs.Writing.{record_bytes, arrival_values, ending_bytes}
 use Rattle.packing.proofs.Sizes.{arrived_size}
-use Rattle.packing.proofs.Left.{Left, none_stored, left_all, left_less, left-last, next-left}
+use Rattle.packing.proofs.Left.{Left, none_stored, left_all, left_less, left_last, next-left}
 use Rattle.packing.proofs.ending.Statement.{statement}
 use Rattle.packing.proofs.ending.Tie as tie
 
@@ -86,7 +86,7 @@ returns-3 c =
     let full : length args.t3 ≡ 4096 = search rules in
     let few = length-take args.count args.t3 in
     let over = drop_of_length-le (take args.count args.t3) {i = turn.loop.i} (omega arith) in
-    left-last (rw over at turn.loop.invariant.1) c.run.ensures
+    left_last (rw over at turn.loop.invariant.1) c.run.ensures
 
 pub ending_spec : {M : Type 1} → statement M
 ending_spec =

@@ -1,8 +1,8 @@
 -- `closing` meets its contract: the sums, and the highest loss. Assumes nothing.
 use native.Mathlib.Omega.{arith}
 use borrow.Author.Rules.{rules}
-use Rattle.text.proofs.Stores.{told-then}
-use Rattle.page.proofs.Told.{told-start}
+use Rattle.text.proofs.Stores.{told_then}
+use Rattle.page.proofs.Told.{told_start}
 use Rattle.page.proofs.closing.Statement.{statement}
 use Rattle.page.proofs.closing.Tie as tie
 
@@ -14,7 +14,7 @@ highest-requires c κs = search rules
 
 returns : tie.Need-returns
 returns c =
-    told-start (omega arith) (told-then c.before.before.sums.ensures c.highest.ensures)
+    told_start (omega arith) (told_then c.before.before.sums.ensures c.highest.ensures)
 
 pub closing_spec : {M : Type 1} → statement M
 closing_spec = tie.close (tie.spec sums-requires highest-requires returns)

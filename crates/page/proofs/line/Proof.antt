@@ -1,8 +1,8 @@
 -- `line` meets its contract: the entry's columns, and its name. Assumes nothing.
 use native.Mathlib.Omega.{arith}
 use borrow.Author.Rules.{rules}
-use Rattle.text.proofs.Stores.{told-then}
-use Rattle.page.proofs.Told.{told-start}
+use Rattle.text.proofs.Stores.{told_then}
+use Rattle.page.proofs.Told.{told_start}
 use Rattle.page.proofs.line.Statement.{statement}
 use Rattle.page.proofs.line.Tie as tie
 
@@ -14,7 +14,7 @@ named-requires c κs = search rules
 
 returns : tie.Need-returns
 returns c =
-    told-start (omega arith) (told-then c.before.before.cells.ensures c.named.ensures)
+    told_start (omega arith) (told_then c.before.before.cells.ensures c.named.ensures)
 
 pub line_spec : {M : Type 1} → statement M
 line_spec = tie.close (tie.spec cells-requires named-requires returns)

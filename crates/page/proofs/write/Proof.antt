@@ -6,10 +6,10 @@ use native.Mathlib.Omega.{arith}
 use borrow.Author.Rules.{rules}
 use lib.ListN.{take}
 use Rattle.text.specs.Parts.{Told}
-use Rattle.text.proofs.Stores.{told-then}
+use Rattle.text.proofs.Stores.{told_then}
 use Rattle.sheet.specs.declared.Run.{Run}
 use Rattle.page.specs.Page.{rows_text}
-use Rattle.page.proofs.Told.{told-start, rows_within, rows_array}
+use Rattle.page.proofs.Told.{told_start, rows_within, rows_array}
 use Rattle.page.proofs.write.Statement.{statement}
 use Rattle.page.proofs.write.Tie as tie
 
@@ -42,7 +42,7 @@ returns c =
     (λ (text : List ℕ). Told headed.heading.new.0 listed.rows2.new.0 headed.heading.result listed.rows2.result text 38_144)
     same
     listed.rows2.ensures in
-    told-start (omega arith) (told-then headed.heading.ensures (told-then lines (told-then summed.sums.ensures c.highest-placed.ensures)))
+    told_start (omega arith) (told_then headed.heading.ensures (told_then lines (told_then summed.sums.ensures c.highest-placed.ensures)))
 
 pub write_spec : {M : Type 1} → statement M
 write_spec =

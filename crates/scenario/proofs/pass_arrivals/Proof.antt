@@ -11,7 +11,7 @@ use Rattle.scenario.specs.Format.{Said, said, read_record}
 use Rattle.scenario.specs.Reading.{arrival_bytes, arrivals_from, refused_ending, with_arrival}
 use Rattle.scenario.specs.Parts.{ending_form, ending_at}
 use Rattle.scenario.specs.declared.Record.TheVariants as Is
-use Rattle.scenario.proofs.ReadingLaws.{other-kind, arrival_within, arrival-turn, arrivals-over}
+use Rattle.scenario.proofs.ReadingLaws.{other_kind, arrival_within, arrival_turn, arrivals_over}
 use Rattle.scenario.proofs.pass_arrivals.Statement.{statement}
 use Rattle.scenario.proofs.pass_arrivals.Tie as tie
 
@@ -56,7 +56,7 @@ turn c t told =
     at.loop.invariant
     ∙ ap
     ending_form
-    (arrival-turn
+    (arrival_turn
     at.before.before.args.input.now
     at.loop.at
     at.loop.previous.0
@@ -81,8 +81,8 @@ returns c =
     at.loop.invariant
     ∙ ap
     ending_form
-    (arrivals-over input (length input) at.loop.previous.0 at.loop.at
-    (other-kind 3 (0 ∷ 1 ∷ 2 ∷ 4 ∷ []) c.before.record-at.result _ c.before.record-at.ensures refl c.match.keys2))
+    (arrivals_over input (length input) at.loop.previous.0 at.loop.at
+    (other_kind 3 (0 ∷ 1 ∷ 2 ∷ 4 ∷ []) c.before.record-at.result _ c.before.record-at.ensures refl c.match.keys2))
 
 before-requires : tie.Need-before-requires invariant-loop decreases-loop
 before-requires c κs = search rules

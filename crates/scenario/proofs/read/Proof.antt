@@ -9,7 +9,7 @@ use Rattle.state.specs.SetUp.{settings_refusal}
 use Rattle.scenario.specs.Format.{said, out_of_place, read_record}
 use Rattle.scenario.specs.Reading.{most_bytes, set_up_bytes, settings_from, stations_from}
 use Rattle.scenario.specs.Reading.{refused, read_stations, read_settings, read_set_up, reading, scenario_form}
-use Rattle.scenario.proofs.ReadingLaws.{other-kind, refused-by, not_refused}
+use Rattle.scenario.proofs.ReadingLaws.{other_kind, refused_by, not_refused}
 use Rattle.scenario.proofs.read.Statement.{statement}
 use Rattle.scenario.proofs.read.Tie as tie
 
@@ -20,11 +20,11 @@ after_length c =
     ap (λ t. cond t (refused 22 0) (read_set_up (read_record input) input)) (le-ltb most_bytes (length input) c.if1.false)
 
 -- where that is a set-up, its settings decide
-after-found :
+after_found :
     (c : tie.After-found)
     → let input = c.before.before.before.before.before.args.input.now in
     reading input ≡ read_settings c.found.given.0.0 input
-after-found c =
+after_found c =
     let record-there = c.before.before in
     let input = record-there.before.before.before.args.input.now in
     after_length record-there.before
@@ -68,7 +68,7 @@ returns-2 c =
     ∙ ap
     (λ t. cond t (read_settings (settings_from x.values) input) (refused (out_of_place x) 0))
     (ne_eqb x.kind 1
-    (other-kind 1 (0 ∷ 2 ∷ 3 ∷ 4 ∷ []) found.record-at.result x found.record-at.ensures refl place.before.match.keys2))))
+    (other_kind 1 (0 ∷ 2 ∷ 3 ∷ 4 ∷ []) found.record-at.result x found.record-at.ensures refl place.before.match.keys2))))
 
 settings-refusal-requires : tie.Need-settings-refusal-requires
 settings-refusal-requires c κs = search rules
@@ -85,7 +85,7 @@ returns-3 c =
     c.refused3.ensures
     ∙ ap
     scenario_form
-    (refused-by
+    (refused_by
     (settings_refusal g)
     tried.settings-refusal.result
     0
@@ -94,7 +94,7 @@ returns-3 c =
     tried.settings-refusal.ensures
     refl
     c.before.if2.true
-    ∙ sym (after-found found))
+    ∙ sym (after_found found))
 
 read-listed-requires : tie.Need-read-listed-requires
 read-listed-requires c κs = search rules
@@ -109,7 +109,7 @@ returns-4 c =
     ∙ ap
     scenario_form
     (sym
-    (after-found found
+    (after_found found
     ∙ not_refused
     (settings_refusal g)
     tried.settings-refusal.result

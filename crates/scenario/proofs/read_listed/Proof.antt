@@ -13,7 +13,7 @@ use Rattle.scenario.specs.declared.Ending.{Ending}
 use Rattle.scenario.specs.Reading.{Scenario, StationsRead, set_up_bytes, stations_from, station_offset}
 use Rattle.scenario.specs.Reading.{Reading, accepted, read_ending, read_arrivals, read_stations, scenario_form}
 use Rattle.scenario.specs.Parts.{ending_form, ending_at}
-use Rattle.scenario.proofs.ReadingLaws.{few_stations, verdict_about, refused-by, not_refused}
+use Rattle.scenario.proofs.ReadingLaws.{few_stations, verdict_about, refused_by, not_refused}
 use Rattle.scenario.proofs.read_listed.Statement.{statement}
 use Rattle.scenario.proofs.read_listed.Tie as tie
 
@@ -31,10 +31,10 @@ abbrev given : tie.Else1 → Request
 given c = request_of c.before.before.before.before.args.settings c.before.before.read-stations.result.row
 
 -- where the stations are not refused, the set-up and the arrivals decide
-after-stations :
+after_stations :
     (c : tie.Else1)
     → let start = c.before.before.before.before in asked start ≡ read_arrivals (given c) start.args.input.now
-after-stations c =
+after_stations c =
     let read = c.before.before in
     let start = read.before.before in
     not_refused
@@ -61,7 +61,7 @@ after_set_up c =
     let row = set.before in
     let start = row.before.before.before.before.before in
     let r = given row.before in
-    after-stations row.before
+    after_stations row.before
     ∙ not_refused
     (set_up_verdict r).refusal
     set.set_up_call.result.verdict.refusal
@@ -71,11 +71,11 @@ after_set_up c =
     c.if2.false
 
 -- what the ending is
-ending-is :
+ending_is :
     (c : tie.After-read-ending)
     → let start = c.before.before.before.before.before.before.before.before.before.before.before in
     c.read_ending.result ≡ ending_form (ending_at start.args.input.now (station_offset start.args.settings.n))
-ending-is c =
+ending_is c =
     let start = c.before.before.before.before.before.before.before.before.before.before.before in
     c.read_ending.ensures ∙ ap (λ at. ending_form (ending_at start.args.input.now at)) c.before.station-offset2.ensures
 
@@ -101,7 +101,7 @@ returns c =
     c.refused.ensures
     ∙ ap
     scenario_form
-    (refused-by
+    (refused_by
     (stations start).refusal
     read.read-stations.result.refusal
     (stations start).offset
@@ -137,7 +137,7 @@ returns-2 c =
     c.refused2.ensures
     ∙ ap
     scenario_form
-    (refused-by
+    (refused_by
     (set_up_verdict r).refusal
     set.set_up_call.result.verdict.refusal
     (station_offset (set_up_verdict r).station)
@@ -146,7 +146,7 @@ returns-2 c =
     (ap (λ (v : Verdict). v.refusal) (verdict_is set))
     (offset.station-offset.ensures ∙ ap (λ (v : Verdict). station_offset v.station) (verdict_is set))
     offset.before.if2.true
-    ∙ sym (after-stations row.before))
+    ∙ sym (after_stations row.before))
 
 station-offset-requires-2 : tie.Need-station-offset-requires-2
 station-offset-requires-2 c κs =
@@ -169,14 +169,14 @@ returns-3 c =
     c.refused3.ensures
     ∙ ap
     scenario_form
-    (refused-by
+    (refused_by
     x.refusal
     ending.read_ending.result.refusal
     x.offset
     ending.read_ending.result.offset
     (accepted (given row.before) x.arrivals x.steps)
-    (ap (λ (e : Ending). e.refusal) (ending-is ending))
-    (ap (λ (e : Ending). e.offset) (ending-is ending))
+    (ap (λ (e : Ending). e.refusal) (ending_is ending))
+    (ap (λ (e : Ending). e.offset) (ending_is ending))
     c.before.if3.true
     ∙ sym (after_set_up fine))
 
@@ -198,7 +198,7 @@ returns-4 c =
     x.steps
     (ap (λ (s : SetUp). s.state) set.set_up_call.ensures)
     ending.before.station-offset2.ensures
-    (ap (λ (e : Ending). e.steps) (ending-is ending))
+    (ap (λ (e : Ending). e.steps) (ending_is ending))
     ∙ ap
     scenario_form
     (sym
@@ -208,7 +208,7 @@ returns-4 c =
     ending.read_ending.result.refusal
     x.offset
     (accepted r x.arrivals x.steps)
-    (ap (λ (e : Ending). e.refusal) (ending-is ending))
+    (ap (λ (e : Ending). e.refusal) (ending_is ending))
     c.before.if3.false))
 
 pub read_listed_spec : {M : Type 1} → statement M

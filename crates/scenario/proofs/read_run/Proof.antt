@@ -10,7 +10,7 @@ use borrow.Author.Tests.{lt-ltb, le-ltb}
 use Rattle.scenario.specs.declared.Record.TheVariants as Is
 use Rattle.scenario.specs.Format.{Said, said, out_of_place, read_record}
 use Rattle.scenario.specs.Parts.{ending_form}
-use Rattle.scenario.proofs.ReadingLaws.{other-kind, record-within, run-other, run-here}
+use Rattle.scenario.proofs.ReadingLaws.{other_kind, record_within, run_other, run_here}
 use Rattle.scenario.proofs.read_run.Statement.{statement}
 use Rattle.scenario.proofs.read_run.Tie as tie
 
@@ -39,27 +39,27 @@ returns c =
     ∙ sym
     (ap
     ending_form
-    (run-other args.input.now args.at
-    (other-kind 4 (0 ∷ 1 ∷ 2 ∷ 3 ∷ []) found.record-at.result _ found.record-at.ensures refl c.before.match.keys2)))
+    (run_other args.input.now args.at
+    (other_kind 4 (0 ∷ 1 ∷ 2 ∷ 3 ∷ []) found.record-at.result _ found.record-at.ensures refl c.before.match.keys2)))
 
 add-after : tie.Need-overflow-add-after
 add-after c =
     let args = c.before.before.before.before.before.args in
     let kind = ap (λ (x : Said). x.kind) (sym (found_here c.before)) in
-    let h : args.at + 6 ≤ length args.input.now = record-within args.input.now args.at 4 kind (omega arith) in
+    let h : args.at + 6 ≤ length args.input.now = record_within args.input.now args.at 4 kind (omega arith) in
     omega arith
 
 returns-2 : tie.Need-returns-2
 returns-2 c =
     let found = c.before.before in
     let args = found.before.before.before.before.args in
-    sym (ap ending_form (run-here args.input.now args.at _ true (found_here found) (sym (lt-ltb _ _ c.if1.true))))
+    sym (ap ending_form (run_here args.input.now args.at _ true (found_here found) (sym (lt-ltb _ _ c.if1.true))))
 
 returns-3 : tie.Need-returns-3
 returns-3 c =
     let found = c.before.before in
     let args = found.before.before.before.before.args in
-    sym (ap ending_form (run-here args.input.now args.at _ false (found_here found) (sym (le-ltb _ _ c.if1.false))))
+    sym (ap ending_form (run_here args.input.now args.at _ false (found_here found) (sym (le-ltb _ _ c.if1.false))))
 
 pub read_run_spec : {M : Type 1} → statement M
 read_run_spec =

@@ -10,7 +10,7 @@ use borrow.Author.Rules.{rules}
 use Rattle.state.specs.SetUp.{request_with}
 use Rattle.scenario.specs.Format.{said, out_of_place, read_record}
 use Rattle.scenario.specs.Reading.{StationsRead, set_up_bytes, station_offset, stations_from}
-use Rattle.scenario.proofs.ReadingLaws.{other-kind, stations_after, station-turn, station-other, stations-end}
+use Rattle.scenario.proofs.ReadingLaws.{other_kind, stations_after, station_turn, station_other, stations_end}
 use Rattle.scenario.proofs.read_stations.Statement.{statement}
 use Rattle.scenario.proofs.read_stations.Tie as tie
 
@@ -54,8 +54,8 @@ returns c =
     let start = at.before.before in
     let all =
     at.loop.invariant.2
-    ∙ station-other start.args.input.now at.loop.stations start.args.n at.loop.i found.before.before.loop-test.true
-    (other-kind 2 (0 ∷ 1 ∷ 3 ∷ 4 ∷ []) found.record-at.result _ (found_here found) refl c.before.match.keys2) in (
+    ∙ station_other start.args.input.now at.loop.stations start.args.n at.loop.i found.before.before.loop-test.true
+    (other_kind 2 (0 ∷ 1 ∷ 3 ∷ 4 ∷ []) found.record-at.result _ (found_here found) refl c.before.match.keys2) in (
       c.out-of-place.ensures ∙ ap out_of_place (found_here found) ∙ ap (λ (x : StationsRead). x.refusal) (sym all),
       (
         found.before.station-offset.ensures ∙ ap (λ (x : StationsRead). x.offset) (sym all),
@@ -84,7 +84,7 @@ loop-again c =
       search rules,
       length-set at.loop.stations at.loop.i s ∙ at.loop.invariant.1,
       at.loop.invariant.2
-          ∙ station-turn start.args.input.now at.loop.stations start.args.n at.loop.i s (omega arith) (omega arith)
+          ∙ station_turn start.args.input.now at.loop.stations start.args.n at.loop.i s (omega arith) (omega arith)
           (ap said (sym c.before.found.given.1) ∙ found_here found),
     )
 
@@ -94,7 +94,7 @@ returns-2 c =
     let start = at.before.before in
     let all =
     at.loop.invariant.2
-    ∙ stations-end start.args.input.now at.loop.stations start.args.n at.loop.i at.loop.invariant.0 c.loop-test.false in (
+    ∙ stations_end start.args.input.now at.loop.stations start.args.n at.loop.i at.loop.invariant.0 c.loop-test.false in (
       ap (λ (x : StationsRead). x.refusal) (sym all),
       (
         ap (λ (x : StationsRead). x.offset) (sym all),

@@ -4,7 +4,7 @@ use native.Mathlib.Omega.{arith}
 use borrow.Author.Rules.{rules}
 use lib.ListN.{length}
 use Rattle.sheet.proofs.Refusals.{drawn_many}
-use Rattle.sheet.proofs.Loops.{drawn_24, drawn-sheet}
+use Rattle.sheet.proofs.Loops.{drawn_24, drawn_sheet}
 use Rattle.sheet.proofs.draw.Statement.{statement}
 use Rattle.sheet.proofs.draw.Tie as tie
 
@@ -44,7 +44,7 @@ returns-3 c =
     let found = highest.before.before in
     let args = found.before.before.args in
     let full : length args.runs ≡ 256 = search rules in
-    drawn-sheet
+    drawn_sheet
     args.runs
     args.count
     (omega arith)

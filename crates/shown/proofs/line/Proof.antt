@@ -6,9 +6,9 @@ use lib.ListN.{length, drop}
 use borrow.Author.Rules.{rules}
 use Rattle.scenario.specs.declared.Record.{Record}
 use Rattle.scenario.specs.Format.{Said, said, read_record}
-use Rattle.scenario.proofs.ReadingLaws.{size_of, record-within}
+use Rattle.scenario.proofs.ReadingLaws.{size_of, record_within}
 use Rattle.text.proofs.Stores.{told_none}
-use Rattle.shown.proofs.Storing.{line-said}
+use Rattle.shown.proofs.Storing.{line_said}
 use Rattle.shown.proofs.line.Statement.{statement}
 use Rattle.shown.proofs.line.Tie as tie
 
@@ -24,7 +24,7 @@ within :
     → let args = c.before.before.args in args.at + size_of k ≤ length args.input.now
 within c k e kind some! =
     let args = c.before.before.args in
-    record-within args.input.now args.at k (ap (λ (x : Said). x.kind) (sym (here c e)) ∙ kind) some!
+    record_within args.input.now args.at k (ap (λ (x : Said). x.kind) (sym (here c e)) ∙ kind) some!
 
 record-at-requires : tie.Need-record-at-requires
 record-at-requires c κs = search rules
@@ -78,31 +78,31 @@ returns : tie.Need-returns
 returns c =
     let at = c.before.before in
     let args = at.before.before.args in
-    line-said args.settings args.at (here at c.enum_told.given.1) (record { next = refl; told = told_none _ _ _ })
+    line_said args.settings args.at (here at c.enum_told.given.1) (record { next = refl; told = told_none _ _ _ })
 
 returns-2 : tie.Need-returns-2
 returns-2 c =
     let found = c.before.before.before in
     let args = found.before.before.before.before.args in
-    line-said args.settings args.at (here found.before.before found.found.given.1) (record { next = refl; told = c.bus.ensures })
+    line_said args.settings args.at (here found.before.before found.found.given.1) (record { next = refl; told = c.bus.ensures })
 
 returns-3 : tie.Need-returns-3
 returns-3 c =
     let found = c.before.before.before in
     let args = found.before.before.before.before.args in
-    line-said args.settings args.at (here found.before.before found.found2.given.1) (record { next = refl; told = c.station.ensures })
+    line_said args.settings args.at (here found.before.before found.found2.given.1) (record { next = refl; told = c.station.ensures })
 
 returns-4 : tie.Need-returns-4
 returns-4 c =
     let found = c.before.before.before in
     let args = found.before.before.before.before.args in
-    line-said args.settings args.at (here found.before.before found.found3.given.1) (record { next = refl; told = c.arrival.ensures })
+    line_said args.settings args.at (here found.before.before found.found3.given.1) (record { next = refl; told = c.arrival.ensures })
 
 returns-5 : tie.Need-returns-5
 returns-5 c =
     let found = c.before.before.before in
     let args = found.before.before.before.before.args in
-    line-said args.settings args.at (here found.before.before found.found4.given.1) (record { next = refl; told = c.run.ensures })
+    line_said args.settings args.at (here found.before.before found.found4.given.1) (record { next = refl; told = c.run.ensures })
 
 pub line_spec : {M : Type 1} → statement M
 line_spec =

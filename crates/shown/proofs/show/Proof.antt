@@ -3,8 +3,8 @@ use mathlib.Core.Path.{refl, sym, ap, ◌∙◌}
 use mathlib.Core.List.{[], ◌∷◌}
 use borrow.Author.Rules.{rules}
 use Rattle.scenario.specs.Format.{said}
-use Rattle.scenario.proofs.ReadingLaws.{other-kind}
-use Rattle.shown.proofs.Storing.{first-other, first-set-up, line-shown}
+use Rattle.scenario.proofs.ReadingLaws.{other_kind}
+use Rattle.shown.proofs.Storing.{first_other, first_set_up, line_shown}
 use Rattle.shown.proofs.show.Statement.{statement}
 use Rattle.shown.proofs.show.Tie as tie
 
@@ -18,9 +18,9 @@ returns : tie.Need-returns
 returns c =
     let first = c.before in
     let args = first.before.before.args in
-    line-shown
-    (first-other args.input.now args.room.now args.at
-    (other-kind 1 (0 ∷ 2 ∷ 3 ∷ 4 ∷ []) first.record-at.result _ first.record-at.ensures refl c.match.keys2))
+    line_shown
+    (first_other args.input.now args.room.now args.at
+    (other_kind 1 (0 ∷ 2 ∷ 3 ∷ 4 ∷ []) first.record-at.result _ first.record-at.ensures refl c.match.keys2))
 
 line-requires : tie.Need-line-requires
 line-requires c κs = search rules
@@ -29,8 +29,8 @@ returns-2 : tie.Need-returns-2
 returns-2 c =
     let first = c.before.before.before in
     let args = first.before.before.before.before.args in
-    line-shown
-    (first-set-up args.input.now args.at first.first.given.0.0 (ap said (sym first.first.given.1) ∙ first.before.before.record-at.ensures)
+    line_shown
+    (first_set_up args.input.now args.at first.first.given.0.0 (ap said (sym first.first.given.1) ∙ first.before.before.record-at.ensures)
     c.line.ensures)
 
 pub show_spec : {M : Type 1} → statement M

@@ -7,7 +7,7 @@ use borrow.Author.Tests.{eq-eqb, ne_eqb}
 use Rattle.rules.specs.declared.Verdict.{Verdict}
 use Rattle.state.specs.SetUp.{asked_of, request_of}
 use Rattle.state.specs.Parts.{fresh_state}
-use Rattle.state.proofs.SettingUp.{set-up-answer, set_up_pass, fresh-form}
+use Rattle.state.proofs.SettingUp.{set_up_answer, set_up_pass, fresh_form}
 use borrow.Author.Rules.{rules}
 use Rattle.state.proofs.set_up.Statement.{statement}
 use Rattle.state.proofs.set_up.Tie as tie
@@ -22,7 +22,7 @@ returns : tie.Need-returns
 returns c =
     let one = c.before in
     let start = one.before.before.before.before in
-    set-up-answer
+    set_up_answer
     (request_of start.args.settings start.args.row)
     _
     _
@@ -51,7 +51,7 @@ returns-2 c =
     let g = start.args.settings in
     let row = start.args.row in
     let e = one.before.before.verdict.ensures in
-    set-up-answer
+    set_up_answer
     (request_of g row)
     _
     _
@@ -61,7 +61,7 @@ returns-2 c =
     (c.fresh.ensures
     ∙ ap (fresh_state g) c.before.up_to.ensures
     ∙ sym
-    (fresh-form
+    (fresh_form
     g
     row.stations
     row.length

@@ -7,7 +7,7 @@ use borrow.Author.Rules.{rules}
 use lib.ListN.{length, take}
 use lib.Seq.{sets, take-suc, take-length, length-take-le}
 use Rattle.text.specs.Parts.{roomy}
-use Rattle.text.proofs.Stores.{sets-after, answer-not, answer-fits, has_room}
+use Rattle.text.proofs.Stores.{sets_after, answer_not, answer_fits, has_room}
 use Rattle.text.proofs.letters.Statement.{statement}
 use Rattle.text.proofs.letters.Tie as tie
 
@@ -23,7 +23,7 @@ has-room-requires c κs = search rules
 returns : tie.Need-returns invariant-loop decreases-loop
 returns c =
     let args = c.before.before.before.args in
-    answer-not args.room.now args.at args.word.now (length args.word.now) refl c.before.has_room.ensures c.if1.true
+    answer_not args.room.now args.at args.word.now (length args.word.now) refl c.before.has_room.ensures c.if1.true
 
 loop-holds : tie.Need-loop-init invariant-loop decreases-loop
 loop-holds c =
@@ -53,7 +53,7 @@ loop-again c =
     let one = ap (λ k. take k word) (add-one turn.i) ∙ take-suc word turn.i 0 (omega arith) in (
       turn.invariant.0,
       search rules,
-      sets-after args.room.now turn.room (take turn.i word) args.at turn.i _ (length-take-le turn.i word turn.invariant.1) turn.invariant.2
+      sets_after args.room.now turn.room (take turn.i word) args.at turn.i _ (length-take-le turn.i word turn.invariant.1) turn.invariant.2
           ∙ ap (sets args.room.now args.at) (sym one),
     )
 
@@ -66,7 +66,7 @@ returns-2 c =
     let args = c.before.before.before.before.before.args in
     let word = args.word.now in
     let all : turn.i ≡ length word = omega arith in
-    answer-fits args.room.now args.at word turn.invariant.0 (omega arith) (rw (all, take-length word) at turn.invariant.2)
+    answer_fits args.room.now args.at word turn.invariant.0 (omega arith) (rw (all, take-length word) at turn.invariant.2)
 
 pub letters_spec : {M : Type 1} → statement M
 letters_spec =

@@ -10,7 +10,7 @@ use lib.Seq.{sets}
 use Rattle.text.specs.Text.{digit, decimal}
 use Rattle.text.specs.Parts.{roomy}
 use Rattle.text.proofs.Decimals.{digits, digits_last, decimal_places}
-use Rattle.text.proofs.Stores.{sets_before, answer-not, answer-fits, has_room}
+use Rattle.text.proofs.Stores.{sets_before, answer_not, answer_fits, has_room}
 use Rattle.text.proofs.number.Statement.{statement}
 use Rattle.text.proofs.number.Tie as tie
 
@@ -64,7 +64,7 @@ returns : tie.Need-returns invariant-loop decreases-loop
 returns c =
     let size = c.before.before in
     let args = size.before.args in
-    answer-not
+    answer_not
     args.room.now
     args.at
     (decimal args.n)
@@ -125,7 +125,7 @@ returns-2 c =
     let size = c.before.before.before.before in
     let args = size.before.args in
     let none : turn.k ≡ 0 = omega arith in
-    answer-fits
+    answer_fits
     args.room.now
     args.at
     (decimal args.n)

@@ -7,7 +7,7 @@ use lib.ListN.{replicate, length-replicate, replicate-append-replicate}
 use lib.Seq.{sets}
 use Rattle.text.specs.Text.{space}
 use Rattle.text.specs.Parts.{roomy}
-use Rattle.text.proofs.Stores.{sets-after, answer-not, answer-fits, has_room}
+use Rattle.text.proofs.Stores.{sets_after, answer_not, answer_fits, has_room}
 use Rattle.text.proofs.spaces.Statement.{statement}
 use Rattle.text.proofs.spaces.Tie as tie
 
@@ -24,7 +24,7 @@ returns : tie.Need-returns invariant-loop decreases-loop
 returns c =
     let args = c.before.before.args in
     let count = args.count in
-    answer-not
+    answer_not
     args.room.now
     args.at
     (replicate count space)
@@ -57,7 +57,7 @@ loop-again c =
     let n = turn.written in (
       turn.invariant.0,
       search rules,
-      sets-after args.room.now turn.room (replicate n space) args.at n space (length-replicate n space) turn.invariant.2
+      sets_after args.room.now turn.room (replicate n space) args.at n space (length-replicate n space) turn.invariant.2
           ∙ ap (sets args.room.now args.at) (replicate-append-replicate n 1 space),
     )
 
@@ -70,7 +70,7 @@ returns-2 c =
     let args = c.before.before.before.before.args in
     let all : turn.written ≡ args.count = omega arith in
     let long = length-replicate args.count space in
-    answer-fits
+    answer_fits
     args.room.now
     args.at
     (replicate args.count space)

@@ -1,7 +1,7 @@
 -- `beginning::contender_for` meets its contract: by whether a packet is chosen, and whether the station sits out. Assumes nothing.
 use borrow.Author.Rules.{rules}
 use borrow.Author.Tests.{not-true, not-false}
-use Rattle.bus.proofs.BeginningLaws.{contender-on}
+use Rattle.bus.proofs.BeginningLaws.{contender_still_on}
 use Rattle.bus.proofs.beginning.contender_for.Statement.{statement}
 use Rattle.bus.proofs.beginning.contender_for.Tie as tie
 
@@ -11,7 +11,7 @@ chosen-requires c κs = search rules
 returns : tie.Need-returns
 returns c =
     let chosen = c.before.before.chosen in
-    rw (contender-on, ← chosen.ensures, not-true chosen.result.found c.if1.true)
+    rw (contender_still_on, ← chosen.ensures, not-true chosen.result.found c.if1.true)
 
 parameter-requires : tie.Need-parameter-requires
 parameter-requires c κs = search rules
@@ -21,7 +21,7 @@ returns-2 c =
     let start = c.before.before.before.before.before in
     let chosen = c.before.before.before.before.chosen in
     let found = not-false chosen.result.found c.before.before.if1.false in
-    rw (contender-on, ← chosen.ensures, found, start.requires.1.1.1, ← c.parameter.ensures)
+    rw (contender_still_on, ← chosen.ensures, found, start.requires.1.1.1, ← c.parameter.ensures)
 
 pub contender_for_spec : {M : Type 1} → statement M
 contender_for_spec =

@@ -13,8 +13,8 @@ use Rattle.bus.specs.Types.{Segment}
 use Rattle.bus.specs.Parts.{segment_counting}
 use Rattle.state.specs.State.{Recorded, nobody, places_at, queue_at}
 use Rattle.state.proofs.Contenders.{none_recorded}
-use Rattle.state.proofs.Places.{queues_arrays, places_count, taken-one, taken-all}
-use Rattle.bus.proofs.BeginningLaws.{nothing-offered, place_for, places_to, places_none, places_more, places_same, offered-contends}
+use Rattle.state.proofs.Places.{queues_arrays, places_count, taken_one, taken_all}
+use Rattle.bus.proofs.BeginningLaws.{nothing_offered, place_for, places_to, places_none, places_more, places_same, offered_contends}
 use Rattle.bus.proofs.beginning.offers_of.Statement.{statement}
 use Rattle.bus.proofs.beginning.offers_of.Tie as tie
 
@@ -66,7 +66,7 @@ loop-again c =
     let start = at.before.before.before.before in
     let g = start.args.g in
     let qs = start.args.t2 in
-    let still = nothing-offered g qs at.loop.i (sym c.before.offers-nothing.ensures ∙ c.if1.true) in
+    let still = nothing_offered g qs at.loop.i (sym c.before.offers-nothing.ensures ∙ c.if1.true) in
     (omega arith, at.loop.invariant.1 ∙ ap (offering_with g) (places_same (place_for g qs) at.loop.i still))
 
 mul-first : tie.Need-overflow-mul-first invariant-loop2 decreases-loop2 invariant-loop decreases-loop
@@ -103,7 +103,7 @@ loop2-again c =
     let start = at.before.before.before.before in
     let qs = start.args.t2 in
     let row = (queues_arrays qs _ start.well-formed.1.0).1 in
-    (search rules, taken-one qs at.loop.i turn.loop2.j (omega arith) row (omega arith) turn.loop2.invariant.1)
+    (search rules, taken_one qs at.loop.i turn.loop2.j (omega arith) row (omega arith) turn.loop2.invariant.1)
 
 contender-for-requires : tie.Need-contender-for-requires invariant-loop2 decreases-loop2 invariant-loop decreases-loop
 contender-for-requires c κs =
@@ -164,12 +164,12 @@ loop-again-2 c =
     let i = at.loop.i in
     let here : i < 64 = omega (arith, start.requires.0) in
     let row = (queues_arrays qs _ start.well-formed.1.0).1 in
-    let all = taken-all qs i inner.loop2.j (omega arith) row (omega arith) inner.loop2.invariant.1 in
+    let all = taken_all qs i inner.loop2.j (omega arith) row (omega arith) inner.loop2.invariant.1 in
     let none = eqb (get_or qs.lengths i 0) 0 in
     let told = or-false none _ (sym tested.before.offers-nothing.ensures ∙ tested.if1.false) in
     let waits = eqb-false (get_or qs.lengths i 0) 0 told.0 in
     let held = length-take-le (get_or qs.lengths i 0) (places_at qs i) (omega (arith, places_count qs i here row, start.requires.1.0 i (omega arith))) in
-    let contends = offered-contends g.settings g.clock g.round (get_or g.listed i nobody) (queue_at qs i) (λ e. waits (sym held ∙ e)) told.1 in
+    let contends = offered_contends g.settings g.clock g.round (get_or g.listed i nobody) (queue_at qs i) (λ e. waits (sym held ∙ e)) told.1 in
     (omega arith, rw (c.set.ensures, at.loop.invariant.1, c.before.before.before.contender-for.ensures, all) (ap (offering_with g) (places_more (place_for g qs) i here contends)))
 
 returns : tie.Need-returns invariant-loop2 decreases-loop2 invariant-loop decreases-loop

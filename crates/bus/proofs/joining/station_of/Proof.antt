@@ -12,7 +12,7 @@ use borrow.Author.Rules.{rules}
 use Rattle.bus.specs.Types.{Address, Listed}
 use Rattle.state.specs.State.{nobody}
 use Rattle.bus.specs.Parts.{first_place}
-use Rattle.bus.proofs.FirstPlace.{first-place-turn, first_place_end}
+use Rattle.bus.proofs.FirstPlace.{first_place_turn, first_place_end}
 use Rattle.bus.proofs.joining.station_of.Statement.{statement}
 use Rattle.bus.proofs.joining.station_of.Tie as tie
 
@@ -48,7 +48,7 @@ returns c =
     let test = has_it start.args.address start.args.t1 in
     sym
     (at.loop.invariant.1
-    ∙ first-place-turn test i n (omega arith)
+    ∙ first_place_turn test i n (omega arith)
     ∙ ap (λ t. cond t i (first_place test (suc i) (n - suc i))) (sym c.before.same_address.ensures ∙ c.if1.true))
 
 add-i : tie.Need-overflow-add-i invariant-loop decreases-loop
@@ -66,7 +66,7 @@ loop-again c =
     let test = has_it start.args.address start.args.t1 in (
       search rules,
       at.loop.invariant.1
-          ∙ first-place-turn test i n (omega arith)
+          ∙ first_place_turn test i n (omega arith)
           ∙ ap (λ t. cond t i (first_place test (suc i) (n - suc i))) (sym c.before.same_address.ensures ∙ c.if1.false)
           ∙ ap (λ k. first_place test k (n - k)) (sym (add-one i)),
     )

@@ -27,13 +27,13 @@ use Rattle.state.proofs.Places.{queues_arrays}
 use Rattle.state.proofs.Tested.{denied, granted}
 use Rattle.state.proofs.Stands.{Lent, lent, few_packets}
 use Rattle.state.proofs.StandingParts.{state_held}
-use Rattle.bus.proofs.ClosingUp.{ClosedUp, closed_none, closed_leaves, closed-stays, closed_all}
+use Rattle.bus.proofs.ClosingUp.{ClosedUp, closed_none, closed_leaves, closed_stays, closed_all}
 use Rattle.bus.proofs.Admitting.{joined_at}
-use Rattle.bus.proofs.BeginningLaws.{all_formed, room_left, late-counted, lost_counted}
-use Rattle.bus.proofs.OffersInPlace.{offering_to, InTimeTo, Best, offering_none, in_time_none, none_leaves, offering_same, in_time_same, offering-more, in-time-offered, best_first, best_better, best_stays, best_offered, looked_some}
+use Rattle.bus.proofs.BeginningLaws.{all_formed, room_left, late_counted, lost_counted}
+use Rattle.bus.proofs.OffersInPlace.{offering_to, InTimeTo, Best, offering_none, in_time_none, none_leaves, offering_same, in_time_same, offering_more, in_time_offered, best_first, best_better, best_stays, best_offered, looked_some}
 use Rattle.bus.proofs.HeardLaws.{sole_short, sole_counted, lowest_there, counted!, sole_taken, sole_left}
 use Rattle.bus.proofs.Stretched.{on, at_last, arrivals_array, row_few, row_full}
-use Rattle.bus.proofs.InPlace.{whole, Sound, sound_of, Taken, asked-away, asked_in, step-away, step-on, Opened, was_open, opened-as, begun-open, offered-open, still_on, ends-unheard, winner_in, ends-won, Going, at_outset, with-arrival, with-step}
+use Rattle.bus.proofs.InPlace.{whole, Sound, sound_of, Taken, asked_away, asked_in, step_away, step_on, Opened, was_open, opened_as, begun_open, offered_open, still_on, ends_unheard, winner_in, ends_won, Going, at_outset, with_one_arrival, with_step}
 use Rattle.bus.proofs.playing.calls.Statement.{statement}
 use Rattle.bus.proofs.playing.calls.Tie as tie
 use Rattle.bus.proofs.QueueLaws.{with_queue}
@@ -98,7 +98,7 @@ module _ (t : tie.Then1 invariant-loop3 decreases-loop3 invariant-loop2 decrease
   turned = on at-loop.loop.made at-loop.loop.taken at-loop.loop.left (sym t.before.goes_on.ensures ∙ t.if1.taken)
 
   -- a call is made
-  by-arrival :
+  by_arrival :
       (ltb at-loop.loop.taken x.length && due s.segment.clock.0 a) ≡ true → (admission : Admission)
       → admission ≡ admission_result (coded_admit s (asks a)) → (r : Report) → r ≡ arrival_report s a admission.answer
       → Going start.args.stands start.args.s x start.args.steps admission.state.segment admission.state.queues
@@ -106,8 +106,8 @@ module _ (t : tie.Then1 invariant-loop3 decreases-loop3 invariant-loop2 decrease
       (at-loop.loop.made + 1)
       (at-loop.loop.taken + 1)
       at-loop.loop.left
-  by-arrival =
-      with-arrival start.args.stands x (arrivals_array x _ start.good.1.1.0) start.args.s start.args.steps at-loop.loop.g
+  by_arrival =
+      with_one_arrival start.args.stands x (arrivals_array x _ start.good.1.1.0) start.args.s start.args.steps at-loop.loop.g
       at-loop.loop.queues at-loop.loop.reports at-loop.loop.made at-loop.loop.taken at-loop.loop.left at-loop.loop.inv.0 turned.0 turned.1 turned.2
 
   by_step :
@@ -119,7 +119,7 @@ module _ (t : tie.Then1 invariant-loop3 decreases-loop3 invariant-loop2 decrease
       at-loop.loop.taken
       (at-loop.loop.left - 1)
   by_step =
-      with-step start.args.stands x (arrivals_array x _ start.good.1.1.0) start.args.s start.args.steps at-loop.loop.g
+      with_step start.args.stands x (arrivals_array x _ start.good.1.1.0) start.args.s start.args.steps at-loop.loop.g
       at-loop.loop.queues at-loop.loop.reports at-loop.loop.made at-loop.loop.taken at-loop.loop.left at-loop.loop.inv.0 turned.0 turned.1 turned.2
 
 addresses-of-requires : tie.Need-addresses-of-requires invariant-loop3 decreases-loop3 invariant-loop2 decreases-loop2 invariant-loop4 decreases-loop4 invariant-loop decreases-loop
@@ -185,8 +185,8 @@ loop-again : tie.Need-loop-preserved invariant-loop3 decreases-loop3 invariant-l
 loop-again c =
     let told = c.before.before.before.before.before in
     let t = the-turn told in (
-      by-arrival t (came_due told) (record { answer = told.asked.result.answer; state = state_turned (s t) c.turned-after.result })
-          (asked-away (s t) (a t).address (a t).value (a t).length (start t).args.stands (sound! t) told.asked.result told.asked.ensures c.before.if3.true
+      by_arrival t (came_due told) (record { answer = told.asked.result.answer; state = state_turned (s t) c.turned-after.result })
+          (asked_away (s t) (a t).address (a t).value (a t).length (start t).args.stands (sound! t) told.asked.result told.asked.ensures c.before.if3.true
           c.turned-after.result
           c.turned-after.ensures)
           c.before.before.before.of-arrival.result
@@ -242,7 +242,7 @@ loop-again-2 c =
     let told = c.before.before.before.before.before in
     let t = the-turn told in
     let o = told.asked.result in (
-      by-arrival t (came_due told) (record { answer = o.answer; state = joined_at (s t) o.place o.answer.number (a t).value (a t).length }) (taken! c.before).is
+      by_arrival t (came_due told) (record { answer = o.answer; state = joined_at (s t) o.place o.answer.number (a t).value (a t).length }) (taken! c.before).is
           c.before.before.before.of-arrival.result
           c.before.before.before.of-arrival.ensures,
       (at-loop t).loop.inv.1,
@@ -280,7 +280,7 @@ loop-again-3 c =
     let t = c.before.before.before.before.before.before.before.before.before in (
       by_step t (sym tested.before.before.is-due.ensures ∙ tested.before.if2.false) (record { answer = c.before.refused.result; state = s t })
           (ap (λ (answer : Answer). record { answer = answer; state = s t }) c.before.refused.ensures
-          ∙ step-away (start t).args.stands (s t) (sound! t) tested.step-refusal.result tested.step-refusal.ensures c.before.before.if4.true)
+          ∙ step_away (start t).args.stands (s t) (sound! t) tested.step-refusal.result tested.step-refusal.ensures c.before.before.if4.true)
           c.of_step.result
           c.of_step.ensures,
       (at-loop t).loop.invariant.1,
@@ -295,7 +295,7 @@ module _ (c : tie.Else4 invariant-loop3 decreases-loop3 invariant-loop2 decrease
   found = s its-turn
 
   ready : (Lent found) × (ltb last_slot found.segment.clock.0 ≡ false)
-  ready = step-on (start its-turn).args.stands found (sound! its-turn) c.before.step-refusal.result c.before.step-refusal.ensures c.if4.false
+  ready = step_on (start its-turn).args.stands found (sound! its-turn) c.before.step-refusal.result c.before.step-refusal.ensures c.if4.false
 
 -- ---- a contention begins: each station's offer is recorded
 
@@ -405,23 +405,23 @@ loop3-holds : tie.Need-loop3-init invariant-loop3 decreases-loop3 invariant-loop
 loop3-holds c =
     let on = c.before.before.before in
     let told = asked_of on in
-    best_first (st told) (lent_now on) (i told) (here! told) (offers! on) c.before.before.looked-at.result c.before.before.looked-at.ensures c.rank.ensures
+    best_first (st told) (lent_now on) (i told) (here! told) (offers! on) c.before.before.looked_at.result c.before.before.looked_at.ensures c.rank.ensures
 
 -- no more packets are looked at than there are
-looked-few :
+looked_few :
     (c : tie.After-looked-at invariant-loop3 decreases-loop3 invariant-loop2 decreases-loop2 invariant-loop4 decreases-loop4 invariant-loop decreases-loop)
-    → c.looked-at.result ≤ get_or (st (asked_of c.before)).queues.lengths (i (asked_of c.before)) 0
-looked-few c =
+    → c.looked_at.result ≤ get_or (st (asked_of c.before)).queues.lengths (i (asked_of c.before)) 0
+looked_few c =
     let on = c.before in
     let told = asked_of on in
-    (looked_some (st told) (lent_now on) (i told) (here! told) (offers! on) c.looked-at.result c.looked-at.ensures).1
+    (looked_some (st told) (lent_now on) (i told) (here! told) (offers! on) c.looked_at.result c.looked_at.ensures).1
 
 add-at-2 : tie.Need-overflow-add-at-2 invariant-loop3 decreases-loop3 invariant-loop2 decreases-loop2 invariant-loop4 decreases-loop4 invariant-loop decreases-loop
 add-at-2 c =
     let on = c.before.before.before.before.before in
     let h = within_row! on in
     let m = room! on in
-    let k = looked-few c.before.before.before.before in
+    let k = looked_few c.before.before.before.before in
     search rules
 
 mul-rank-2 : tie.Need-overflow-mul-rank-2 invariant-loop3 decreases-loop3 invariant-loop2 decreases-loop2 invariant-loop4 decreases-loop4 invariant-loop decreases-loop
@@ -429,7 +429,7 @@ mul-rank-2 c =
     let on = c.before.before.before.before.before in
     let h = within_row! on in
     let m = room! on in
-    let k = looked-few c.before.before.before.before in
+    let k = looked_few c.before.before.before.before in
     search rules
 
 element-copy-out-rank-2 : tie.Need-element-copy-out-rank-2 invariant-loop3 decreases-loop3 invariant-loop2 decreases-loop2 invariant-loop4 decreases-loop4 invariant-loop decreases-loop
@@ -437,7 +437,7 @@ element-copy-out-rank-2 c =
     let on = c.before.before.before.before.before in
     let h = within_row! on in
     let m = room! on in
-    let k = looked-few c.before.before.before.before in
+    let k = looked_few c.before.before.before.before in
     search rules
 
 rank-requires-2 : tie.Need-rank-requires-2 invariant-loop3 decreases-loop3 invariant-loop2 decreases-loop2 invariant-loop4 decreases-loop4 invariant-loop decreases-loop
@@ -448,7 +448,7 @@ add-j c =
     let on = c.before.before.before.before.before.before.before.before in
     let h = within_row! on in
     let m = room! on in
-    let k = looked-few c.before.before.before.before.before.before.before in
+    let k = looked_few c.before.before.before.before.before.before.before in
     search rules
 
 loop3-less : tie.Need-loop3-smaller invariant-loop3 decreases-loop3 invariant-loop2 decreases-loop2 invariant-loop4 decreases-loop4 invariant-loop decreases-loop
@@ -459,7 +459,7 @@ loop3-again c =
     let on = c.before.before.before.before.before.before.before.before in
     let told = asked_of on in
     let at = c.before.before.before.before.loop3 in
-    let la = c.before.before.before.before.before.before.before.looked-at in
+    let la = c.before.before.before.before.before.before.before.looked_at in
     let more = c.before.before.before.loop3-test.true in
     let rank = c.before.rank2 in
     let discipline = (st told).segment.settings.discipline in
@@ -546,17 +546,17 @@ loop2-again-2 c =
     let s = st told in
     let k = i told in
     let at = c.before.before.before.before.before.before.loop3 in
-    let la = c.before.before.before.before.before.before.before.before.before.looked-at in
+    let la = c.before.before.before.before.before.before.before.before.before.looked_at in
     let p = get_or s.queues.packets at.place no_packet in
     let done = c.before.before.before.before.before.loop3-test.false in
     let offered = best_offered s r k (here! told) (offers! on) la.result la.ensures at.place at.least at.j at.invariant (omega arith) in
     let flag = c.before.before.late-offered.ensures in (
       omega (arith, here! told),
       rw (c.before.set.ensures, c.parameter.ensures, (stations told).loop2.inv.1)
-          (offering-more s r k (here! told) (offers! on) p offered),
+          (offering_more s r k (here! told) (offers! on) p offered),
       λ e.
           let both = or-false (stations told).loop2.late (late (meaning s).discipline s.segment.clock.0 p.value) (sym flag ∙ e) in
-          in-time-offered s r k (here! told) (offers! on) p offered both.1 ((stations told).loop2.inv.2 both.0),
+          in_time_offered s r k (here! told) (offers! on) p offered both.1 ((stations told).loop2.inv.2 both.0),
     )
 
 -- ---- a packet is late: late ones leave, and the offers are made anew
@@ -575,7 +575,7 @@ module _ (c : tie.After-without invariant-loop3 decreases-loop3 invariant-loop2 
   fewer :
       waiting_in (found began).queues.lengths (found began).segment.settings.n
       ≡ waiting_in c.without.result.lengths (found began).segment.settings.n + drops_of (meaning (found began))
-  fewer = late-counted (found began) (ready began).0 c.without.result c.without.ensures (queues_arrays c.without.result _ c.without.type-inv).0
+  fewer = late_counted (found began) (ready began).0 c.without.result c.without.ensures (queues_arrays c.without.result _ c.without.type-inv).0
 
 dropped-requires : tie.Need-dropped-requires invariant-loop3 decreases-loop3 invariant-loop2 decreases-loop2 invariant-loop4 decreases-loop4 invariant-loop decreases-loop
 dropped-requires c κs = omega (arith, fewer c.before)
@@ -612,10 +612,10 @@ module _ (c : tie.Joined5 invariant-loop3 decreases-loop3 invariant-loop2 decrea
       ⊎_elim
       (λ w.
       let n = queues_arrays w.6.result _ w.6.ok in
-      let counted = late-counted s r w.6.result w.6.ensures n.0 in
+      let counted = late_counted s r w.6.result w.6.ensures n.0 in
       let drops! : w.8.result ≡ drops_of (meaning s) = omega (arith, w.8.ensures) in
-      opened-as w.10 w.11 w.12
-      (begun-open s r (denied refl w.0.taken) w.6.result w.6.ensures n.0 n.1 w.8.result drops! w.9.result
+      opened_as w.10 w.11 w.12
+      (begun_open s r (denied refl w.0.taken) w.6.result w.6.ensures n.0 n.1 w.8.result drops! w.9.result
       (w.9.ensures ∙ ap (λ (g : Segment). begun_with g w.6.result w.8.result) w.2.inv.1)))
       (λ v.
       ⊎_elim
@@ -623,11 +623,11 @@ module _ (c : tie.Joined5 invariant-loop3 decreases-loop3 invariant-loop2 decrea
       let all : w.2.i ≡ s.segment.settings.n = omega (arith, w.2.inv.0, w.3.left) in
       let on_time = subst (InTimeTo s) all (w.2.inv.2 w.4.left) in
       let g! = w.2.inv.1 ∙ ap (offering_to s) all in
-      opened-as w.6 w.7 w.8
-      (offered-open s r (denied refl w.0.taken) (none_leaves s r on_time) _
+      opened_as w.6 w.7 w.8
+      (offered_open s r (denied refl w.0.taken) (none_leaves s r on_time) _
       (ap₂ (λ (k : Contention) (g : Segment). segment_counting g g.admitted g.lost k (recorded_in g)) w.5.ensures g!
       ∙ ap (λ (m : ℕ). segment_counting s.segment s.segment.admitted m (opening_of s.segment.settings.d) (recorded_in (offering_to s s.segment.settings.n))) (sym (add-zero s.segment.lost)))))
-      (λ w. opened-as w.1 w.2 w.3 (was_open s r (granted refl w.0.left)))
+      (λ w. opened_as w.1 w.2 w.3 (was_open s r (granted refl w.0.left)))
       v)
       c.if5.branch
 
@@ -817,7 +817,7 @@ module _ (c : tie.After-moved invariant-loop3 decreases-loop3 invariant-loop2 de
       c.moved.result.answer.ended ≡ true → ¬ (c.moved.result.answer.event ≡ success)
       → probed_as zeroed opening-now.if5.queues ≡ step_result (coded_step (s turn-of))
   idle! =
-      ends-unheard (s turn-of) lent! on_time (probing counted) opening-now.if5.queues opening-now.if5.drops (now_opened opening-now) winner (sole! c.before) c.moved.result moved!
+      ends_unheard (s turn-of) lent! on_time (probing counted) opening-now.if5.queues opening-now.if5.drops (now_opened opening-now) winner (sole! c.before) c.moved.result moved!
 
   won! :
       c.moved.result.answer.ended ≡ true → c.moved.result.answer.event ≡ success → (rest : Queues)
@@ -826,7 +826,7 @@ module _ (c : tie.After-moved invariant-loop3 decreases-loop3 invariant-loop2 de
       (queue_form (keep (stays (Sent c.moved.result.answer.number)) (queue_at opening-now.if5.queues winner.place)))
       → probed_as zeroed rest ≡ step_result (coded_step (s turn-of))
   won! =
-      ends-won (s turn-of) lent! on_time (probing counted) opening-now.if5.queues opening-now.if5.drops (now_opened opening-now) winner (sole! c.before) c.moved.result moved!
+      ends_won (s turn-of) lent! on_time (probing counted) opening-now.if5.queues opening-now.if5.drops (now_opened opening-now) winner (sole! c.before) c.moved.result moved!
 
   winner! : c.moved.result.answer.event ≡ success → winner.place < 64
   winner! =
@@ -966,7 +966,7 @@ loop4-again c =
       next.1,
       ap (λ (qs : Queues). qs.lengths) w.1 ∙ turn.invariant.3,
       rw (w.1, w.2)
-          (closed-stays (f won) (queues won).packets (16 * place won) turn.j within turn.queues.packets turn.filled closed (ap not (ne_eqb number p.number w.0.taken))),
+          (closed_stays (f won) (queues won).packets (16 * place won) turn.j within turn.queues.packets turn.filled closed (ap not (ne_eqb number p.number w.0.taken))),
     ))
     (λ w.
     let next = one_fewer held turn.j turn.filled c.if12.filled more turn.invariant.2 w.2 in (

@@ -6,7 +6,7 @@ use native.Mathlib.Omega.{arith}
 use borrow.Author.Rules.{rules}
 use lib.Bits.{bit_and}
 use Rattle.word.specs.Word.{word_of}
-use Rattle.bus.proofs.Transmitting.{able_at, none_transmit, able_timed, able_untimed, untied-transmit, tied-transmit}
+use Rattle.bus.proofs.Transmitting.{able_at, none_transmit, able_timed, able_untimed, untied_transmit, tied_transmit}
 use Rattle.bus.proofs.probing.transmitters.Statement.{statement}
 use Rattle.bus.proofs.probing.transmitters.Tie as tie
 
@@ -44,7 +44,7 @@ returns-2 : tie.Need-returns-2
 returns-2 c =
     let tied = c.before.before.before in
     let args = (start tied.before.before).args in
-    tied-transmit args.discipline args.clock args.contenders args.values.now args.contention args.parameters.now
+    tied_transmit args.discipline args.clock args.contenders args.values.now args.contention args.parameters.now
     args.addresses.now tied.if3.true (able! tied.before.before) c.before.before.lying-in.ensures c.lying-in2.ensures
 
 lying-in-requires-3 : tie.Need-lying-in-requires-3
@@ -54,7 +54,7 @@ returns-3 : tie.Need-returns-3
 returns-3 c =
     let untied = c.before.before in
     let args = (start untied.before.before).args in
-    untied-transmit args.discipline args.clock args.contenders args.values.now args.contention args.parameters.now
+    untied_transmit args.discipline args.clock args.contenders args.values.now args.contention args.parameters.now
     args.addresses.now untied.if3.false (able! untied.before.before) c.before.lying-in3.ensures
 
 pub transmitters_spec : {M : Type 1} → statement M

@@ -19,7 +19,7 @@ use Rattle.state.specs.Parts.{packets_of}
 use Rattle.bus.specs.Parts.{chosen_form}
 use Rattle.state.proofs.Places.{queue_array}
 use Rattle.state.proofs.Tested.{left_turn, left_end}
-use Rattle.bus.proofs.Choosing.{better-first}
+use Rattle.bus.proofs.Choosing.{better_first}
 use Rattle.bus.proofs.waiting.chosen.Statement.{statement}
 use Rattle.bus.proofs.waiting.chosen.Tie as tie
 
@@ -87,7 +87,7 @@ module _ (c : tie.After-goes-before invariant-loop decreases-loop) where
       let all = queue_array start.args.queue _ start.good.0 in
       turn.invariant.2
       ∙ ap (λ qs. chosen d (get_or ps place no_packet) (choice d qs)) (left_turn n ps j no_packet (omega arith) (omega arith))
-      ∙ better-first d (get_or ps place no_packet) (get_or ps j no_packet) (choice d (slice (j + 1) n ps))
+      ∙ better_first d (get_or ps place no_packet) (get_or ps j no_packet) (choice d (slice (j + 1) n ps))
       ∙ ap (λ t. chosen d (cond t (get_or ps j no_packet) (get_or ps place no_packet)) (choice d (slice (j + 1) n ps))) (sym c.goes_before.ensures ∙ e)
       ∙ kept better
     where

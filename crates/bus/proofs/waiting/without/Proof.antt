@@ -9,7 +9,7 @@ use lib.ListN.{length, get_or, set}
 use Rattle.bus.specs.Types.{Queues, Queue}
 use Rattle.bus.specs.Parts.{stays}
 use Rattle.state.proofs.Places.{queues_arrays}
-use Rattle.bus.proofs.ClosingUp.{ClosedUp, closed_none, closed_leaves, closed-stays, closed_all, LeftIn, left_none, left_here, left-formed, left-more, left_all}
+use Rattle.bus.proofs.ClosingUp.{ClosedUp, closed_none, closed_leaves, closed_stays, closed_all, LeftIn, left_none, left_here, left_formed, left_more, left_all}
 use Rattle.bus.proofs.waiting.without.Statement.{statement}
 use Rattle.bus.proofs.waiting.without.Tie as tie
 
@@ -110,7 +110,7 @@ loop2-again c =
       omega (arith, w.2),
       ap (λ (qs : Queues). qs.lengths) w.1 ∙ turn.loop2.invariant.3,
       rw (w.1, w.2)
-          (closed-stays f xs (16 * at.loop.i) turn.loop2.j within turn.loop2.queues.packets turn.loop2.filled closed (said ∙ w.0.taken)),
+          (closed_stays f xs (16 * at.loop.i) turn.loop2.j within turn.loop2.queues.packets turn.loop2.filled closed (said ∙ w.0.taken)),
     ))
     (λ w. (
       omega arith,
@@ -144,11 +144,11 @@ loop-again c =
     let next = at.loop.queues in
     let here : i < 64 = omega arith in
     let left = at.loop.invariant.4 in
-    let form = left-formed f start.args.t1 start.args.from i next here left (start.requires.1.0 i here) in
+    let form = left_formed f start.args.t1 start.args.from i next here left (start.requires.1.0 i here) in
     let all : inner.j ≡ get_or next.lengths i 0 = omega arith in
     let closed = subst (λ j. ClosedUp f next.packets (16 * i) j inner.queues.packets inner.filled) all inner.invariant.4 in
     let whole = closed_all f next _ i inner.filled here at.loop.invariant.3 form closed (ap (λ ls. set ls i inner.filled) inner.invariant.3) in
-    let more = left-more f start.args.t1 start.args.from i next (omega arith) here at.loop.invariant.2 at.loop.invariant.3 in
+    let more = left_more f start.args.t1 start.args.from i next (omega arith) here at.loop.invariant.2 at.loop.invariant.3 in
     let after = more inner.invariant.0 left _ whole in
     (omega arith, omega arith, after.0, after.1, after.2)
 

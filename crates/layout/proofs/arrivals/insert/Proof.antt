@@ -7,7 +7,7 @@ use native.Mathlib.Omega.{arith}
 use borrow.Author.Rules.{rules}
 use lib.ListN.{length, take, length-set}
 use Rattle.layout.specs.Layout.{inserted}
-use Rattle.layout.proofs.Inserting.{rows_count, standing, standing_stays, standing-moves, standing_end}
+use Rattle.layout.proofs.Inserting.{rows_count, standing, standing_stays, standing_moves, standing_end}
 use Rattle.layout.proofs.arrivals.insert.Statement.{statement}
 use Rattle.layout.proofs.arrivals.insert.Tie as tie
 
@@ -54,7 +54,7 @@ loop-again c =
     (λ w. (
       omega arith,
       ap length w.1 ∙ length-set turn.next turn.i turn.held ∙ turn.invariant.1,
-      rw (w.1, w.2, w.3) (turn.invariant.2 ∙ standing-moves n turn.next turn.held turn.moved turn.i h k (said ∙ w.0.taken)),
+      rw (w.1, w.2, w.3) (turn.invariant.2 ∙ standing_moves n turn.next turn.held turn.moved turn.i h k (said ∙ w.0.taken)),
     ))
     (λ w. (
       omega arith,

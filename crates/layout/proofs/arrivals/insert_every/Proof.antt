@@ -8,7 +8,7 @@ use borrow.Author.Rules.{rules}
 use lib.ListN.{take}
 use Rattle.state.specs.declared.Arrival.{Arrival}
 use Rattle.layout.specs.Layout.{inserted_all, repeated}
-use Rattle.layout.proofs.Inserting.{arrival_at, value_up, every-turn, one_less}
+use Rattle.layout.proofs.Inserting.{arrival_at, value_up, every_turn, one_less}
 use Rattle.layout.proofs.arrivals.insert_every.Statement.{statement}
 use Rattle.layout.proofs.arrivals.insert_every.Tie as tie
 
@@ -41,20 +41,20 @@ module _ (c : tie.After-insert invariant-loop decreases-loop) where
   from n time =
       repeated n time start.args.every (arrival_at start.args.discipline start.args.address start.args.value start.args.length)
 
-  inserted-one :
+  inserted_one :
       (n filled : ℕ) → c.before.before.loop.left ≡ n → suc c.before.before.loop.filled ≡ filled
       → inserted_all (from (suc start.args.later) start.args.from) (take start.args.count start.args.rows)
       ≡ inserted_all (from n (c.before.before.loop.time + start.args.every)) (take filled c.insert.result)
-  inserted-one n filled left more =
+  inserted_one n filled left more =
       let turn = c.before.before.loop in
       turn.invariant.2
-      ∙ every-turn turn.left turn.time start.args.every _ (take turn.filled turn.next) c.before.arrival-at.ensures c.insert.ensures
+      ∙ every_turn turn.left turn.time start.args.every _ (take turn.filled turn.next) c.before.arrival-at.ensures c.insert.ensures
       ∙ ap₂ (λ n k. inserted_all (from n (turn.time + start.args.every)) (take k c.insert.result)) left more
 
 returns : tie.Need-returns invariant-loop decreases-loop
 returns c =
     let args = c.before.before.before.before.args in
-    sym (inserted-one c.before 0 (suc (args.count + args.later)) c.if1.true (omega arith))
+    sym (inserted_one c.before 0 (suc (args.count + args.later)) c.if1.true (omega arith))
 
 add-filled : tie.Need-overflow-add-filled invariant-loop decreases-loop
 add-filled c = search rules
@@ -75,7 +75,7 @@ loop-again c =
     let at = c.before.before.before in (
       omega arith,
       omega (arith, one_less at.loop.left at.before.args.every (omega arith)),
-      inserted-one c.before (suc (at.loop.left - 1)) (at.loop.filled + 1) (omega arith) (omega arith),
+      inserted_one c.before (suc (at.loop.left - 1)) (at.loop.filled + 1) (omega arith) (omega arith),
     )
 
 pub insert_every_spec : {M : Type 1} → statement M

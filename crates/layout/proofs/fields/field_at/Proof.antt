@@ -34,33 +34,33 @@ second c =
     spanned word.before.before.args.line.now word.word_at.result.to _ c.word-at2.ensures (first word).within
 
 -- the word is the one before the number
-is-named :
+is_named :
     (c : tie.Else1) → let args = c.before.before.before.before.before.args in
     same (first_word (drop args.at args.line.now)) (label_bytes args.code) ≡ true
-is-named c =
+is_named c =
     let args = c.before.before.before.before.before.args in
     sym (ap (λ w. same w (label_bytes args.code)) (first c.before.before.before).word)
     ∙ sym c.before.is-label.ensures
     ∙ granted refl c.if1.false
 
 -- the number is read after it
-after-word :
+word_passed :
     (c : tie.After-word-at2) → let word = c.before.before.before.before in
     let args = word.before.before.args in
     drop word.word_at.result.to args.line.now ≡ after_word (drop args.at args.line.now)
-after-word c = (first c.before.before.before.before).after
+word_passed c = (first c.before.before.before.before).after
 
 counted :
     (c : tie.After-number-of) → let args = c.before.before.before.before.before.before.before.before.args in
     c.number_of_lem.result ≡ number_form (number_of (first_word (after_word (drop args.at args.line.now))))
 counted c =
     let got = c.before.before in
-    c.number_of_lem.ensures ∙ ap (λ w. number_form (number_of w)) ((second got).word ∙ ap first_word (after-word got))
+    c.number_of_lem.ensures ∙ ap (λ w. number_form (number_of w)) ((second got).word ∙ ap first_word (word_passed got))
 
 left_over :
     (c : tie.After-word-at2) → let args = c.before.before.before.before.before.before.args in
     drop c.word-at2.result.to args.line.now ≡ after_word (after_word (drop args.at args.line.now))
-left_over c = (second c).after ∙ ap after_word (after-word c)
+left_over c = (second c).after ∙ ap after_word (word_passed c)
 
 sub-is-label : tie.Need-overflow-sub-is-label
 sub-is-label c = (first c).ordered
@@ -111,7 +111,7 @@ returns-2 c =
     let word = got.before.before.before.before in
     let args = word.before.before.args in
     let rest = drop args.at args.line.now in
-    let same_word : same (first_word rest) (label_bytes args.code) ≡ true = is-named got.before in
+    let same_word : same (first_word rest) (label_bytes args.code) ≡ true = is_named got.before in
     let n : number_of (first_word (after_word rest)) ≡ none = unknown _ _ (counted c.before.before) (denied refl c.if2.true) in (
       word.before.before.requires.0,
       λ later. named args.code later rest none same_word n ∙ sym (field_faulty (number_missing args.code) 0 _ (λ e. absurd (omega arith))),
@@ -123,7 +123,7 @@ returns-3 c =
     let word = got.before.before.before.before in
     let args = word.before.before.args in
     let rest = drop args.at args.line.now in
-    let same_word : same (first_word rest) (label_bytes args.code) ≡ true = is-named got.before in
+    let same_word : same (first_word rest) (label_bytes args.code) ≡ true = is_named got.before in
     let value = c.before.before.number_of_lem.result.value in
     let n : number_of (first_word (after_word rest)) ≡ some value = known _ _ (counted c.before.before) (granted refl c.if2.false) in (
       (second got).within,

@@ -11,7 +11,7 @@ use Rattle.state.proofs.Tested.{granted, denied}
 use Rattle.layout.specs.declared.labels.Labels.{Labels}
 use Rattle.layout.specs.Layout.{labels_of, Fields, faulty, goes_on, fields_in}
 use Rattle.layout.specs.Parts.{labels_form, padded, field_said, before}
-use Rattle.layout.proofs.InLine.{labels_few, labels_small, padded_get_d, Found, found_none, found-said, found-more, found-end, field_faulty}
+use Rattle.layout.proofs.InLine.{labels_few, labels_small, padded_get_d, Found, found_none, found_said, found_more, found_end, field_faulty}
 use Rattle.layout.proofs.fields.fields_in.Statement.{statement}
 use Rattle.layout.proofs.fields.fields_in.Tie as tie
 
@@ -90,7 +90,7 @@ returns c =
     let at = field.before.before in
     let more : at.loop.i < length codes = omega (arith, field.before.loop-test.true, at.loop.invariant.many) in
     let all =
-    found-said codes _ _ _ _ at.loop.invariant.found more field.field_at.result _ (said_here field)
+    found_said codes _ _ _ _ at.loop.invariant.found more field.field_at.result _ (said_here field)
     ∙ ap (before at.loop.invariant.found.numbers) (field_faulty field.field_at.result.fault _ _ c.if1.true) in
     (sym (ap (λ (x : Fields). x.fault) all), λ e. absurd (c.if1.true e))
 
@@ -123,7 +123,7 @@ loop-again c =
           subst⁻¹
           (Found codes (drop args.from args.line.now) _ _)
           (add-one at.loop.i)
-          (found-more codes _ _ _ _ g.found more field.field_at.result _ (said_here field) c.if1.false (labels_few args.kind args.discipline));
+          (found_more codes _ _ _ _ g.found more field.field_at.result _ (said_here field) c.if1.false (labels_few args.kind args.discipline));
     }
 
 is-wordless-requires : tie.Need-is-wordless-requires invariant-loop decreases-loop
@@ -139,7 +139,7 @@ ended :
 ended c t e =
     let at = c.before.before in
     let args = at.before.before.before.before.args in
-    found-end
+    found_end
     (labels_of args.kind args.discipline)
     _
     _

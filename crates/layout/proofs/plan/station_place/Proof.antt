@@ -2,7 +2,7 @@
 use mathlib.Core.Path.{refl, sym, ◌∙◌}
 use mathlib.Core.Bool.{true, false}
 use borrow.Author.Tests.{eq-eqb, ne_eqb}
-use Rattle.layout.proofs.Places.{later_here, other-here}
+use Rattle.layout.proofs.Places.{later_here, other_here}
 use borrow.Author.Rules.{rules}
 use Rattle.layout.proofs.plan.station_place.Statement.{statement}
 use Rattle.layout.proofs.plan.station_place.Tie as tie
@@ -18,15 +18,15 @@ returns-2 c = later_here c.before.before.before.args.n c.before.before.before.ar
 
 returns-3 : tie.Need-returns-3
 returns-3 c =
-    other-here c.before.before.before.args.n c.before.before.before.args.kind (sym c.before.before.comes_later.ensures ∙ c.before.if1.false) true _ (eq-eqb _ _ c.if3.true) refl
+    other_here c.before.before.before.args.n c.before.before.before.args.kind (sym c.before.before.comes_later.ensures ∙ c.before.if1.false) true _ (eq-eqb _ _ c.if3.true) refl
 
 returns-4 : tie.Need-returns-4
 returns-4 c =
-    other-here c.before.before.before.before.args.n c.before.before.before.before.args.kind (sym c.before.before.before.comes_later.ensures ∙ c.before.before.if1.false) false true (ne_eqb _ _ c.before.if3.false) (eq-eqb _ _ c.if4.true)
+    other_here c.before.before.before.before.args.n c.before.before.before.before.args.kind (sym c.before.before.before.comes_later.ensures ∙ c.before.before.if1.false) false true (ne_eqb _ _ c.before.if3.false) (eq-eqb _ _ c.if4.true)
 
 returns-5 : tie.Need-returns-5
 returns-5 c =
-    other-here c.before.before.before.before.args.n c.before.before.before.before.args.kind (sym c.before.before.before.comes_later.ensures ∙ c.before.before.if1.false) false false (ne_eqb _ _ c.before.if3.false) (ne_eqb _ _ c.if4.false)
+    other_here c.before.before.before.before.args.n c.before.before.before.before.args.kind (sym c.before.before.before.comes_later.ensures ∙ c.before.before.if1.false) false false (ne_eqb _ _ c.before.if3.false) (ne_eqb _ _ c.if4.false)
 
 pub station_place_spec : {M : Type 1} → statement M
 station_place_spec =

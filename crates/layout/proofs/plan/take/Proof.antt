@@ -8,7 +8,7 @@ use Rattle.words.specs.Words.{first_word}
 use Rattle.layout.specs.Layout.{kind_of, wordless, place_fault, take_kind}
 use Rattle.layout.specs.Parts.{plan_of}
 use Rattle.layout.proofs.InLine.{Spanned, spanned}
-use Rattle.layout.proofs.Planning.{line_wordless, line-misplaced, line_placed}
+use Rattle.layout.proofs.Planning.{line_wordless, line_misplaced, line_placed}
 use borrow.Author.Rules.{rules}
 use Rattle.layout.proofs.plan.take.Statement.{statement}
 use Rattle.layout.proofs.plan.take.Tie as tie
@@ -53,22 +53,22 @@ some_word c =
     let other = c.before.before in
     sym (first other.before).empty ∙ ne_eqb _ _ other.if1.false
 
-its-kind :
+its_kind :
     (c : tie.After-kind-of) → let start = c.before.before.before.before.before in
     c.kind-of.result ≡ kind_of (first_word start.args.line.now)
-its-kind c = c.kind-of.ensures ∙ ap kind_of (first c.before.before.before).word
+its_kind c = c.kind-of.ensures ∙ ap kind_of (first c.before.before.before).word
 
 returns-2 : tie.Need-returns-2
 returns-2 c =
     let named = c.before.before.before in
     let start = named.before.before.before.before.before in
     let g = start.args.plan in (
-      line-misplaced
+      line_misplaced
           (plan_of g)
           start.args.line.now
           c.before.place-fault.result
           (some_word named)
-          (c.before.place-fault.ensures ∙ ap (place_fault g.stage g.settings.n) (its-kind named))
+          (c.before.place-fault.ensures ∙ ap (place_fault g.stage g.settings.n) (its_kind named))
           c.if2.true,
       start.requires,
     )
@@ -87,12 +87,12 @@ returns-3 c =
     let start = named.before.before.before.before.before in
     let g = start.args.plan in (
       c.kind_taken.ensures.0
-          ∙ ap₂ (take_kind (plan_of g)) (its-kind named) (first named.before.before.before).after
+          ∙ ap₂ (take_kind (plan_of g)) (its_kind named) (first named.before.before.before).after
           ∙ line_placed
           (plan_of g)
           start.args.line.now
           (some_word named)
-          (sym (placed.before.place-fault.ensures ∙ ap (place_fault g.stage g.settings.n) (its-kind named)) ∙ placed.if2.false),
+          (sym (placed.before.place-fault.ensures ∙ ap (place_fault g.stage g.settings.n) (its_kind named)) ∙ placed.if2.false),
       c.kind_taken.ensures.1,
     )
 

@@ -2,11 +2,11 @@
 use mathlib.Core.Path.{◌≡◌, refl, sym, ap, ◌∙◌}
 use mathlib.Core.List.{[], ◌∷◌}
 use Rattle.rules.specs.Lists.{first_of}
-use Rattle.rules.proofs.Tests.{none-held}
+use Rattle.rules.proofs.Tests.{none_held}
 use Rattle.layout.specs.Layout.{Plan, taken, with_arrivals, arrival_of, arrival_tests}
 use Rattle.layout.specs.Parts.{plan_of}
-use Rattle.layout.proofs.Steps.{arrival-tried}
-use Rattle.layout.proofs.Planning.{plan_arrays, taken_faulty, taken_fine, arrivals_counted, arrivals-fit}
+use Rattle.layout.proofs.Steps.{arrival_tried}
+use Rattle.layout.proofs.Planning.{plan_arrays, taken_faulty, taken_fine, arrivals_counted, arrivals_fit}
 use borrow.Author.Rules.{rules}
 use Rattle.layout.proofs.plan.take_arrival.Statement.{statement}
 use Rattle.layout.proofs.plan.take_arrival.Tie as tie
@@ -38,10 +38,10 @@ returns-2 c =
     let p = plan_of start.args.plan in
     let q = with_arrivals p (arrival_of start.args.time start.args.address start.args.value start.args.length ∷ []) in
     let fine = c.before.if1.false in
-    let told = c.with-arrival.ensures in
-    let none = none-held 0 (λ v. v) (arrival-tried p start.args.address start.args.value start.args.length 1) refl (sym (said c.before.before) ∙ fine) in (
+    let told = c.with_one_arrival.ensures in
+    let none = none_held 0 (λ v. v) (arrival_tried p start.args.address start.args.value start.args.length 1) refl (sym (said c.before.before) ∙ fine) in (
       ap (λ (q : Plan). record { fault = 0; plan = q }) told.0 ∙ taken_fine _ p q fine ∙ ap (λ n. taken n p q) (said c.before.before),
-      arrivals-fit start.args.plan _ 1 start.requires (plan_arrays start.args.plan _ start.well-formed.0).1 told.1.0 told.1.1.0 told.1.1.1 none.1.1.1.0,
+      arrivals_fit start.args.plan _ 1 start.requires (plan_arrays start.args.plan _ start.well-formed.0).1 told.1.0 told.1.1.0 told.1.1.1 none.1.1.1.0,
     )
 
 pub take_arrival_spec : {M : Type 1} → statement M

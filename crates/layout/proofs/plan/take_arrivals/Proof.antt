@@ -11,7 +11,7 @@ use Rattle.layout.specs.declared.plan.Plan as Coded
 use Rattle.layout.specs.Layout.{Plan, taken, with_arrivals, arrival_of, repeated, later, value_at, arrivals_tests, inserted_all}
 use Rattle.layout.specs.Parts.{plan_of}
 use Rattle.layout.proofs.Inserting.{fits_below, last_within}
-use Rattle.layout.proofs.Planning.{plan_arrays, plan_narrow, taken_faulty, taken_fine, arrivals_counted, arrivals-planned, arrivals-fit, Repeats, repeats}
+use Rattle.layout.proofs.Planning.{plan_arrays, plan_narrow, taken_faulty, taken_fine, arrivals_counted, arrivals_planned, arrivals_fit, Repeats, repeats}
 use borrow.Author.Rules.{rules}
 use Rattle.layout.proofs.plan.take_arrivals.Statement.{statement}
 use Rattle.layout.proofs.plan.take_arrivals.Tie as tie
@@ -101,7 +101,7 @@ returns-2 c =
     let r = right tried in (
       ap
           (λ (q : Plan). record { fault = 0; plan = q })
-          (arrivals-planned
+          (arrivals_planned
           args.plan
           c.with_many_arrivals.result
           rows
@@ -115,7 +115,7 @@ returns-2 c =
           after.later.ensures))
           ∙ taken_fine _ p (all start) fine
           ∙ ap (λ n. taken n p (all start)) (said tried.before),
-      arrivals-fit
+      arrivals_fit
           args.plan
           _
           (suc (later args.every args.from args.to))

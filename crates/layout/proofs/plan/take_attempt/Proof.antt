@@ -2,12 +2,12 @@
 use mathlib.Core.Path.{◌≡◌, refl, sym, ap, ◌∙◌}
 use mathlib.Core.List.{[], ◌∷◌}
 use Rattle.rules.specs.Lists.{first_of}
-use Rattle.rules.proofs.Tests.{none-held, below, ◌then◌, done}
+use Rattle.rules.proofs.Tests.{none_held, below, ◌then◌, done}
 use Rattle.scenario.specs.Reading.{most_bytes}
 use Rattle.layout.specs.Layout.{Plan, taken, with_arrivals, arrival_of, attempt_tests}
 use Rattle.layout.specs.Parts.{plan_of}
 use Rattle.layout.proofs.Steps.{size_with}
-use Rattle.layout.proofs.Planning.{plan_arrays, taken_faulty, taken_fine, arrivals_counted, arrivals-fit}
+use Rattle.layout.proofs.Planning.{plan_arrays, taken_faulty, taken_fine, arrivals_counted, arrivals_fit}
 use borrow.Author.Rules.{rules}
 use Rattle.layout.proofs.plan.take_attempt.Statement.{statement}
 use Rattle.layout.proofs.plan.take_attempt.Tie as tie
@@ -39,10 +39,10 @@ returns-2 c =
     let p = plan_of start.args.plan in
     let q = with_arrivals p (arrival_of start.args.time start.args.address start.args.value start.args.length ∷ []) in
     let fine = c.before.if1.false in
-    let told = c.with-arrival.ensures in
-    let none = none-held 0 (λ v. v) (below 65_535 start.args.address then below 65_535 start.args.length then below most_bytes (size_with p 1) then done) refl (sym (said c.before.before) ∙ fine) in (
+    let told = c.with_one_arrival.ensures in
+    let none = none_held 0 (λ v. v) (below 65_535 start.args.address then below 65_535 start.args.length then below most_bytes (size_with p 1) then done) refl (sym (said c.before.before) ∙ fine) in (
       ap (λ (q : Plan). record { fault = 0; plan = q }) told.0 ∙ taken_fine _ p q fine ∙ ap (λ n. taken n p q) (said c.before.before),
-      arrivals-fit start.args.plan _ 1 start.requires (plan_arrays start.args.plan _ start.well-formed.0).1 told.1.0 told.1.1.0 told.1.1.1 none.1.1.0,
+      arrivals_fit start.args.plan _ 1 start.requires (plan_arrays start.args.plan _ start.well-formed.0).1 told.1.0 told.1.1.0 told.1.1.1 none.1.1.0,
     )
 
 pub take_attempt_spec : {M : Type 1} → statement M

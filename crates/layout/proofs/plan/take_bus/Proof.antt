@@ -6,7 +6,7 @@ use Rattle.words.specs.Words.{first_word, after_word}
 use Rattle.layout.specs.Layout.{Plan, Fields, discipline_named, fields_in, labels_of, bus_line, settings_said, bus_fault, with_bus, take_bus, taken}
 use Rattle.layout.specs.Parts.{padded, plan_of}
 use Rattle.layout.proofs.InLine.{Spanned, spanned}
-use Rattle.layout.proofs.Planning.{taken_faulty, taken_fine, bus_unnamed, bus_faulty, bus-said, settings-said, bus-planned}
+use Rattle.layout.proofs.Planning.{taken_faulty, taken_fine, bus_unnamed, bus_faulty, bus_said, settings_are_said, bus_planned}
 use borrow.Author.Rules.{rules}
 use Rattle.layout.proofs.plan.take_bus.Statement.{statement}
 use Rattle.layout.proofs.plan.take_bus.Tie as tie
@@ -61,16 +61,16 @@ after :
     drop c.before.before.before.before.word_at.result.to start.args.line.now ≡ after_word (drop start.args.at start.args.line.now)
 after c = (second c.before.before.before.before).after
 
-fault-said :
+fault_said :
     (c : tie.After-fields-in) → let start = c.before.before.before.before.before.before in
     c.fields_in.result.fault ≡ (fields_in (labels_of bus_line 0) (after_word (drop start.args.at start.args.line.now))).fault
-fault-said c = c.fields_in.ensures.0 ∙ ap (λ r. (fields_in (labels_of bus_line 0) r).fault) (after c)
+fault_said c = c.fields_in.ensures.0 ∙ ap (λ r. (fields_in (labels_of bus_line 0) r).fault) (after c)
 
-values-said :
+values_said :
     (c : tie.After-fields-in) → let start = c.before.before.before.before.before.before in
     c.fields_in.result.fault ≡ 0
     → c.fields_in.result.values ≡ padded (fields_in (labels_of bus_line 0) (after_word (drop start.args.at start.args.line.now))).values
-values-said c e = c.fields_in.ensures.1 e ∙ ap (λ r. padded (fields_in (labels_of bus_line 0) r).values) (after c)
+values_said c e = c.fields_in.ensures.1 e ∙ ap (λ r. padded (fields_in (labels_of bus_line 0) r).values) (after c)
 
 returns-2 : tie.Need-returns-2
 returns-2 c =
@@ -83,7 +83,7 @@ returns-2 c =
           (fields_in (labels_of bus_line 0) (after_word rest))
           got.fields_in.result.fault
           (λ e. got.before.if1.false (named got.before.before ∙ e))
-          (fault-said got)
+          (fault_said got)
           c.if2.true,
       start.requires.0,
     )
@@ -123,10 +123,10 @@ said c =
     let p = plan_of start.args.plan in
     let x = fields_in (labels_of bus_line 0) (after_word rest) in
     let fine = c.before.before.if2.false in
-    let same = settings-said _ (discipline_named (first_word rest)) _ x.values (named got.before.before) (values-said got fine) in (
+    let same = settings_are_said _ (discipline_named (first_word rest)) _ x.values (named got.before.before) (values_said got fine) in (
       same,
       ap (λ n. taken n p (with_bus p (settings_said (discipline_named (first_word rest)) x.values))) (c.bus-fault.ensures ∙ ap bus_fault same)
-          ∙ bus-said p (discipline_named (first_word rest)) x (λ e. got.before.if1.false (named got.before.before ∙ e)) (sym (fault-said got) ∙ fine),
+          ∙ bus_said p (discipline_named (first_word rest)) x (λ e. got.before.if1.false (named got.before.before ∙ e)) (sym (fault_said got) ∙ fine),
     )
 
 returns-3 : tie.Need-returns-3
@@ -142,7 +142,7 @@ returns-4 c =
     let none = fits.first stage in
     let no_arrival_fault = fits.early (omega arith) in
     let s = said c.before in (
-      ap (λ (q : Plan). record { fault = 0; plan = q }) (bus-planned start.args.plan _ _ none refl s.0)
+      ap (λ (q : Plan). record { fault = 0; plan = q }) (bus_planned start.args.plan _ _ none refl s.0)
           ∙ taken_fine c.before.bus-fault.result (plan_of start.args.plan) _ c.if3.false
           ∙ s.1,
       record { few = omega arith; short = omega (arith, no_arrival_fault); first = λ e. absurd (omega arith); early = λ h. no_arrival_fault },

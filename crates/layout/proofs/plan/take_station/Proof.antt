@@ -5,7 +5,7 @@ use Rattle.rules.specs.SetUp.{set_up_verdict}
 use Rattle.state.specs.declared.SetUp.{SetUp}
 use Rattle.layout.specs.Layout.{Plan, with_station, request_in}
 use Rattle.layout.specs.Parts.{plan_of}
-use Rattle.layout.proofs.Planning.{plan_arrays, taken_faulty, taken_fine, station_full, station-tried, station-asked, station-planned}
+use Rattle.layout.proofs.Planning.{plan_arrays, taken_faulty, taken_fine, station_full, station_tried, station_asked, station_planned}
 use borrow.Author.Rules.{rules}
 use Rattle.layout.proofs.plan.take_station.Statement.{statement}
 use Rattle.layout.proofs.plan.take_station.Tie as tie
@@ -39,7 +39,7 @@ tried c =
     let start = c.before.before.before.before in
     let full = (plan_arrays start.args.plan _ start.well-formed.0).0 in
     ap (λ (r : SetUp). r.verdict.refusal) c.set_up_call.ensures
-    ∙ ap (λ r. (set_up_verdict r).refusal) (station-asked start.args.plan _ (omega (arith, full, c.before.before.if1.false)))
+    ∙ ap (λ r. (set_up_verdict r).refusal) (station_asked start.args.plan _ (omega (arith, full, c.before.before.if1.false)))
 
 returns-2 : tie.Need-returns-2
 returns-2 c =
@@ -47,7 +47,7 @@ returns-2 c =
     let p = plan_of start.args.plan in
     let fault = c.before.before.set_up_call.result.verdict.refusal in (
       taken_faulty fault p (with_station p _) c.if2.true
-          ∙ station-tried p _ fault c.before.before.before.before.if1.false (tried c.before.before),
+          ∙ station_tried p _ fault c.before.before.before.before.if1.false (tried c.before.before),
       start.requires.0,
     )
 
@@ -61,9 +61,9 @@ returns-3 c =
     let full = (plan_arrays before _ start.well-formed.0).0 in
     let fits = start.requires.0 in
     let stage : before.stage ≡ 1 = start.requires.1 in (
-      ap (λ (q : Plan). record { fault = 0; plan = q }) (station-planned before _ (omega (arith, full, less)))
+      ap (λ (q : Plan). record { fault = 0; plan = q }) (station_planned before _ (omega (arith, full, less)))
           ∙ taken_fine fault p (with_station p _) c.if2.false
-          ∙ station-tried p _ fault less (tried c.before.before),
+          ∙ station_tried p _ fault less (tried c.before.before),
       record {
         few = omega arith;
         short = omega (arith, fits.short, fits.early (omega arith));

@@ -5,7 +5,7 @@ use mathlib.Core.List.{[], ◌∷◌}
 use native.Mathlib.Numerals.{add-one}
 use lib.ListN.{take}
 use Rattle.layout.specs.declared.plan.Plan as Coded
-use Rattle.layout.proofs.Planning.{arrivals-planned}
+use Rattle.layout.proofs.Planning.{arrivals_planned}
 use borrow.Author.Rules.{rules}
 use Rattle.layout.proofs.plan.with_arrival.Statement.{statement}
 use Rattle.layout.proofs.plan.with_arrival.Tie as tie
@@ -24,7 +24,7 @@ returns c =
     let start = c.before.before.before in
     let p = start.args.plan in
     let e = c.with_many_arrivals.ensures in (
-      arrivals-planned
+      arrivals_planned
           p
           c.with_many_arrivals.result
           c.before.insert.result

@@ -2,14 +2,14 @@
 use native.Mathlib.Omega.{arith}
 use borrow.Author.Rules.{rules}
 use Rattle.text.specs.Parts.{Told}
-use Rattle.text.proofs.Stores.{told_none, told-then, told_within, told-stored}
+use Rattle.text.proofs.Stores.{told_none, told_then, told_within, told_stored}
 use Rattle.listing.specs.Text.{R}
 use Rattle.listing.proofs.telling.arrival.Statement.{statement}
 use Rattle.listing.proofs.telling.arrival.Tie as tie
 
 -- the word
 word : (c : tie.After-put) → let args = c.before.before.args in Told args.room.now c.put.new.0 args.at c.put.result R 1
-word c = let args = c.before.before.args in told-stored args.room.now args.at R 1 (omega arith) (omega arith) c.put.ensures
+word c = let args = c.before.before.args in told_stored args.room.now args.at R 1 (omega arith) (omega arith) c.put.ensures
 
 put-requires : tie.Need-put-requires
 put-requires c κs = search rules
@@ -33,12 +33,12 @@ returns c =
     let first = second.before.before in
     let first_word = first.before.before in
     told_within
-    (told-then
-    (told-then
+    (told_then
+    (told_then
     (word first_word)
-    (told-then
+    (told_then
     first.short-field.ensures
-    (told-then second.short-field2.ensures (told-then third.short-field3.ensures (told_none _ _ 0)))))
+    (told_then second.short-field2.ensures (told_then third.short-field3.ensures (told_none _ _ 0)))))
     c.newline.ensures)
     (omega arith)
 

@@ -3,14 +3,14 @@ use native.Mathlib.Omega.{arith}
 use borrow.Author.Rules.{rules}
 use borrow.Author.Tests.{eq-eqb, ne_eqb}
 use Rattle.text.specs.Parts.{Told}
-use Rattle.text.proofs.Stores.{told_none, told-then, told_within, told-stored}
+use Rattle.text.proofs.Stores.{told_none, told_then, told_within, told_stored}
 use Rattle.listing.specs.Text.{D}
 use Rattle.listing.proofs.telling.dropped.Statement.{statement}
 use Rattle.listing.proofs.telling.dropped.Tie as tie
 
 -- the word
 word : (c : tie.After-put) → let args = c.before.before.before.before.args in Told args.room.now c.put.new.0 args.at c.put.result D 1
-word c = let args = c.before.before.before.before.args in told-stored args.room.now args.at D 1 (omega arith) (omega arith) c.put.ensures
+word c = let args = c.before.before.before.before.args in told_stored args.room.now args.at D 1 (omega arith) (omega arith) c.put.ensures
 
 returns : tie.Need-returns
 returns c =
@@ -35,7 +35,7 @@ returns-2 c =
     let count = test.before.before.args.answer.drops in
     rw (ne_eqb count 0 test.if1.false)
     (told_within
-    (told-then (told-then (word first_word) (told-then field.field.ensures (told_none _ _ 0))) c.newline.ensures)
+    (told_then (told_then (word first_word) (told_then field.field.ensures (told_none _ _ 0))) c.newline.ensures)
     (omega arith))
 
 pub dropped_spec : {M : Type 1} → statement M

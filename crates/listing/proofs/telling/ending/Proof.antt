@@ -2,14 +2,14 @@
 use native.Mathlib.Omega.{arith}
 use borrow.Author.Rules.{rules}
 use Rattle.text.specs.Parts.{Told}
-use Rattle.text.proofs.Stores.{told_none, told-then, told_within, told-stored}
+use Rattle.text.proofs.Stores.{told_none, told_then, told_within, told_stored}
 use Rattle.listing.specs.Text.{END}
 use Rattle.listing.proofs.telling.ending.Statement.{statement}
 use Rattle.listing.proofs.telling.ending.Tie as tie
 
 -- the word
 word : (c : tie.After-letters) → let args = c.before.before.before.args in Told args.room.now c.letters.new.0 args.at c.letters.result END 3
-word c = let args = c.before.before.before.args in told-stored args.room.now args.at END 3 (omega arith) (omega arith) c.letters.ensures
+word c = let args = c.before.before.before.args in told_stored args.room.now args.at END 3 (omega arith) (omega arith) c.letters.ensures
 
 slice-aggregate-letters : tie.Need-slice-aggregate-letters
 slice-aggregate-letters c = search rules
@@ -48,16 +48,16 @@ returns c =
     let clock = admitted.before.before in
     let first_word = clock.before.before in
     told_within
-    (told-then
-    (told-then
+    (told_then
+    (told_then
     (word first_word)
-    (told-then
+    (told_then
     clock.short-field.ensures
-    (told-then
+    (told_then
     admitted.field.ensures
-    (told-then
+    (told_then
     sent.field2.ensures
-    (told-then lost.field3.ensures (told-then waiting.field4.ensures (told-then turned.field5.ensures (told_none _ _ 0))))))))
+    (told_then lost.field3.ensures (told_then waiting.field4.ensures (told_then turned.field5.ensures (told_none _ _ 0))))))))
     c.newline.ensures)
     (omega arith)
 

@@ -3,7 +3,7 @@ use mathlib.Core.List.{[], ◌∷◌}
 use native.Mathlib.Omega.{arith}
 use borrow.Author.Rules.{rules}
 use Rattle.text.specs.Text.{space}
-use Rattle.text.proofs.Stores.{told-then, told-stored}
+use Rattle.text.proofs.Stores.{told_then, told_stored}
 use Rattle.listing.proofs.telling.letter.Statement.{statement}
 use Rattle.listing.proofs.telling.letter.Tie as tie
 
@@ -17,8 +17,8 @@ returns : tie.Need-returns
 returns c =
     let spaced = c.before.before in
     let args = spaced.before.before.args in
-    let first = told-stored args.room.now args.at (space ∷ []) 1 (omega arith) (omega arith) spaced.put.ensures in
-    told-then first (told-stored spaced.put.new.0 spaced.put.result (args.byte ∷ []) 1 (omega arith) (omega arith) c.put2.ensures)
+    let first = told_stored args.room.now args.at (space ∷ []) 1 (omega arith) (omega arith) spaced.put.ensures in
+    told_then first (told_stored spaced.put.new.0 spaced.put.result (args.byte ∷ []) 1 (omega arith) (omega arith) c.put2.ensures)
 
 pub letter_spec : {M : Type 1} → statement M
 letter_spec = tie.close (tie.spec put-requires put-requires-2 returns)

@@ -1,7 +1,7 @@
 -- `telling::opening` meets its contract: its fields, one after the other. Assumes nothing.
 use native.Mathlib.Omega.{arith}
 use borrow.Author.Rules.{rules}
-use Rattle.text.proofs.Stores.{told_none, told-then, told_within}
+use Rattle.text.proofs.Stores.{told_none, told_then, told_within}
 use Rattle.listing.proofs.telling.opening.Statement.{statement}
 use Rattle.listing.proofs.telling.opening.Tie as tie
 
@@ -33,10 +33,10 @@ returns c =
     let phase = start.before.before in
     let slot = phase.before.before.before in
     told_within
-    (told-then
-    (told-then
-    (told-then slot.short-number.ensures (rw phase.before.phase-letter.ensures at phase.letter.ensures))
-    (told-then start.field.ensures (told-then size.field2.ensures (told_none _ _ 0))))
+    (told_then
+    (told_then
+    (told_then slot.short-number.ensures (rw phase.before.phase-letter.ensures at phase.letter.ensures))
+    (told_then start.field.ensures (told_then size.field2.ensures (told_none _ _ 0))))
     (rw c.before.event-letter.ensures at c.letter2.ensures))
     (omega arith)
 

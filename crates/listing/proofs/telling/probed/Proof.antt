@@ -2,7 +2,7 @@
 use native.Mathlib.Omega.{arith}
 use borrow.Author.Rules.{rules}
 use borrow.Author.Tests.{eq-eqb, ne_eqb}
-use Rattle.text.proofs.Stores.{told_none, told-then, told_within}
+use Rattle.text.proofs.Stores.{told_none, told_then, told_within}
 use Rattle.listing.proofs.telling.probed.Statement.{statement}
 use Rattle.listing.proofs.telling.probed.Tie as tie
 
@@ -27,7 +27,7 @@ returns-2 c =
     let test = opened.before.before in
     let refusal = test.before.before.args.answer.refusal in
     rw (eq-eqb refusal 0 test.if1.false)
-    (told_within (told-then (told-then opened.opening.ensures won.winner.ensures) c.newline.ensures) (omega arith))
+    (told_within (told_then (told_then opened.opening.ensures won.winner.ensures) c.newline.ensures) (omega arith))
 
 pub probed_spec : {M : Type 1} → statement M
 probed_spec =

@@ -3,13 +3,13 @@ use native.Mathlib.Omega.{arith}
 use borrow.Author.Rules.{rules}
 use Rattle.text.specs.Text.{REFUSED}
 use Rattle.text.specs.Parts.{Told}
-use Rattle.text.proofs.Stores.{told_none, told-then, told_within, told-stored}
+use Rattle.text.proofs.Stores.{told_none, told_then, told_within, told_stored}
 use Rattle.listing.proofs.telling.refused.Statement.{statement}
 use Rattle.listing.proofs.telling.refused.Tie as tie
 
 -- the word
 word : (c : tie.After-letters) → let args = c.before.before.before.args in Told args.room.now c.letters.new.0 args.at c.letters.result REFUSED 7
-word c = let args = c.before.before.before.args in told-stored args.room.now args.at REFUSED 7 (omega arith) (omega arith) c.letters.ensures
+word c = let args = c.before.before.before.args in told_stored args.room.now args.at REFUSED 7 (omega arith) (omega arith) c.letters.ensures
 
 slice-aggregate-letters : tie.Need-slice-aggregate-letters
 slice-aggregate-letters c = search rules
@@ -32,10 +32,10 @@ returns c =
     let first = second.before.before in
     let first_word = first.before.before in
     told_within
-    (told-then
-    (told-then
+    (told_then
+    (told_then
     (word first_word)
-    (told-then first.short-field.ensures (told-then second.field.ensures (told_none _ _ 0))))
+    (told_then first.short-field.ensures (told_then second.field.ensures (told_none _ _ 0))))
     c.newline.ensures)
     (omega arith)
 

@@ -2,7 +2,7 @@
 use native.Mathlib.Omega.{arith}
 use borrow.Author.Rules.{rules}
 use borrow.Author.Tests.{lt-ltb, le-ltb}
-use Rattle.text.proofs.Stores.{told_none, told-then, told_within}
+use Rattle.text.proofs.Stores.{told_none, told_then, told_within}
 use Rattle.listing.proofs.telling.winner.Statement.{statement}
 use Rattle.listing.proofs.telling.winner.Tie as tie
 
@@ -32,11 +32,11 @@ returns-2 c =
     let event = test.before.before.args.answer.event in
     rw (le-ltb event 2 test.if1.false)
     (told_within
-    (told-then
+    (told_then
     address.short-field.ensures
-    (told-then
+    (told_then
     number.short-field2.ensures
-    (told-then length.short-field3.ensures (told-then c.short-field4.ensures (told_none _ _ 0)))))
+    (told_then length.short-field3.ensures (told_then c.short-field4.ensures (told_none _ _ 0)))))
     (omega arith))
 
 pub winner_spec : {M : Type 1} → statement M

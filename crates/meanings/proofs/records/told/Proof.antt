@@ -7,7 +7,7 @@ use borrow.Author.Rules.{part_to_end}
 use lib.ListN.{drop}
 use Rattle.text.specs.Text.{bytes, decimal}
 use Rattle.text.proofs.Decimals.{decimal_long}
-use Rattle.text.proofs.Stores.{told-stored}
+use Rattle.text.proofs.Stores.{told_stored}
 use Rattle.meanings.specs.Refused.{record_words}
 use Rattle.meanings.proofs.Words.{record_short}
 use Rattle.meanings.proofs.Telling.{told_more}
@@ -68,7 +68,7 @@ returns c =
     let h = start.requires.0 in
     let digits = decimal_long place.place.result (search rules) in
     let what = rw (part_to_end input offset) at said.what.ensures in
-    let a = told-stored start.args.room.now start.args.at (bytes "; record ") 9 (omega (arith, h)) (omega arith) word.letters.ensures in
+    let a = told_stored start.args.room.now start.args.at (bytes "; record ") 9 (omega (arith, h)) (omega arith) word.letters.ensures in
     let b = told_more (decimal place.place.result) 20 a (omega (arith, h)) digits number.number.ensures in
     let d = told_more (bytes ", ") 2 b (omega (arith, h)) (omega arith) apart.letters2.ensures in
     let e = told_more (record_words rest) 20 d (omega (arith, h)) (record_short rest) what in

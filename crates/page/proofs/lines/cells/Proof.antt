@@ -1,7 +1,7 @@
 -- `lines::cells` meets its contract: by what the line is of. Assumes nothing.
 use native.Mathlib.Omega.{arith}
 use borrow.Author.Rules.{rules}
-use Rattle.text.proofs.Stores.{told-stored}
+use Rattle.text.proofs.Stores.{told_stored}
 use Rattle.page.specs.Page.{cells}
 use Rattle.page.specs.declared.Entry.TheVariants as Has
 use Rattle.page.proofs.lines.cells.Statement.{statement}
@@ -39,7 +39,7 @@ returns-2 c =
 returns-3 : tie.Need-returns-3
 returns-3 c =
     let args = c.before.before.before.before.before.args in
-    rw c.before.before.before.enum_told.given.1 (told-stored args.room.now args.at (cells Has.Unread) 126 (omega arith) (omega arith) c.letters.ensures)
+    rw c.before.before.before.enum_told.given.1 (told_stored args.room.now args.at (cells Has.Unread) 126 (omega arith) (omega arith) c.letters.ensures)
 
 pub cells_spec : {M : Type 1} → statement M
 cells_spec =

@@ -7,7 +7,7 @@ use borrow.Author.Rules.{rules}
 use lib.ListN.{length, replicate, length-replicate, length-append}
 use Rattle.text.specs.Text.{space, decimal}
 use Rattle.text.proofs.Decimals.{decimal_long}
-use Rattle.text.proofs.Stores.{told-then}
+use Rattle.text.proofs.Stores.{told_then}
 use Rattle.page.proofs.Told.{told_here, told_few}
 use Rattle.page.proofs.lines.column.Statement.{statement}
 use Rattle.page.proofs.lines.column.Tie as tie
@@ -42,7 +42,7 @@ returns c =
     let third =
     told_here spaces.spaces.new.0 spaces.spaces.result (decimal args.n) (omega (arith, first.past, second.past)) c.number.ensures in
     let all = length-append (replicate gap space) (decimal args.n) in
-    told_few (told-then first (told-then second third)) (omega arith)
+    told_few (told_then first (told_then second third)) (omega arith)
 
 pub column_spec : {M : Type 1} → statement M
 column_spec =

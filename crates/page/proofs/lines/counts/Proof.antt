@@ -1,6 +1,6 @@
 -- `lines::counts` meets its contract: five columns, one after the other. Assumes nothing.
 use borrow.Author.Rules.{rules}
-use Rattle.text.proofs.Stores.{told-then}
+use Rattle.text.proofs.Stores.{told_then}
 use Rattle.page.proofs.lines.counts.Statement.{statement}
 use Rattle.page.proofs.lines.counts.Tie as tie
 
@@ -25,8 +25,8 @@ returns c =
     let third = fourth.before.before in
     let second = third.before.before in
     let first = second.before.before in
-    told-then first.column.ensures
-    (told-then second.column2.ensures (told-then third.column3.ensures (told-then fourth.column4.ensures c.column5.ensures)))
+    told_then first.column.ensures
+    (told_then second.column2.ensures (told_then third.column3.ensures (told_then fourth.column4.ensures c.column5.ensures)))
 
 pub counts_spec : {M : Type 1} → statement M
 counts_spec =

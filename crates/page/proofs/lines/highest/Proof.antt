@@ -1,7 +1,7 @@
 -- `lines::highest` meets its contract: by whether a run has a figure, with the name. Assumes nothing.
 use native.Mathlib.Omega.{arith}
 use borrow.Author.Rules.{rules}
-use Rattle.text.proofs.Stores.{told-then, told_within}
+use Rattle.text.proofs.Stores.{told_then, told_within}
 use Rattle.page.proofs.lines.highest.Statement.{statement}
 use Rattle.page.proofs.lines.highest.Tie as tie
 
@@ -26,7 +26,7 @@ named-requires c κs = search rules
 
 returns-2 : tie.Need-returns-2
 returns-2 c =
-    rw c.before.before.before.before.before.highest.given.1 (told_within (told-then c.before.before.loss.ensures c.named.ensures) (omega arith))
+    rw c.before.before.before.before.before.highest.given.1 (told_within (told_then c.before.before.loss.ensures c.named.ensures) (omega arith))
 
 pub highest_spec : {M : Type 1} → statement M
 highest_spec =

@@ -1,7 +1,7 @@
 -- `lines::highest_placed` meets its contract: by whether a run has a figure, with the place for a name. Assumes nothing.
 use native.Mathlib.Omega.{arith}
 use borrow.Author.Rules.{rules}
-use Rattle.text.proofs.Stores.{told-then, told_within}
+use Rattle.text.proofs.Stores.{told_then, told_within}
 use Rattle.page.proofs.lines.highest_placed.Statement.{statement}
 use Rattle.page.proofs.lines.highest_placed.Tie as tie
 
@@ -30,7 +30,7 @@ numbered-requires c κs = search rules
 returns-2 : tie.Need-returns-2
 returns-2 c =
     rw c.before.before.before.before.before.before.highest.given.1
-    (told_within (told-then c.before.before.before.loss.ensures (rw c.before.counted.ensures at c.numbered.ensures)) (omega arith))
+    (told_within (told_then c.before.before.before.loss.ensures (rw c.before.counted.ensures at c.numbered.ensures)) (omega arith))
 
 pub highest_placed_spec : {M : Type 1} → statement M
 highest_placed_spec =

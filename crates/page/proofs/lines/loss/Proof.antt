@@ -4,7 +4,7 @@ use native.Mathlib.Omega.{arith}
 use borrow.Author.Rules.{rules}
 use Rattle.text.specs.Text.{space, decimal}
 use Rattle.text.proofs.Decimals.{decimal_long}
-use Rattle.text.proofs.Stores.{told-then, told_within}
+use Rattle.text.proofs.Stores.{told_then, told_within}
 use Rattle.page.specs.Page.{HIGHEST_LOSS}
 use Rattle.page.proofs.Told.{told_here}
 use Rattle.page.proofs.lines.loss.Statement.{statement}
@@ -37,7 +37,7 @@ returns c =
     let b = told_here word.letters.new.0 word.letters.result (decimal args.lost) (omega (arith, a.past)) first.number.ensures in
     let d = told_here first.number.new.0 first.number.result (47 ∷ []) (omega (arith, a.past, b.past)) over.put.ensures in
     let e = told_here over.put.new.0 over.put.result (decimal args.ended) (omega (arith, a.past, b.past, d.past)) c.number2.ensures in
-    told_within (told-then a (told-then b (told-then d e))) (omega arith)
+    told_within (told_then a (told_then b (told_then d e))) (omega arith)
 
 pub loss_spec : {M : Type 1} → statement M
 loss_spec =

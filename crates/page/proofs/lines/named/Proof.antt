@@ -8,7 +8,7 @@ use lib.ListN.{take}
 use lib.Seq.{length-take-le}
 use Rattle.text.specs.Text.{space, newline}
 use Rattle.text.specs.Parts.{Told}
-use Rattle.text.proofs.Stores.{told-then, told_within}
+use Rattle.text.proofs.Stores.{told_then, told_within}
 use Rattle.page.proofs.Told.{told_here}
 use Rattle.page.proofs.lines.named.Statement.{statement}
 use Rattle.page.proofs.lines.named.Tie as tie
@@ -45,7 +45,7 @@ returns c =
     subst
     (λ (shown : List ℕ). Told args.room.now c.put.new.0 args.at c.put.result (space ∷ space ∷ (shown ++ (newline ∷ []))) 4_099)
     fine.1.1
-    (told_within (told-then a (told-then b d)) (omega (arith, fine.1.0)))
+    (told_within (told_then a (told_then b d)) (omega (arith, fine.1.0)))
 
 pub named_spec : {M : Type 1} → statement M
 named_spec =

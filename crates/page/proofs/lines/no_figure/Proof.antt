@@ -2,7 +2,7 @@
 use mathlib.Core.List.{[]}
 use native.Mathlib.Omega.{arith}
 use borrow.Author.Rules.{rules}
-use Rattle.text.proofs.Stores.{told-stored}
+use Rattle.text.proofs.Stores.{told_stored}
 use Rattle.page.specs.Page.{highest_text}
 use Rattle.sheet.specs.declared.Highest.TheVariants as Is
 use Rattle.page.proofs.lines.no_figure.Statement.{statement}
@@ -16,7 +16,7 @@ letters-requires c κs = search rules
 
 returns : tie.Need-returns
 returns c =
-    let args = c.before.before.before.args in told-stored args.room.now args.at (highest_text Is.NoFigure []) 34 (omega arith) (omega arith) c.letters.ensures
+    let args = c.before.before.before.args in told_stored args.room.now args.at (highest_text Is.NoFigure []) 34 (omega arith) (omega arith) c.letters.ensures
 
 pub no_figure_spec : {M : Type 1} → statement M
 no_figure_spec = tie.close (tie.spec slice-aggregate-letters letters-requires returns)

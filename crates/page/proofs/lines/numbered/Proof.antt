@@ -7,7 +7,7 @@ use borrow.Author.Rules.{rules}
 use Rattle.text.specs.Text.{space, newline, decimal}
 use Rattle.text.specs.Parts.{Told}
 use Rattle.text.proofs.Decimals.{decimal_long}
-use Rattle.text.proofs.Stores.{told-then, told_within}
+use Rattle.text.proofs.Stores.{told_then, told_within}
 use Rattle.page.proofs.Told.{told_here, number_is_shown}
 use Rattle.page.proofs.lines.numbered.Statement.{statement}
 use Rattle.page.proofs.lines.numbered.Tie as tie
@@ -33,7 +33,7 @@ returns c =
     subst
     (λ (shown : List ℕ). Told args.room.now c.put.new.0 args.at c.put.result (space ∷ space ∷ (shown ++ (newline ∷ []))) 23)
     (sym (number_is_shown args.n few))
-    (told_within (told-then a (told-then b d)) (omega arith))
+    (told_within (told_then a (told_then b d)) (omega arith))
 
 pub numbered_spec : {M : Type 1} → statement M
 numbered_spec = tie.close (tie.spec spaces-requires number-requires put-requires returns)

@@ -4,7 +4,7 @@ use native.Mathlib.Omega.{arith}
 use borrow.Author.Rules.{rules}
 use Rattle.text.specs.Text.{space, decimal, REFUSED}
 use Rattle.text.proofs.Decimals.{decimal_short, decimal_long}
-use Rattle.text.proofs.Stores.{told_none, told-then, told_within}
+use Rattle.text.proofs.Stores.{told_none, told_then, told_within}
 use Rattle.page.proofs.Told.{told_here}
 use Rattle.page.proofs.lines.refused.Statement.{statement}
 use Rattle.page.proofs.lines.refused.Tie as tie
@@ -36,7 +36,7 @@ returns c =
     let b = told_here word.letters.new.0 word.letters.result (decimal args.number) (omega (arith, a.past)) first.number.ensures in
     let d = told_here first.number.new.0 first.number.result (space ∷ []) (omega (arith, a.past, b.past)) apart.put.ensures in
     let e = told_here apart.put.new.0 apart.put.result (decimal args.offset) (omega (arith, a.past, b.past, d.past)) c.number2.ensures in
-    told_within (told-then a (told-then b (told-then d (told-then e (told_none _ _ 0))))) (omega arith)
+    told_within (told_then a (told_then b (told_then d (told_then e (told_none _ _ 0))))) (omega arith)
 
 pub refused_spec : {M : Type 1} → statement M
 refused_spec =

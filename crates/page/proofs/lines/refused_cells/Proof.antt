@@ -7,7 +7,7 @@ use lib.ListN.{length, replicate, length-replicate}
 use Rattle.text.specs.Text.{space}
 use Rattle.text.specs.Parts.{Told}
 use Rattle.text.proofs.Decimals.{decimal_short, decimal_long}
-use Rattle.text.proofs.Stores.{told-then, told_within, told-stored}
+use Rattle.text.proofs.Stores.{told_then, told_within, told_stored}
 use Rattle.page.specs.Page.{all_places, refusal_words}
 use Rattle.page.proofs.Told.{refused_length}
 use Rattle.page.proofs.lines.refused_cells.Statement.{statement}
@@ -30,7 +30,7 @@ gap c =
     (ap₂ (λ i j. 9 + i + j) offsets.before.digits_of.ensures offsets.digits-of2.ensures
     ∙ sym (refused_length args.number args.offset)) in
     let long = length-replicate free space in
-    told-stored args.room.now args.at (replicate free space) 69 (omega arith) (omega arith) (rw left at c.spaces.ensures)
+    told_stored args.room.now args.at (replicate free space) 69 (omega arith) (omega arith) (rw left at c.spaces.ensures)
 
 digits-of-requires : tie.Need-digits-of-requires
 digits-of-requires c κs = search rules
@@ -62,7 +62,7 @@ refused-requires : tie.Need-refused-requires
 refused-requires c κs = let told = gap c.before in omega (arith, told.past, told.few)
 
 returns : tie.Need-returns
-returns c = told_within (told-then (gap c.before.before) c.refused.ensures) (omega arith)
+returns c = told_within (told_then (gap c.before.before) c.refused.ensures) (omega arith)
 
 pub refused_cells_spec : {M : Type 1} → statement M
 refused_cells_spec =

@@ -5,9 +5,9 @@ use native.Mathlib.Omega.{arith}
 use borrow.Author.Rules.{rules}
 use lib.ListN.{length, take}
 use Rattle.text.specs.Parts.{Told}
-use Rattle.text.proofs.Stores.{told_none, told-then, told_within}
+use Rattle.text.proofs.Stores.{told_none, told_then, told_within}
 use Rattle.page.specs.Page.{rows_text}
-use Rattle.page.proofs.Told.{rows-turn}
+use Rattle.page.proofs.Told.{rows_turn}
 use Rattle.page.proofs.lines.rows.Statement.{statement}
 use Rattle.page.proofs.lines.rows.Tie as tie
 
@@ -53,9 +53,9 @@ loop-again c =
     let full : length start.args.t3 ≡ 256 = search rules in (
       search rules,
       rw
-          (rows-turn start.args.t3 at.loop.i (omega arith))
+          (rows_turn start.args.t3 at.loop.i (omega arith))
           (told_within
-          (told-then at.loop.invariant.1 (told-then cells.run-cells.ensures (rw c.before.counted.ensures at c.numbered.ensures)))
+          (told_then at.loop.invariant.1 (told_then cells.run-cells.ensures (rw c.before.counted.ensures at c.numbered.ensures)))
           (omega arith)),
     )
 

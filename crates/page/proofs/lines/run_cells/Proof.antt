@@ -1,6 +1,6 @@
 -- `lines::run_cells` meets its contract: five counts and the longest wait. Assumes nothing.
 use borrow.Author.Rules.{rules}
-use Rattle.text.proofs.Stores.{told-then}
+use Rattle.text.proofs.Stores.{told_then}
 use Rattle.page.proofs.lines.run_cells.Statement.{statement}
 use Rattle.page.proofs.lines.run_cells.Tie as tie
 
@@ -30,7 +30,7 @@ column-requires c κs = search rules
 
 returns : tie.Need-returns
 returns c =
-    told-then c.before.before.before.counts.ensures c.column.ensures
+    told_then c.before.before.before.counts.ensures c.column.ensures
 
 pub run_cells_spec : {M : Type 1} → statement M
 run_cells_spec =

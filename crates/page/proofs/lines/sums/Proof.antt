@@ -4,7 +4,7 @@ use native.Mathlib.Omega.{arith}
 use borrow.Author.Rules.{rules}
 use lib.ListN.{replicate}
 use Rattle.text.specs.Text.{space}
-use Rattle.text.proofs.Stores.{told-then, told_within}
+use Rattle.text.proofs.Stores.{told_then, told_within}
 use Rattle.page.specs.Page.{shown, named, ALL_RUNS}
 use Rattle.page.proofs.Told.{told_here}
 use Rattle.page.proofs.lines.sums.Statement.{statement}
@@ -25,7 +25,7 @@ returns c =
     let five = c.before.before.before in
     let text = replicate 13 space ++ named ALL_RUNS in
     let closed = told_here five.counts.new.0 five.counts.result text (omega (arith, five.counts.ensures.past, five.counts.ensures.few)) c.letters.ensures in
-    told_within (told-then five.counts.ensures closed) (omega arith)
+    told_within (told_then five.counts.ensures closed) (omega arith)
 
 pub sums_spec : {M : Type 1} → statement M
 sums_spec = tie.close (tie.spec counts-requires slice-aggregate-letters letters-requires returns)

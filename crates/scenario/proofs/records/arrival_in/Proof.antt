@@ -2,7 +2,7 @@
 use mathlib.Core.List.{[], ◌∷◌}
 use borrow.Author.Rules.{rules}
 use Rattle.scenario.specs.Format.{arrival_kind}
-use Rattle.scenario.proofs.RecordLaws.{said-by}
+use Rattle.scenario.proofs.RecordLaws.{said_so_by}
 use Rattle.scenario.proofs.records.arrival_in.Statement.{statement}
 use Rattle.scenario.proofs.records.arrival_in.Tie as tie
 
@@ -20,7 +20,7 @@ two-requires-2 c κs = search rules
 
 returns : tie.Need-returns
 returns c =
-    said-by arrival_kind c.before.before.before.before.before.args.body.now _
+    said_so_by arrival_kind c.before.before.before.before.before.args.body.now _
     (λ i.
     c.before.before.before.four.ensures i
     ∷ c.before.before.two.ensures.1 i

@@ -4,7 +4,7 @@ use mathlib.Core.List.{[], ◌∷◌}
 use borrow.Author.Rules.{rules}
 use Rattle.scenario.specs.Format.{set_up_kind}
 use Rattle.scenario.proofs.Numbers.{byte_at}
-use Rattle.scenario.proofs.RecordLaws.{said-by}
+use Rattle.scenario.proofs.RecordLaws.{said_so_by}
 use Rattle.scenario.proofs.records.set_up_in.Statement.{statement}
 use Rattle.scenario.proofs.records.set_up_in.Tie as tie
 
@@ -29,7 +29,7 @@ cast-t7 c = search rules
 returns : tie.Need-returns
 returns c =
     let body = c.before.before.before.before.before.before.args.body.now in
-    said-by set_up_kind body _
+    said_so_by set_up_kind body _
     (λ i.
     (c.before.before.before.before.one.ensures.1 ∙ sym (byte_at body 0)) i
     ∷ c.before.before.before.four.ensures i

@@ -2,7 +2,7 @@
 use mathlib.Core.List.{[], ◌∷◌}
 use borrow.Author.Rules.{rules}
 use Rattle.scenario.specs.Format.{station_kind}
-use Rattle.scenario.proofs.RecordLaws.{said-by}
+use Rattle.scenario.proofs.RecordLaws.{said_so_by}
 use Rattle.scenario.proofs.records.station_in.Statement.{statement}
 use Rattle.scenario.proofs.records.station_in.Tie as tie
 
@@ -14,7 +14,7 @@ two-requires-2 c κs = search rules
 
 returns : tie.Need-returns
 returns c =
-    said-by station_kind c.before.before.before.args.body.now _ (λ i. c.before.two.ensures.1 i ∷ c.two2.ensures.1 i ∷ [])
+    said_so_by station_kind c.before.before.before.args.body.now _ (λ i. c.before.two.ensures.1 i ∷ c.two2.ensures.1 i ∷ [])
 
 pub station_in_spec : {M : Type 1} → statement M
 station_in_spec = tie.close (tie.spec two-requires two-requires-2 returns)

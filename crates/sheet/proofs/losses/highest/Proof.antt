@@ -9,7 +9,7 @@ use lib.ListN.{length, take}
 use lib.Seq.{slice}
 use Rattle.sheet.specs.Sheet.{highest_from, highest_of}
 use Rattle.sheet.specs.Parts.{highest_so}
-use Rattle.sheet.proofs.Loops.{highest-stays, highest-taken, highest_end}
+use Rattle.sheet.proofs.Loops.{highest_stays, highest_taken, highest_end}
 use Rattle.sheet.proofs.losses.highest.Statement.{statement}
 use Rattle.sheet.proofs.losses.highest.Tie as tie
 
@@ -61,7 +61,7 @@ loop-again c =
     let full : length start.args.t1 ≡ 256 = search rules in (
       search rules,
       sym
-          (highest-stays start.args.count start.args.t1 so.i so.found so.place so.most so.over (omega arith) (omega arith)
+          (highest_stays start.args.count start.args.t1 so.i so.found so.place so.most so.over (omega arith) (omega arith)
           c.before.takes-place.ensures c.if1.true)
           ∙ so.invariant.1,
     )
@@ -80,7 +80,7 @@ loop-again-2 c =
     let full : length start.args.t1 ≡ 256 = search rules in (
       search rules,
       sym
-          (highest-taken start.args.count start.args.t1 so.i so.found so.place so.most so.over (omega arith) (omega arith)
+          (highest_taken start.args.count start.args.t1 so.i so.found so.place so.most so.over (omega arith) (omega arith)
           c.before.takes-place.ensures c.if1.false)
           ∙ so.invariant.1,
     )

@@ -6,7 +6,7 @@ use native.Mathlib.Omega.{arith}
 use borrow.Author.Rules.{rules}
 use lib.ListN.{length, take, replicate}
 use Rattle.sheet.specs.Sheet.{most_runs, no_run, row_of}
-use Rattle.sheet.proofs.Loops.{rows-turn}
+use Rattle.sheet.proofs.Loops.{rows_turn}
 use Rattle.sheet.proofs.rows.all.Statement.{statement}
 use Rattle.sheet.proofs.rows.all.Tie as tie
 
@@ -45,7 +45,7 @@ loop-again c =
     let at = c.before.before.before in
     let start = at.before in
     let full : length start.args.t1 ≡ 256 = search rules in
-    (search rules, rows-turn start.args.t1 at.loop.i (omega arith) full at.loop.invariant.1 c.row.ensures)
+    (search rules, rows_turn start.args.t1 at.loop.i (omega arith) full at.loop.invariant.1 c.row.ensures)
 
 returns : tie.Need-returns invariant-loop decreases-loop
 returns c =

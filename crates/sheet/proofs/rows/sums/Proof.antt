@@ -6,7 +6,7 @@ use borrow.Author.Rules.{rules}
 use lib.ListN.{length, get_or, take}
 use Rattle.sheet.specs.Sheet.{no_run, sums_of}
 use Rattle.sheet.specs.Parts.{Few, summed}
-use Rattle.sheet.proofs.Loops.{few-more, sums-turn}
+use Rattle.sheet.proofs.Loops.{few_more, sums_turn}
 use Rattle.sheet.proofs.rows.sums.Statement.{statement}
 use Rattle.sheet.proofs.rows.sums.Tie as tie
 
@@ -70,9 +70,9 @@ loop-again c =
     let full : length start.args.t1 ≡ 256 = search rules in
     let r = get_or start.args.t1 so.i no_run in (
       search rules,
-      few-more so.i (summed so.admitted so.sent so.lost so.waiting so.turned) r so.invariant.1 (search rules) (search rules) (search rules) (search rules)
+      few_more so.i (summed so.admitted so.sent so.lost so.waiting so.turned) r so.invariant.1 (search rules) (search rules) (search rules) (search rules)
           (search rules),
-      sums-turn start.args.t1 so.i (omega arith) so.invariant.2,
+      sums_turn start.args.t1 so.i (omega arith) so.invariant.2,
     )
 
 returns : tie.Need-returns invariant-loop decreases-loop

@@ -5,7 +5,7 @@ use native.Mathlib.Omega.{arith}
 use borrow.Author.Rules.{rules}
 use lib.ListN.{length, take}
 use Rattle.sheet.specs.Sheet.{unbalanced}
-use Rattle.sheet.proofs.Loops.{left_end, from_here, unbalanced_here, unbalanced-later}
+use Rattle.sheet.proofs.Loops.{left_end, from_here, unbalanced_here, unbalanced_later}
 use Rattle.sheet.proofs.rows.unbalanced.Statement.{statement}
 use Rattle.sheet.proofs.rows.unbalanced.Tie as tie
 
@@ -47,7 +47,7 @@ loop-again c =
     let start = at.before in
     let full : length start.args.t1 ≡ 256 = search rules in (
       search rules,
-      sym (unbalanced-later start.args.count start.args.t1 at.loop.i (omega arith) (omega arith) c.before.balances.ensures c.if1.false)
+      sym (unbalanced_later start.args.count start.args.t1 at.loop.i (omega arith) (omega arith) c.before.balances.ensures c.if1.false)
           ∙ at.loop.invariant.1,
     )
 

@@ -5,7 +5,7 @@ use native.Mathlib.Omega.{arith}
 use borrow.Author.Rules.{rules}
 use Rattle.text.specs.Text.{bytes}
 use Rattle.text.specs.Parts.{Told}
-use Rattle.text.proofs.Stores.{told-then, told_within}
+use Rattle.text.proofs.Stores.{told_then, told_within}
 use Rattle.shown.proofs.Storing.{told_here}
 use Rattle.shown.proofs.lines.address.Statement.{statement}
 use Rattle.shown.proofs.lines.address.Tie as tie
@@ -46,9 +46,9 @@ returns c =
     let first = second.before.before in
     let word = first.before.before in
     told_within
-    (told-then
+    (told_then
     (worded word)
-    (told-then first.digit.ensures (told-then second.digit2.ensures (told-then third.digit3.ensures c.digit4.ensures))))
+    (told_then first.digit.ensures (told_then second.digit2.ensures (told_then third.digit3.ensures c.digit4.ensures))))
     (omega arith)
 
 pub address_spec : {M : Type 1} → statement M

@@ -2,7 +2,7 @@
 use mathlib.Core.Path.{sym}
 use native.Mathlib.Omega.{arith}
 use borrow.Author.Rules.{rules}
-use Rattle.text.proofs.Stores.{told_none, told-then}
+use Rattle.text.proofs.Stores.{told_none, told_then}
 use Rattle.shown.proofs.Storing.{closed}
 use Rattle.shown.proofs.lines.arrival.Statement.{statement}
 use Rattle.shown.proofs.lines.arrival.Tie as tie
@@ -47,11 +47,11 @@ returns c =
     rw
     (sym word.before.fits2.ensures)
     (closed
-    (told-then
+    (told_then
     word.arrival-word.ensures
-    (told-then
+    (told_then
     timed.field.ensures
-    (told-then placed.address.ensures (told-then valued.field2.ensures (told-then long.field3.ensures (told_none _ _ 0))))))
+    (told_then placed.address.ensures (told_then valued.field2.ensures (told_then long.field3.ensures (told_none _ _ 0))))))
     (omega arith)
     c.put.ensures)
 

@@ -2,7 +2,7 @@
 use mathlib.Core.Bool.{true, false}
 use native.Mathlib.Omega.{arith}
 use borrow.Author.Rules.{rules}
-use Rattle.text.proofs.Stores.{told-stored}
+use Rattle.text.proofs.Stores.{told_stored}
 use Rattle.shown.specs.Shown.{arrival_word}
 use Rattle.shown.proofs.lines.arrival_word.Statement.{statement}
 use Rattle.shown.proofs.lines.arrival_word.Tie as tie
@@ -16,7 +16,7 @@ letters-requires c κs = search rules
 returns : tie.Need-returns
 returns c =
     let branch = c.before.before.before in
-    rw branch.if1.true (told-stored branch.before.args.room.now 0 (arrival_word true) 7 (omega arith) (omega arith) c.letters.ensures)
+    rw branch.if1.true (told_stored branch.before.args.room.now 0 (arrival_word true) 7 (omega arith) (omega arith) c.letters.ensures)
 
 slice-aggregate-letters-2 : tie.Need-slice-aggregate-letters-2
 slice-aggregate-letters-2 c = search rules
@@ -27,7 +27,7 @@ letters-requires-2 c κs = search rules
 returns-2 : tie.Need-returns-2
 returns-2 c =
     let branch = c.before.before.before in
-    rw branch.if1.false (told-stored branch.before.args.room.now 0 (arrival_word false) 7 (omega arith) (omega arith) c.letters2.ensures)
+    rw branch.if1.false (told_stored branch.before.args.room.now 0 (arrival_word false) 7 (omega arith) (omega arith) c.letters2.ensures)
 
 pub arrival_word_spec : {M : Type 1} → statement M
 arrival_word_spec =

@@ -2,7 +2,7 @@
 use native.Mathlib.Omega.{arith}
 use borrow.Author.Rules.{rules}
 use Rattle.text.specs.Text.{bytes}
-use Rattle.text.proofs.Stores.{told_none, told-then}
+use Rattle.text.proofs.Stores.{told_none, told_then}
 use Rattle.shown.proofs.Storing.{told_here, closed}
 use Rattle.shown.proofs.lines.bus.Statement.{statement}
 use Rattle.shown.proofs.lines.bus.Tie as tie
@@ -47,9 +47,9 @@ returns c =
     let args = word.before.before.before.args in
     let bus = told_here args.room.now 0 (bytes "bus ") (omega arith) word.letters.ensures in
     closed
-    (told-then
-    (told-then bus named.discipline.ensures)
-    (told-then d.field.ensures (told-then a.field2.ensures (told-then q.field3.ensures (told_none _ _ 0)))))
+    (told_then
+    (told_then bus named.discipline.ensures)
+    (told_then d.field.ensures (told_then a.field2.ensures (told_then q.field3.ensures (told_none _ _ 0)))))
     (omega arith)
     c.put.ensures
 

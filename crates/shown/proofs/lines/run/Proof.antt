@@ -1,7 +1,7 @@
 -- `lines::run` meets its contract: the word, the number and the newline. Assumes nothing.
 use native.Mathlib.Omega.{arith}
 use borrow.Author.Rules.{rules}
-use Rattle.text.proofs.Stores.{told_none, told-then}
+use Rattle.text.proofs.Stores.{told_none, told_then}
 use Rattle.shown.proofs.Storing.{closed}
 use Rattle.shown.proofs.lines.run.Statement.{statement}
 use Rattle.shown.proofs.lines.run.Tie as tie
@@ -17,7 +17,7 @@ put-requires c κs = search rules
 
 returns : tie.Need-returns
 returns c =
-    closed (told-then c.before.before.field.ensures (told_none _ _ 0)) (omega arith) c.put.ensures
+    closed (told_then c.before.before.field.ensures (told_none _ _ 0)) (omega arith) c.put.ensures
 
 pub run_spec : {M : Type 1} → statement M
 run_spec = tie.close (tie.spec slice-aggregate-field field-requires put-requires returns)

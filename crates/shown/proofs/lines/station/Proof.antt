@@ -5,7 +5,7 @@ use borrow.Author.Rules.{rules}
 use borrow.Author.Tests.{eq-eqb, ne_eqb}
 use Rattle.text.specs.Text.{bytes}
 use Rattle.text.specs.Parts.{Told}
-use Rattle.text.proofs.Stores.{told_none, told-then}
+use Rattle.text.proofs.Stores.{told_none, told_then}
 use Rattle.layout.specs.Layout.{address_label}
 use Rattle.shown.specs.Shown.{fields_text}
 use Rattle.shown.proofs.Storing.{told_here, closed}
@@ -26,7 +26,7 @@ begun :
 begun c =
     let word = c.before.before in
     let args = word.before.before.before.args in
-    told-then (told_here args.room.now 0 (bytes "station") (omega arith) word.letters.ensures) c.address.ensures
+    told_then (told_here args.room.now 0 (bytes "station") (omega arith) word.letters.ensures) c.address.ensures
 
 slice-aggregate-letters : tie.Need-slice-aggregate-letters
 slice-aggregate-letters c = search rules
@@ -52,7 +52,7 @@ returns c =
     let test = able.before.before.before in
     rw
     (eq-eqb _ _ test.if1.true)
-    (closed (told-then (begun test.before.before) (told-then able.field.ensures (told_none _ _ 0))) (omega arith) c.put.ensures)
+    (closed (told_then (begun test.before.before) (told_then able.field.ensures (told_none _ _ 0))) (omega arith) c.put.ensures)
 
 put-requires-2 : tie.Need-put-requires-2
 put-requires-2 c κs = search rules
@@ -60,7 +60,7 @@ put-requires-2 c κs = search rules
 returns-2 : tie.Need-returns-2
 returns-2 c =
     let test = c.before.before in
-    rw (ne_eqb _ _ test.if1.false) (closed (told-then (begun test.before.before) (told_none _ _ 0)) (omega arith) c.put2.ensures)
+    rw (ne_eqb _ _ test.if1.false) (closed (told_then (begun test.before.before) (told_none _ _ 0)) (omega arith) c.put2.ensures)
 
 pub station_spec : {M : Type 1} → statement M
 station_spec =

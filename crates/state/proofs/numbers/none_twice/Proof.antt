@@ -4,7 +4,7 @@ use Prim.Native.Nat.{◌-◌, ◌≤◌}
 use mathlib.Core.Path.{◌≡◌}
 use native.Mathlib.Omega.{arith}
 use borrow.Author.Rules.{rules}
-use Rattle.state.proofs.Found.{Known, known_start, known_end, Way, way-start, way-again, way_on, known_more}
+use Rattle.state.proofs.Found.{Known, known_start, known_end, Way, way_start, way_again, way_on, known_more}
 use Rattle.state.proofs.numbers.none_twice.Statement.{statement}
 use Rattle.state.proofs.numbers.none_twice.Tie as tie
 
@@ -33,7 +33,7 @@ cast-at : tie.Need-overflow-cast-at invariant-loop2 decreases-loop2 invariant-lo
 cast-at c = search rules
 
 loop2-holds : tie.Need-loop2-init invariant-loop2 decreases-loop2 invariant-loop decreases-loop
-loop2-holds c = way-start c.before.before.loop.invariant.1
+loop2-holds c = way_start c.before.before.loop.invariant.1
 
 mul-link : tie.Need-overflow-mul-link invariant-loop2 decreases-loop2 invariant-loop decreases-loop
 mul-link c = search rules
@@ -57,7 +57,7 @@ returns : tie.Need-returns invariant-loop2 decreases-loop2 invariant-loop decrea
 returns c =
     let at = c.before.before.before in
     let turn = at.before.before in
-    way-again at.loop2.invariant turn.loop-test.true turn.before.before.requires.1 (omega arith) c.if1.true
+    way_again at.loop2.invariant turn.loop-test.true turn.before.before.requires.1 (omega arith) c.if1.true
 
 mul_at : tie.Need-overflow-mul-at invariant-loop2 decreases-loop2 invariant-loop decreases-loop
 mul_at c = search rules

@@ -40,14 +40,14 @@ turn :
     (c : tie.After-same-capability invariant-loop decreases-loop)
     → let args = c.before.before.before.before.args in
     some_of (has_it args.capability) (take args.n args.t1)
-    ≡ (c.same-capability.result
+    ≡ (c.same_capability.result
     || some_of (has_it args.capability) (slice (c.before.before.before.loop.i + 1) args.n args.t1))
 turn c =
     let at = c.before.before.before in
     let start = at.before in
     let places : length start.args.t1 ≡ 64 = start.well-formed.0.1.0.1 in
     let room : start.args.n ≤ length start.args.t1 = omega arith in
-    at.loop.invariant ∙ some_turn _ _ at.loop.i _ nobody c.before.before.loop-test.true room c.same-capability.ensures
+    at.loop.invariant ∙ some_turn _ _ at.loop.i _ nobody c.before.before.loop-test.true room c.same_capability.ensures
 
 returns : tie.Need-returns invariant-loop decreases-loop
 returns c = sym (turn c.before ∙ rw c.if1.true)

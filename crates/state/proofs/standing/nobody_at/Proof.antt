@@ -19,7 +19,7 @@ nobody c =
     let one = c.before.before in
     true-and
     (granted one.before.same_address.ensures one.if1.false)
-    (granted c.before.same-capability.ensures c.if2.false)
+    (granted c.before.same_capability.ensures c.if2.false)
 
 same-address-requires : tie.Need-same-address-requires
 same-address-requires c κs = search rules
@@ -33,7 +33,7 @@ same-capability-requires c κs = search rules
 returns-2 : tie.Need-returns-2
 returns-2 c =
     let one = c.before.before in
-    rw (granted one.before.same_address.ensures one.if1.false, denied c.before.same-capability.ensures c.if2.true)
+    rw (granted one.before.same_address.ensures one.if1.false, denied c.before.same_capability.ensures c.if2.true)
 
 returns-3 : tie.Need-returns-3
 returns-3 c = rw (nobody c.before.before, ne_eqb _ _ c.if3.true)

@@ -14,8 +14,8 @@ use Rattle.rules.specs.Bus.{numbers_in}
 use Rattle.state.specs.State.{Segment, Queues, places_at}
 use Rattle.state.specs.Parts.{place_sound, queues_sound}
 use Rattle.state.proofs.Tested.{denied, granted, passed, failed}
-use Rattle.state.proofs.Places.{queues_arrays, taken-one, taken-all, written_one, written_all}
-use Rattle.state.proofs.StandingParts.{next, from_place, place_first, place_fails, place-passes, places-end}
+use Rattle.state.proofs.Places.{queues_arrays, taken_one, taken_all, written_one, written_all}
+use Rattle.state.proofs.StandingParts.{next, from_place, place_first, place_fails, place_passes, places-end}
 use Rattle.state.proofs.standing.queues_stand.Statement.{statement}
 use Rattle.state.proofs.standing.queues_stand.Tie as tie
 
@@ -135,7 +135,7 @@ loop2-again c =
     let i = at.loop.i in
     let j = turn.loop2.j in (
       search rules,
-      taken-one (row at) i j (omega arith) (full at) (omega arith) turn.loop2.invariant.1,
+      taken_one (row at) i j (omega arith) (full at) (omega arith) turn.loop2.invariant.1,
       written_one (row at) i at.loop.waiting at.loop.numbers (omega arith) (full at) (omega arith) j (omega arith) turn.loop2.invariant.2,
     )
 
@@ -155,7 +155,7 @@ told :
 told c =
     let inner = c.before.before.before.before in
     let at = inner.before.before.before.before.before.before.before.before.before in
-    rw (taken-all (row at) at.loop.i inner.loop2.j (omega arith) (full at) (omega arith) inner.loop2.invariant.1, inner.before.before.before.before.before.before.test.ensures) at c.place-stands.ensures
+    rw (taken_all (row at) at.loop.i inner.loop2.j (omega arith) (full at) (omega arith) inner.loop2.invariant.1, inner.before.before.before.before.before.before.test.ensures) at c.place-stands.ensures
 
 sound :
     (c : tie.Else1 invariant-loop2 decreases-loop2 invariant-loop decreases-loop)
@@ -193,7 +193,7 @@ loop-again c =
       omega arith,
       more.0 ∙ at.loop.invariant.2,
       at.loop.invariant.3
-          ∙ place-passes (lent at) (row at) (seen at) i here (sound c) more.1,
+          ∙ place_passes (lent at) (row at) (seen at) i here (sound c) more.1,
     )
 
 -- at the end: the count and the numbers are left

@@ -12,7 +12,7 @@ same-capability-requires c κs = search rules
 returns : tie.Need-returns
 returns c =
     let start = c.before.before.before.before.before in
-    rw (not-true start.args.g.round.won c.before.if1.true) (c.same-capability.ensures ∙ sym (and-true _))
+    rw (not-true start.args.g.round.won c.before.if1.true) (c.same_capability.ensures ∙ sym (and-true _))
 
 returns-2 : tie.Need-returns-2
 returns-2 c =

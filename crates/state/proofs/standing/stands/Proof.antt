@@ -10,7 +10,7 @@ use Rattle.rules.specs.Bus.{clock_end, most_admitted, most_turned, most_stations
 use Rattle.rules.specs.SetUp.{set_up_verdict}
 use Rattle.state.specs.State.{State, standing}
 use Rattle.state.proofs.Tested.{denied, granted, passed, failed}
-use Rattle.state.proofs.StandingParts.{tried, few_tried, state_held, not_set_up, from_contention, from_round, from_turned, from_admitted, standing-parts}
+use Rattle.state.proofs.StandingParts.{tried, few_tried, state_held, not_set_up, from_contention, from_round, from_turned, from_admitted, standing_parts}
 use Rattle.state.proofs.standing.stands.Statement.{statement}
 use Rattle.state.proofs.standing.stands.Tie as tie
 
@@ -26,7 +26,7 @@ few : (c : tie.Else1) → (lent c).segment.settings.n ≤ most_stations
 few c = few_tried (lent c) (asked c)
 
 after_set_up : (c : tie.Else1) → standing (lent c) ≡ (leb (lent c).segment.clock.0 clock_end && from_admitted (lent c))
-after_set_up c = standing-parts (lent c) (state_held (lent c) _ c.before.before.before.before.before.before.well-formed.0) (asked c)
+after_set_up c = standing_parts (lent c) (state_held (lent c) _ c.before.before.before.before.before.before.well-formed.0) (asked c)
 
 after_clock : (c : tie.Else2) → let s = lent c.before.before in standing s ≡ from_admitted s
 after_clock c =

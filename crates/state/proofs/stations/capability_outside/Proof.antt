@@ -16,7 +16,7 @@ same-capability-requires : tie.Need-same-capability-requires
 same-capability-requires c κs = search rules
 
 returns-2 : tie.Need-returns-2
-returns-2 c = simp (ne_eqb _ _ c.before.if1.false) (ap not c.same-capability.ensures)
+returns-2 c = simp (ne_eqb _ _ c.before.if1.false) (ap not c.same_capability.ensures)
 
 pub capability_outside_spec : {M : Type 1} → statement M
 capability_outside_spec =

@@ -11,7 +11,7 @@ use borrow.Author.Rules.{rules}
 use borrow.Author.Tests.{eq-eqb, ne_eqb}
 use Rattle.state.specs.SetUp.{request_with}
 use Rattle.state.specs.Parts.{Addresses, Capabilities}
-use Rattle.state.proofs.SettingUp.{stations_count, shared_from, earlier-turn, earlier-end, fault_from, faulty-turn, faulty_end}
+use Rattle.state.proofs.SettingUp.{stations_count, shared_from, earlier_turn, earlier_end, fault_from, faulty_turn, faulty_end}
 use Rattle.state.proofs.stations.first_faulty.Statement.{statement}
 use Rattle.state.proofs.stations.first_faulty.Tie as tie
 
@@ -72,8 +72,8 @@ loop2-again c =
     let i = at.loop.i in
     let e = told.e in (
       search rules,
-      earlier-turn Addresses stations i e told.address _ count (omega arith) (omega arith) c.before.earlier-same.ensures told.invariant.1,
-      earlier-turn Capabilities stations i e told.capability _ count (omega arith) (omega arith) c.earlier-same2.ensures told.invariant.2,
+      earlier_turn Addresses stations i e told.address _ count (omega arith) (omega arith) c.before.earlier-same.ensures told.invariant.1,
+      earlier_turn Capabilities stations i e told.capability _ count (omega arith) (omega arith) c.earlier-same2.ensures told.invariant.2,
     )
 
 station-verdict-requires : tie.Need-station-verdict-requires invariant-loop2 decreases-loop2 invariant-loop decreases-loop
@@ -94,10 +94,10 @@ turn c t told =
     let count = stations_count stations _ start.well-formed.1.0 in
     let i = at.loop.i in
     let e = inner.loop2.e in
-    let address = earlier-end Addresses stations i e _ inner.loop2.invariant.0 (omega arith) inner.loop2.invariant.1 in
-    let capability = earlier-end Capabilities stations i e _ inner.loop2.invariant.0 (omega arith) inner.loop2.invariant.2 in
+    let address = earlier_end Addresses stations i e _ inner.loop2.invariant.0 (omega arith) inner.loop2.invariant.1 in
+    let capability = earlier_end Capabilities stations i e _ inner.loop2.invariant.0 (omega arith) inner.loop2.invariant.2 in
     at.loop.invariant.1
-    ∙ faulty-turn (request_with start.args.settings []) stations i _ _ t count (omega arith) start.requires
+    ∙ faulty_turn (request_with start.args.settings []) stations i _ _ t count (omega arith) start.requires
     (c.station-verdict.ensures (take i stations) address capability) told
 
 returns : tie.Need-returns invariant-loop2 decreases-loop2 invariant-loop decreases-loop

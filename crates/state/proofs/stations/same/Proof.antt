@@ -19,7 +19,7 @@ returns : tie.Need-returns
 returns c = rw c.before.enum_told.given.1 c.same_address.ensures
 
 returns-2 : tie.Need-returns-2
-returns-2 c = rw c.before.enum-told2.given.1 c.same-capability.ensures
+returns-2 c = rw c.before.enum-told2.given.1 c.same_capability.ensures
 
 pub same_spec : {M : Type 1} → statement M
 same_spec =

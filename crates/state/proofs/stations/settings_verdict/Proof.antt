@@ -28,15 +28,15 @@ not_2 c row = tested _ _ refl (le-ltb _ _ c.if1.false)
 not_3 : (c : tie.Else2) (row : List Asked) → let g = c.before.before.before.before.args.settings in but g row 2 ≡ but g row 0
 not_3 c row = tested _ _ c.before.space-outside.ensures c.if2.false ∙ not_2 c.before.before row
 
-not-4 :
+not_4 :
     (c : tie.Else3) (row : List Asked)
     → let g = c.before.before.before.before.before.before.args.settings in but g row 3 ≡ but g row 0
-not-4 c row = tested _ _ c.before.space-outside2.ensures c.if3.false ∙ not_3 c.before.before row
+not_4 c row = tested _ _ c.before.space-outside2.ensures c.if3.false ∙ not_3 c.before.before row
 
-not-5 :
+not_5 :
     (c : tie.Else4) (row : List Asked)
     → let g = c.before.before.before.before.before.before.before.before.args.settings in but g row 4 ≡ but g row 0
-not-5 c row = tested _ _ c.before.step_outside.ensures c.if4.false ∙ not-4 c.before.before row
+not_5 c row = tested _ _ c.before.step_outside.ensures c.if4.false ∙ not_4 c.before.before row
 
 -- the test of 6, by the row's own length
 last :
@@ -47,7 +47,7 @@ last :
 last c t row e told =
     let a = c.before.before.before.before.before.before.before.before.before.args in
     tested _ _ (c.count-outside.ensures ∙ ap (λ k. outside 1 most_stations a.settings.n || ltb k a.settings.n) (sym e)) told
-    ∙ not-5 c.before row
+    ∙ not_5 c.before row
 
 fault-requires : tie.Need-fault-requires
 fault-requires c κs = search rules
@@ -86,7 +86,7 @@ fault-requires-4 c κs = search rules
 returns-4 : tie.Need-returns-4
 returns-4 c row e =
     let at = c.before in
-    c.fault4.ensures ∙ tested _ _ at.before.step_outside.ensures at.if4.true ∙ not-4 at.before.before row
+    c.fault4.ensures ∙ tested _ _ at.before.step_outside.ensures at.if4.true ∙ not_4 at.before.before row
 
 count-outside-requires : tie.Need-count-outside-requires
 count-outside-requires c κs = search rules

@@ -26,15 +26,15 @@ but c earlier k =
 not_7 : (c : tie.Else1) (earlier : List Listed) → let start = c.before.before in but start earlier 1 ≡ but start earlier 0
 not_7 c earlier = tested _ _ c.before.address-past.ensures c.if1.false
 
-not-8 :
+not_8 :
     (c : tie.Else2) (earlier : List Listed) → let start = c.before.before.before in
     start.args.address ≡ shared Addresses start.args.s earlier → but start earlier 2 ≡ but start earlier 0
-not-8 c earlier a = tested _ _ a c.if2.false ∙ not_7 c.before earlier
+not_8 c earlier a = tested _ _ a c.if2.false ∙ not_7 c.before earlier
 
-not-9 :
+not_9 :
     (c : tie.Else3) (earlier : List Listed) → let start = c.before.before.before.before.before in
     start.args.address ≡ shared Addresses start.args.s earlier → but start earlier 3 ≡ but start earlier 0
-not-9 c earlier a = tested _ _ c.before.capability_outside.ensures c.if3.false ∙ not-8 c.before.before earlier a
+not_9 c earlier a = tested _ _ c.before.capability_outside.ensures c.if3.false ∙ not_8 c.before.before earlier a
 
 -- the test of 10 in RTVC
 last :
@@ -42,7 +42,7 @@ last :
     start.args.address ≡ shared Addresses start.args.s earlier → start.args.capability ≡ shared Capabilities start.args.s earlier
     → start.args.capability ≡ t → verdict t (fault 10 start.args.i) fine ≡ but start earlier 0
 last c earlier t a b told =
-    tested _ _ (sym (ap₂ ◌&&◌ (eq-eqb _ _ c.if4.false) (sym b))) told ∙ not-9 c.before.before earlier a
+    tested _ _ (sym (ap₂ ◌&&◌ (eq-eqb _ _ c.if4.false) (sym b))) told ∙ not_9 c.before.before earlier a
 
 address-past-requires : tie.Need-address-past-requires
 address-past-requires c κs = search rules
@@ -70,7 +70,7 @@ fault-requires-3 c κs = search rules
 returns-3 : tie.Need-returns-3
 returns-3 c earlier a b =
     let at = c.before in
-    c.fault3.ensures ∙ tested _ _ at.before.capability_outside.ensures at.if3.true ∙ not-8 at.before.before earlier a
+    c.fault3.ensures ∙ tested _ _ at.before.capability_outside.ensures at.if3.true ∙ not_8 at.before.before earlier a
 
 fault-requires-4 : tie.Need-fault-requires-4
 fault-requires-4 c κs = search rules
@@ -78,7 +78,7 @@ fault-requires-4 c κs = search rules
 returns-4 : tie.Need-returns-4
 returns-4 c earlier a b =
     let at = c.before in
-    c.fault4.ensures ∙ tested _ _ (sym (ap₂ ◌&&◌ (ne_eqb _ _ at.if4.true) refl)) refl ∙ not-9 at.before.before earlier a
+    c.fault4.ensures ∙ tested _ _ (sym (ap₂ ◌&&◌ (ne_eqb _ _ at.if4.true) refl)) refl ∙ not_9 at.before.before earlier a
 
 fault-requires-5 : tie.Need-fault-requires-5
 fault-requires-5 c κs = search rules
