@@ -60,7 +60,7 @@ fn over(state: State) -> Play
 pub fn open(input: &[u8], room: &mut [u8; 65536]) -> Turn
     ensures value { result ≡ turn_form (opened input.now) }
     ensures room_after { room.new ≡ room_with (opened input.now).text room.old }
-    ensures length_le_room_bytes { result.length ≤ room_bytes }
+    ensures length_bound { result.length ≤ room_bytes }
 {
     let s = scenario::read(input);
     let state = s.state;
@@ -167,7 +167,7 @@ fn go_on(input: &[u8], play: Play, room: &mut [u8; 65536]) -> Turn
 pub fn next(input: &[u8], play: Play, room: &mut [u8; 65536]) -> Turn
     ensures value { result ≡ turn_form (turn input.now play) }
     ensures room_after { room.new ≡ room_with (turn input.now play).text room.old }
-    ensures length_le_room_bytes { result.length ≤ room_bytes }
+    ensures length_bound { result.length ≤ room_bytes }
 {
     if !play.going {
         return Turn { length: 0, play };
