@@ -1,5 +1,7 @@
 // The text of a sheet, in room that the caller lends: a heading, a line for each run, the sums and the highest loss (docs/SHEET.md). Every
 // call takes any input.
+#![tactic(auto)]
+
 ghost use Rattle.std.specs.Prelude.{◌≡◌, length, ◌≤◌};
 ghost use Rattle.text.specs.Room.{room_bytes, room_with};
 ghost use Rattle.page.specs.Page.{heading_text, line_text, closing_text, sheet_text};
@@ -9,14 +11,14 @@ use sheet::{Highest, Run, Sheet, Sums};
 mod lines;
 
 // Why a scenario has no row: the number of its refusal, and the offset.
-#[derive(Drop)]
+#[derive(Clone, Copy)]
 pub struct Refusal {
     pub number: u32,
     pub offset: usize,
 }
 
 // What a line of a sheet is of: a finished run, a scenario that was refused, or a file that could not be read.
-#[derive(Drop)]
+#[derive(Clone, Copy)]
 pub enum Entry {
     Run(Run),
     Refused(Refusal),
