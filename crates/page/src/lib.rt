@@ -11,14 +11,14 @@ use sheet::{Highest, Run, Sheet, Sums};
 mod lines;
 
 // Why a scenario has no row: the number of its refusal, and the offset.
-#[derive(Clone, Copy)]
+#[derive(Drop)]
 pub struct Refusal {
     pub number: u32,
     pub offset: usize,
 }
 
 // What a line of a sheet is of: a finished run, a scenario that was refused, or a file that could not be read.
-#[derive(Clone, Copy)]
+#[derive(Drop)]
 pub enum Entry {
     Run(Run),
     Refused(Refusal),

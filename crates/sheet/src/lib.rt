@@ -49,7 +49,7 @@ pub enum Highest {
 }
 
 // The rows of the runs, zeros past them; how many there are; what is said over all.
-#[derive(Clone, Copy)]
+#[derive(Drop)]
 pub struct Sheet {
     pub rows: [Run; 256],
     pub count: usize,
@@ -58,7 +58,7 @@ pub struct Sheet {
 }
 
 // A sheet, or the number of a refusal, with the place of the run that does not balance for 24, and the sheet of no run.
-#[derive(Clone, Copy)]
+#[derive(Drop)]
 pub struct Drawn {
     pub refusal: u32,
     pub place: usize,

@@ -6,7 +6,7 @@ ghost use Rattle.sheet.specs.Words.{word, words, number};
 const HALF: u64 = 4_294_967_296;
 
 // A number of 128 bits.
-#[derive(Clone, Copy)]
+#[derive(Drop)]
 pub struct Words {
     pub high: u64,
     pub low: u64,
