@@ -17,6 +17,9 @@ const STDOUT: i32 = 1;
 // The bytes that there is space for: one more than a scenario may have, which is enough to see that it is too long.
 const SPACE: usize = 65_537;
 
+// Where the name of a file is no UTF-8, the file is open at this descriptor and as many more as its argument's place (tools/run sees to it).
+const HANDED: usize = 600;
+
 // What became of a file: whether it could be read, and what was measured; the run of one that could not be read, or that is refused, is zero.
 #[derive(Clone, Copy)]
 struct File {
@@ -70,13 +73,37 @@ fn measured(file: &mut fs::File) -> File {
     }
 }
 
-// What becomes of a file with this name. The library opens a file by a name that is text, so that one with another name cannot be read.
-fn opened(rt: &HostRuntime, name: &[u8]) -> File {
-    let Ok(path) = str::from_utf8(name) else {
-        return UNREAD;
-    };
+// What becomes of the file at a path.
+fn opened(rt: &HostRuntime, path: &str) -> File {
     match fs::open(rt, path) {
         Ok(mut file) => measured(&mut file),
+        Err(_) => UNREAD,
+    }
+}
+
+// The last digit of a number.
+fn digit(n: usize) -> u8 {
+    b'0' + (n % 10) as u8
+}
+
+// The path of the open file that is handed over for an argument.
+fn handed(i: usize) -> [u8; 11] {
+    let n = HANDED + i % 400;
+    let mut path = *b"/dev/fd/000";
+    path[8] = digit(n / 100);
+    path[9] = digit(n / 10);
+    path[10] = digit(n);
+    path
+}
+
+// What becomes of the file with this name, which an argument has. The library opens a file by text alone: one with a name that is no UTF-8 has
+// to be handed over.
+fn found(rt: &HostRuntime, i: usize, name: &[u8]) -> File {
+    if let Ok(path) = str::from_utf8(name) {
+        return opened(rt, path);
+    }
+    match str::from_utf8(&handed(i)) {
+        Ok(path) => opened(rt, path),
         Err(_) => UNREAD,
     }
 }
@@ -95,7 +122,7 @@ fn argument(rt: &HostRuntime, i: usize, name: &mut [u8; 4096]) -> usize
 fn played(rt: &HostRuntime, i: usize) -> File {
     let mut name = io::buffer();
     let length = argument(rt, i, &mut name);
-    opened(rt, &name[..length])
+    found(rt, i, &name[..length])
 }
 
 // What a line is of.
