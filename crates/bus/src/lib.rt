@@ -38,7 +38,7 @@ const NO_ANSWER: Answer = Answer {
 };
 
 // An admission's answer, and the state.
-#[derive(Drop)]
+#[derive(Clone, Copy)]
 pub struct Admission {
     pub answer: Admitted,
     pub state: State,
@@ -46,7 +46,7 @@ pub struct Admission {
 
 // A begin's answer: the drops, the slot, the first window's start and size; the word of contenders, and by station the contender's address, its
 // packet's number and its parameter. What has no meaning is zero.
-#[derive(Drop)]
+#[derive(Clone, Copy)]
 pub struct Begun {
     pub refusal: u32,
     pub drops: u64,
@@ -60,7 +60,7 @@ pub struct Begun {
 }
 
 // A begin's answer, and the state.
-#[derive(Drop)]
+#[derive(Clone, Copy)]
 pub struct Started {
     pub answer: Begun,
     pub state: State,
@@ -69,7 +69,7 @@ pub struct Started {
 // The answer to a step or a probe; the drops of a probe are 0. Phase 0 is the parameter phase, 1 the tie phase; event 0 idle, 1 collision,
 // 2 success. The address, the packet's number, its length and its wait, the number of slots from its admission slot to the slot probed, are 0
 // unless one succeeded.
-#[derive(Drop)]
+#[derive(Clone, Copy)]
 pub struct Answer {
     pub refusal: u32,
     pub drops: u64,
@@ -86,7 +86,7 @@ pub struct Answer {
 }
 
 // The answer to a step or a probe, and the state.
-#[derive(Drop)]
+#[derive(Clone, Copy)]
 pub struct Stepped {
     pub answer: Answer,
     pub state: State,
@@ -94,7 +94,7 @@ pub struct Stepped {
 
 // The arrivals that come next in a run: the first `length` of the places; a length above 64 counts as 64. Where all are filled there
 // may be more.
-#[derive(Drop)]
+#[derive(Clone, Copy)]
 pub struct Arrivals {
     pub row: [Arrival; 64],
     pub length: usize,
@@ -102,7 +102,7 @@ pub struct Arrivals {
 
 // What is said of a call in a stretch: of an arrival the clock, its address and the answer to its admission; of a step the clock and
 // its answer. What has no meaning is zero.
-#[derive(Drop)]
+#[derive(Clone, Copy)]
 pub struct Report {
     pub arrival: bool,
     pub clock: Slot,
@@ -113,7 +113,7 @@ pub struct Report {
 
 // A stretch of a run: the reports of the calls made, zeros past them; how many arrivals have been taken, the state, and how many steps are
 // left. The state lies before the shorter number: after that and its padding the compiled code would hold it twice as it is handed back.
-#[derive(Drop)]
+#[derive(Clone, Copy)]
 pub struct Stretch {
     pub reports: [Report; 512],
     pub made: usize,
@@ -123,7 +123,7 @@ pub struct Stretch {
 }
 
 // What a listing closes with, the packets turned away last; the refusal number, or 0, and zeros where refused.
-#[derive(Drop)]
+#[derive(Clone, Copy)]
 pub struct Totals {
     pub refusal: u32,
     pub clock: Slot,
@@ -138,28 +138,28 @@ pub struct Totals {
 // one module.
 
 // Which packets leave a queue: in a discipline, those whose latest start is below a slot; or the one with a number.
-#[derive(Drop)]
+#[derive(Clone, Copy)]
 enum Leaving {
     Late(u32, Slot),
     Sent(u32),
 }
 
 // The packet that a station offers, if it has one.
-#[derive(Drop)]
+#[derive(Clone, Copy)]
 struct Chosen {
     pub found: bool,
     pub packet: Packet,
 }
 
 // The answer to an admission, and its station's place where it is accepted.
-#[derive(Drop)]
+#[derive(Clone, Copy)]
 struct Asked {
     pub place: usize,
     pub answer: Admitted,
 }
 
 // What a probe moves.
-#[derive(Drop)]
+#[derive(Clone, Copy)]
 struct Progress {
     pub clock: Slot,
     pub sent: u64,
@@ -168,14 +168,14 @@ struct Progress {
 }
 
 // A probe's answer, and what it has moved.
-#[derive(Drop)]
+#[derive(Clone, Copy)]
 struct Moved {
     pub answer: Answer,
     pub progress: Progress,
 }
 
 // What a probe hears in a segment: its answer, the sole winner's place, which is 0 where there is none, and the segment after it.
-#[derive(Drop)]
+#[derive(Clone, Copy)]
 struct Heard {
     pub answer: Answer,
     pub place: usize,

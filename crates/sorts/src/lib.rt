@@ -11,10 +11,10 @@ pub mod counts;
 pub mod disciplines;
 
 // 'Slots, addresses and capabilities count three separate things.'
-#[derive(Drop)]
+#[derive(Clone, Copy)]
 pub struct Address(pub u32);
 
-#[derive(Drop)]
+#[derive(Clone, Copy)]
 pub struct Capability(pub u32);
 
 // Whether slot t comes before slot u.

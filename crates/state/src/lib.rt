@@ -1,5 +1,6 @@
 // The state of a bus segment: what it is made of, the set-up that it comes from, and the conditions that it stands by (`standing::stands`).
 // Every exported function takes any input.
+#![tactic(auto)]
 ghost use Rattle.std.specs.Prelude.{◌≡◌};
 ghost use Rattle.rules.specs.Bus.{nothing};
 ghost use Rattle.state.specs.State.{form};
@@ -15,7 +16,7 @@ mod stations;
 pub mod zeros;
 
 // The numbers of a set-up: discipline 0 PRI, 1 RTDG, 2 RTVC; parameter space d, address space a, laxity step q, n stations.
-#[derive(Drop)]
+#[derive(Clone, Copy)]
 pub struct Settings {
     pub discipline: u32,
     pub d: u32,
@@ -25,21 +26,21 @@ pub struct Settings {
 }
 
 // A station as it is listed in the set-up.
-#[derive(Drop)]
+#[derive(Clone, Copy)]
 pub struct Listed {
     pub address: Address,
     pub capability: Capability,
 }
 
 // The row of stations that a set-up is given: the first `length` of the places; there are no more than 64.
-#[derive(Drop)]
+#[derive(Clone, Copy)]
 pub struct Row {
     pub stations: [Listed; 64],
     pub length: usize,
 }
 
 // A station's place among the contenders: whether it contends, and then its parameter and packet, else zeros.
-#[derive(Drop)]
+#[derive(Clone, Copy)]
 pub struct Contender {
     pub contends: bool,
     pub parameter: u64,
@@ -47,7 +48,7 @@ pub struct Contender {
 }
 
 // The contention, if one is under way: its window, and in the tie phase the tie value. What has no meaning is zero.
-#[derive(Drop)]
+#[derive(Clone, Copy)]
 pub struct Contention {
     pub begun: bool,
     pub window: Window,
@@ -56,7 +57,7 @@ pub struct Contention {
 }
 
 // The RTVC round: whether a circuit has won in it, and the last winner's capability, or 0.
-#[derive(Drop)]
+#[derive(Clone, Copy)]
 pub struct Round {
     pub won: bool,
     pub last: Capability,
@@ -65,7 +66,7 @@ pub struct Round {
 // All of the state but the queues: what a probe reads and writes. Stations stand in listed order. The counts are packets admitted, sent, lost
 // and turned away. The contenders are a word, 'station i in listed order at bit i', and what each has beside its bit, in rows of plain
 // numbers: its parameter, and the number, value, length and admission slot of its packet.
-#[derive(Drop)]
+#[derive(Clone, Copy)]
 pub struct Segment {
     pub settings: Settings,
     pub listed: [Listed; 64],
@@ -86,35 +87,35 @@ pub struct Segment {
 
 // The queues: how many packets each station has, and '16 packets a station, so 1,024 places in all'. Station i owns the sixteen
 // places from 16 × i on.
-#[derive(Drop)]
+#[derive(Clone, Copy)]
 pub struct Queues {
     pub lengths: [usize; 64],
     pub packets: [Packet; 1024],
 }
 
 // The state, which goes in by value and comes back by value.
-#[derive(Drop)]
+#[derive(Clone, Copy)]
 pub struct State {
     pub segment: Segment,
     pub queues: Queues,
 }
 
 // One station's queue: its first `length` places are filled, the others zero.
-#[derive(Drop)]
+#[derive(Clone, Copy)]
 pub struct Queue {
     pub packets: [Packet; 16],
     pub length: usize,
 }
 
 // A set-up's answer, and the state.
-#[derive(Drop)]
+#[derive(Clone, Copy)]
 pub struct SetUp {
     pub verdict: Verdict,
     pub state: State,
 }
 
 // An arrival: an admission that is asked for once the clock has come to its time.
-#[derive(Drop)]
+#[derive(Clone, Copy)]
 pub struct Arrival {
     pub time: Slot,
     pub address: Address,
@@ -123,7 +124,7 @@ pub struct Arrival {
 }
 
 // Which of their numbers two stations are compared by.
-#[derive(Drop)]
+#[derive(Clone, Copy)]
 enum Compared {
     Addresses,
     Capabilities,

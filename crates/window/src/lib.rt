@@ -4,14 +4,14 @@ ghost use Rattle.std.specs.Prelude.{◌≡◌};
 ghost use Rattle.window.specs.Splitting.{exponent_of, first_window, left_half, moved_right, in_window, is_power, placed, same_side};
 
 // Which half of its parent a window is; the first window counts as right (Figure 6, line 3).
-#[derive(Drop)]
+#[derive(Clone, Copy)]
 pub enum Side {
     Left,
     Right,
 }
 
 // The numbers from start up to, but not with, start + size.
-#[derive(Drop)]
+#[derive(Clone, Copy)]
 pub struct Window {
     pub start: u64,
     pub size: u64,
