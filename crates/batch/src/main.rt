@@ -1,8 +1,13 @@
 // A test program: a batch of runs on standard input, in bytes, to its sheet on standard output (docs/SHEET.md).
-ghost use Rattle.std.specs.Prelude.{◌<◌, ◌≤◌};
+#![tactic(auto)]
 
-use libc::STDOUT_FILENO;
+ghost use Rattle.std.specs.Prelude.{◌<◌, ◌≤◌, IfOk};
+
 use sheet::{Run, Sheet};
+use std::io::{self, ErrorKind, Read};
+
+// The bytes that there is room for.
+const ROOM: usize = 65_536;
 
 // The byte at an offset; 'Where the input ends early, the bytes that are missing are zero.'
 fn one(input: &[u8], at: usize) -> u64
@@ -54,33 +59,50 @@ fn count(input: &[u8]) -> usize {
 }
 
 // 'REFUSED number place'
-fn refuse(refusal: u32, place: usize) {
-    io::write_all(STDOUT_FILENO, b"REFUSED ");
-    io::print_decimal(STDOUT_FILENO, refusal as u64);
-    io::write_all(STDOUT_FILENO, b" ");
-    io::print_decimal(STDOUT_FILENO, place as u64);
-    io::write_all(STDOUT_FILENO, b"\n");
+fn refuse(rt: &impl Print, refusal: u32, place: usize) -> io::Result<()> {
+    println!(rt; "REFUSED {refusal} {place}")
 }
 
 // Writes the text of a sheet.
-fn write(sheet: Sheet) {
-    let mut room = io::large_buffer();
+fn write(rt: &impl Print, sheet: Sheet) -> io::Result<()> {
+    let mut room = [0u8; 65536];
     let length = page::write(sheet, &mut room);
-    io::write_all(STDOUT_FILENO, &room[..length]);
+    rt.write_all(&room[..length])
 }
 
 // Draws the batch in the input.
-fn draw(input: &[u8]) {
+fn draw(rt: &impl Print, input: &[u8]) -> io::Result<()> {
     let drawn = sheet::draw(runs(input), count(input));
     if drawn.refusal != 0 {
-        refuse(drawn.refusal, drawn.place);
-        return;
+        return refuse(rt, drawn.refusal, drawn.place);
     }
-    write(drawn.sheet);
+    write(rt, drawn.sheet)
 }
 
-fn main() {
-    let mut input = io::large_buffer();
-    let got = io::read_full(0, &mut input);
-    draw(&input[..got]);
+// Reads until the room is full or the input ends, and hands out how many bytes there are. A read that a signal interrupts is made again.
+fn read_full(input: &mut impl Read, room: &mut [u8; 65536]) -> io::Result<usize>
+    ensures { IfOk result (λ n. n ≤ 65_536) }
+{
+    let mut got = 0;
+    for _ in 0..u64::MAX {
+        if ROOM <= got {
+            break;
+        }
+        match input.read(&mut room[got..]) {
+            Ok(0) => break,
+            Ok(n) => got += n,
+            Err(e) => {
+                if e.kind() != ErrorKind::Interrupted {
+                    return Err(e);
+                }
+            }
+        }
+    }
+    Ok(got)
+}
+
+fn main(rt: HostRuntime) -> io::Result<()> {
+    let mut room = [0u8; 65536];
+    let got = read_full(&mut rt.stdin(), &mut room)?;
+    draw(&rt, &room[..got])
 }

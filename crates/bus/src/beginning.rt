@@ -32,9 +32,9 @@ fn contender_for(
     queue: Queue,
 ) -> Contender
     requires length_bound { queue.length ≤ 16 }
-    requires le_q { 1 ≤ settings.q }
-    requires le_d { 1 ≤ settings.d }
-    requires capability_value { sits_out (discipline_of settings.discipline) (last_of round) l.capability.0 ≡ false }
+    requires q_positive { 1 ≤ settings.q }
+    requires d_positive { 1 ≤ settings.d }
+    requires takes_part { sits_out (discipline_of settings.discipline) (last_of round) l.capability.0 ≡ false }
     ensures { result ≡ contender_for settings clock round l (packets_of queue) }
 {
     let chosen = waiting::chosen(queue, settings.discipline);
@@ -54,9 +54,9 @@ fn contender_for(
 // out copies the whole row. The listed stations are taken out once: to read one of them in a segment that came by value would copy it whole.
 fn offers_of(g: Segment, queues: Queues) -> Segment
     requires n_bound { g.settings.n ≤ 64 }
-    requires by_index { (i : ℕ) → i < g.settings.n → get_or queues.lengths i 0 ≤ 16 }
-    requires le_q { 1 ≤ g.settings.q }
-    requires le_d { 1 ≤ g.settings.d }
+    requires lengths_bound { (i : ℕ) → i < g.settings.n → get_or queues.lengths i 0 ≤ 16 }
+    requires q_positive { 1 ≤ g.settings.q }
+    requires d_positive { 1 ≤ g.settings.d }
     ensures { result ≡ offers_of g queues }
 {
     let settings = g.settings;
@@ -136,9 +136,9 @@ pub fn dropped(before: [usize; 64], after: [usize; 64], n: usize) -> u64
 // The segment as a contention begins, where so many late packets have left the queues: each station offers one packet.
 pub fn begun(g: Segment, queues: Queues, drops: u64) -> Segment
     requires n_bound { g.settings.n ≤ 64 }
-    requires by_index { (i : ℕ) → i < g.settings.n → get_or queues.lengths i 0 ≤ 16 }
-    requires le_q { 1 ≤ g.settings.q }
-    requires le_d { 1 ≤ g.settings.d }
+    requires lengths_bound { (i : ℕ) → i < g.settings.n → get_or queues.lengths i 0 ≤ 16 }
+    requires q_positive { 1 ≤ g.settings.q }
+    requires d_positive { 1 ≤ g.settings.d }
     requires drops_bound { g.lost + drops ≤ 18446744073709551615 }
     ensures { result ≡ begun_with g queues drops }
 {

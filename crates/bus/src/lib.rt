@@ -1,5 +1,7 @@
 // The engine: the calls on the state of a bus segment. Every call takes any input; bad input gets its number from the table of paper 01,
 // and the state comes back as lent, but for the count of packets turned away where an admission is refused with 14 or 15.
+#![tactic(auto)]
+
 ghost use Rattle.std.specs.Prelude.{◌≡◌, cond, ltb};
 ghost use Rattle.rules.specs.Bus.{last_slot};
 ghost use Rattle.rules.specs.Probe.{refused_answer};

@@ -62,8 +62,8 @@ pub fn late_offered(already: bool, discipline: u32, clock: Slot, value: u32) -> 
 
 // '(latest start - T) divided by q, rounded down, and D - 1 where that is larger'
 fn laxity(settings: Settings, clock: Slot, latest: Slot) -> u32
-    requires le_q { 1 ≤ settings.q }
-    requires le_d { 1 ≤ settings.d }
+    requires q_positive { 1 ≤ settings.q }
+    requires d_positive { 1 ≤ settings.d }
     ensures { result ≡ min ((latest.0 - clock.0) / settings.q) (settings.d - 1) }
 {
     let most = settings.d - 1;
@@ -76,8 +76,8 @@ fn laxity(settings: Settings, clock: Slot, latest: Slot) -> u32
 
 // The parameter of a packet that a station of this capability offers now.
 pub fn parameter(settings: Settings, clock: Slot, capability: Capability, packet: Packet) -> u64
-    requires le_q { 1 ≤ settings.q }
-    requires le_d { 1 ≤ settings.d }
+    requires q_positive { 1 ≤ settings.q }
+    requires d_positive { 1 ≤ settings.d }
     ensures { result ≡ parameter_for (discipline_of settings.discipline) settings clock capability packet }
 {
     let discipline = settings.discipline;

@@ -339,7 +339,7 @@ fn with_moved(g: Segment, m: Moved) -> Segment
 // works on the segment alone: a function that took the state by value would hold one more copy of it.
 pub fn heard_in(g: Segment, drops: u64) -> Heard
     requires clock_bound { g.clock.0 ≤ 1073741824 }
-    requires g_bound { (sole_of g (heard_in g)).packet.length ≤ 4096 }
+    requires packet_bound { (sole_of g (heard_in g)).packet.length ≤ 4096 }
     requires sent_bound { count_of (transmitters_in g) ≡ 1 → g.sent < 4294967295 }
     ensures { result ≡ heard_of g drops }
 {

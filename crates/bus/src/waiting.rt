@@ -26,8 +26,8 @@ fn stays(leaving: Leaving, p: Packet) -> bool
 // cleared. Each packet is taken out, and one that stays is put back in the first free place.
 pub fn without(mut queues: Queues, from: usize, to: usize, leaving: Leaving) -> Queues
     requires to_bound { to ≤ 64 }
-    requires by_index { (j : ℕ) → j < 64 → queue_of queues j ≡ queue_form (queue_at queues j) }
-    requires by_index_2 { (j : ℕ) → j < 64 → get_or queues.lengths j 0 ≤ 16 }
+    requires padded { (j : ℕ) → j < 64 → queue_of queues j ≡ queue_form (queue_at queues j) }
+    requires lengths_bound { (j : ℕ) → j < 64 → get_or queues.lengths j 0 ≤ 16 }
     ensures { (j : ℕ) → j < 64 → queue_of result j ≡ cond (leb from j && ltb j to) (queue_form (keep (stays leaving) (queue_at queues j))) (queue_of queues j) }
 {
     for i in from..to {

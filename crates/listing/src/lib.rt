@@ -1,5 +1,7 @@
 // The listing: a run is played turn by turn, and each turn puts its text into room that the caller lends. Every call takes any input and
 // any play.
+#![tactic(auto)]
+
 ghost use Rattle.std.specs.Prelude.{◌≤◌, ◌≡◌, false, take};
 ghost use Rattle.bus.specs.Coded.{totals_of};
 ghost use Rattle.text.specs.Room.{room_bytes, room_with};
@@ -27,7 +29,7 @@ const NO_ARRIVAL: Arrival = Arrival {
 };
 
 // A run that is played: the state, the offset of the record that is next in the input, the steps that are left, and whether it goes on.
-#[derive(Drop)]
+#[derive(Clone, Copy)]
 pub struct Play {
     pub state: State,
     pub at: usize,
@@ -36,7 +38,7 @@ pub struct Play {
 }
 
 // What a turn hands out: how many bytes of text it has put at the start of the room, and the run as it goes on.
-#[derive(Drop)]
+#[derive(Clone, Copy)]
 pub struct Turn {
     pub length: usize,
     pub play: Play,
@@ -58,7 +60,7 @@ fn over(state: State) -> Play
 pub fn open(input: &[u8], room: &mut [u8; 65536]) -> Turn
     ensures value { result ≡ turn_form (opened input.now) }
     ensures room_after { room.new ≡ room_with (opened input.now).text room.old }
-    ensures length_le_room_bytes { result.length ≤ room_bytes }
+    ensures length_bound { result.length ≤ room_bytes }
 {
     let s = scenario::read(input);
     let state = s.state;
@@ -165,7 +167,7 @@ fn go_on(input: &[u8], play: Play, room: &mut [u8; 65536]) -> Turn
 pub fn next(input: &[u8], play: Play, room: &mut [u8; 65536]) -> Turn
     ensures value { result ≡ turn_form (turn input.now play) }
     ensures room_after { room.new ≡ room_with (turn input.now play).text room.old }
-    ensures length_le_room_bytes { result.length ≤ room_bytes }
+    ensures length_bound { result.length ≤ room_bytes }
 {
     if !play.going {
         return Turn { length: 0, play };

@@ -1,5 +1,7 @@
 // A run measured: a scenario's bytes to its finished run, or to the number and the offset of what refuses it. It plays the stretches that
 // busrun plays, and takes any input.
+#![tactic(auto)]
+
 ghost use Rattle.std.specs.Prelude.{◌≤◌, ◌≡◌, take};
 ghost use Rattle.listing.specs.Turns.{answers_in};
 ghost use Rattle.measure.specs.Measured.{longer, longest_wait, measured};
@@ -14,7 +16,7 @@ use state::State;
 const SUCCESS: u32 = 2;
 
 // A run measured: the number of the refusal and the offset of what is refused, and no run; or 0 and 0, and the finished run.
-#[derive(Drop)]
+#[derive(Clone, Copy)]
 pub struct Measured {
     pub refusal: u32,
     pub offset: usize,

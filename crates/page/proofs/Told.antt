@@ -10,7 +10,7 @@ use borrow.Author.Tests.{leb-true, leb-false}
 use lib.Dec.{leb}
 use native.Mathlib.Numerals.{add-one}
 use native.Mathlib.Omega.{arith}
-use lib.ListN.{length, get_or, take, length-map, length-append}
+use lib.ListN.{length, get_or, take, length-append}
 use lib.Seq.{take_all, take-suc, length-take-le}
 use Rattle.text.specs.Text.{decimal, fields}
 use Rattle.text.specs.Room.{room_bytes, stored, past, room_with}
@@ -93,4 +93,4 @@ rows_within runs count full = go (leb count most_runs) refl
 
 -- the array of rows in the code has as many places as a sheet has runs at the most
 pub rows_array : (s : Sheet) (vs : List Val) → Is sheet-row.the_row s vs → length s.rows ≡ most_runs
-rows_array s vs owned = sym (length-map s.rows _) ∙ owned.1.1.0.1.0.1
+rows_array s vs owned = owned.1.1.0.1.0.1

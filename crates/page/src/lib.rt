@@ -1,5 +1,7 @@
 // The text of a sheet, in room that the caller lends: a heading, a line for each run, the sums and the highest loss (docs/SHEET.md). Every
 // call takes any input.
+#![tactic(auto)]
+
 ghost use Rattle.std.specs.Prelude.{◌≡◌, length, ◌≤◌};
 ghost use Rattle.text.specs.Room.{room_bytes, room_with};
 ghost use Rattle.page.specs.Page.{heading_text, line_text, closing_text, sheet_text};

@@ -1,5 +1,7 @@
 // The scenario reader: the bytes of a scenario to the run that they ask for, or the number and the offset of what refuses them.
 // Every call takes any bytes.
+#![tactic(auto)]
+
 ghost use Rattle.std.specs.Prelude.{◌≤◌, ◌≡◌, drop};
 ghost use Rattle.state.specs.declared.Settings.{Settings};
 ghost use Rattle.state.specs.SetUp.{request_of, request_with, settings_refusal};
@@ -27,7 +29,7 @@ pub const ARRIVAL_BYTES: usize = 16;
 const RUN_BYTES: usize = 6;
 
 // What reading a record answers: its body by its kind, or the number that refuses it.
-#[derive(Drop)]
+#[derive(Clone, Copy)]
 pub enum Record {
     Refused(u32),
     SetUp(Settings),
@@ -38,7 +40,7 @@ pub enum Record {
 
 // A scenario as read: the refusal number and the offset of what is refused, and zeros; or 0 and 0, the state set up, the offset of
 // the first arrival's record, and the steps of the run.
-#[derive(Drop)]
+#[derive(Clone, Copy)]
 pub struct Scenario {
     pub refusal: u32,
     pub offset: usize,
@@ -48,7 +50,7 @@ pub struct Scenario {
 }
 
 // The stations as read: the refusal number and the offset of what is refused, or zeros and all of the row.
-#[derive(Drop)]
+#[derive(Clone, Copy)]
 struct Stations {
     pub refusal: u32,
     pub offset: usize,
@@ -56,14 +58,14 @@ struct Stations {
 }
 
 // The arrivals that have been passed: the refusal number, or 0, and the offset of the record that is refused or comes next.
-#[derive(Drop)]
+#[derive(Clone, Copy)]
 struct Passed {
     pub refusal: u32,
     pub at: usize,
 }
 
 // The end of a scenario: the refusal number and the offset of what is refused, or zeros and the steps of the run.
-#[derive(Drop)]
+#[derive(Clone, Copy)]
 struct Ending {
     pub refusal: u32,
     pub offset: usize,

@@ -1,4 +1,6 @@
 // The sheet of a batch of finished runs: a row for each run, the counts' sums and the run with the highest loss. Every call takes any input.
+#![tactic(auto)]
+
 ghost use Rattle.std.specs.Prelude.{◌≡◌};
 ghost use Rattle.sheet.specs.Sheet.{refused_batch, drawn};
 
@@ -10,7 +12,7 @@ mod rows;
 pub const MOST_RUNS: usize = 256;
 
 // A finished run: the packets admitted, sent, lost and waiting, those turned away, and the longest wait of a packet that was sent.
-#[derive(Drop)]
+#[derive(Clone, Copy)]
 pub struct Run {
     pub admitted: u32,
     pub sent: u32,
@@ -21,7 +23,7 @@ pub struct Run {
 }
 
 // 'over all, the .. counts' sums', that of the packets turned away among them
-#[derive(Drop)]
+#[derive(Clone, Copy)]
 pub struct Sums {
     pub admitted: u64,
     pub sent: u64,
@@ -32,7 +34,7 @@ pub struct Sums {
 
 // A run's place in the batch, counted from 0, and its loss as two whole numbers: the packets lost or turned away, and those lost, turned away
 // or sent.
-#[derive(Drop)]
+#[derive(Clone, Copy)]
 pub struct Placed {
     pub place: usize,
     pub lost: u64,
@@ -40,7 +42,7 @@ pub struct Placed {
 }
 
 // 'the run with the highest loss', or that none has a figure
-#[derive(Drop)]
+#[derive(Clone, Copy)]
 pub enum Highest {
     NoFigure,
     Run(Placed),

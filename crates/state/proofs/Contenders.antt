@@ -2,7 +2,7 @@
 -- stands at its places. Assumes nothing.
 use Prim.Native.Nat.{ℕ, ◌<◌}
 use mathlib.Core.Path.{◌≡◌, sym, ap, ◌∙◌}
-use lib.ListN.{length, replicate}
+use lib.ListN.{replicate}
 use Rattle.word.specs.Word.{bit_at}
 use Rattle.word.proofs.Laws.{word_lt, bit_word, word_bits, word_same, word_none}
 use Rattle.rules.specs.Bus.{most_stations}

@@ -27,6 +27,7 @@ distinct_more {x} (y ∷ xs) d new = (λ i. go (among_append xs i), distinct_mor
     go (inr (in_tail i)) = among_none i
 
 distinct_not : {x : ℕ} (xs ys : List ℕ) → Among x xs → ¬ Distinct (xs ++ (x ∷ ys))
+distinct_not [] ys i d = elim i [ ]
 distinct_not (y ∷ xs) ys (at_head e) d = d.0 (among_right xs (at_head (sym e)))
 distinct_not (y ∷ xs) ys (in_tail i) d = distinct_not xs ys i d.1
 

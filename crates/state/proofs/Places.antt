@@ -20,10 +20,10 @@ use Rattle.state.proofs.Rows.{take-map}
 
 pub queues_arrays : (qs : Queues) (vs : List Val) → Is queues.the_row qs vs → (length qs.lengths ≡ 64) × (length qs.packets ≡ 1024)
 queues_arrays qs vs owned =
-    (sym (length-map qs.lengths _) ∙ owned.1.1.0.1.0.1, sym (length-map qs.packets _) ∙ owned.1.1.1.0.1.0.1)
+    (owned.1.1.0.1.0.1, owned.1.1.1.0.1.0.1)
 
 pub queue_array : (q : Queue) (vs : List Val) → Is queue.the_row q vs → length q.packets ≡ 16
-queue_array q vs owned = sym (length-map q.packets _) ∙ owned.1.1.0.1.0.1
+queue_array q vs owned = owned.1.1.0.1.0.1
 
 -- ---- station i's places in the row
 

@@ -416,15 +416,15 @@ state_held s vs owned =
     let segment = owned.1.1.0.1.1 in
     let queues = queues_arrays s.queues _ owned.1.1.1.0 in
     record {
-      listed = sym (length-map s.segment.listed _) ∙ segment.1.0.1.0.1;
+      listed = segment.1.0.1.0.1;
       contenders =
           record {
             word = segment.1.1.1.1.1.1.1.1.1.0.1;
-            parameters = sym (length-map s.segment.parameters _) ∙ segment.1.1.1.1.1.1.1.1.1.1.0.1.0.1;
-            numbers = sym (length-map s.segment.numbers _) ∙ segment.1.1.1.1.1.1.1.1.1.1.1.0.1.0.1;
-            values = sym (length-map s.segment.values _) ∙ segment.1.1.1.1.1.1.1.1.1.1.1.1.0.1.0.1;
-            lengths = sym (length-map s.segment.lengths _) ∙ segment.1.1.1.1.1.1.1.1.1.1.1.1.1.0.1.0.1;
-            admissions = sym (length-map s.segment.admissions _) ∙ segment.1.1.1.1.1.1.1.1.1.1.1.1.1.1.0.1.0.1;
+            parameters = segment.1.1.1.1.1.1.1.1.1.1.0.1.0.1;
+            numbers = segment.1.1.1.1.1.1.1.1.1.1.1.0.1.0.1;
+            values = segment.1.1.1.1.1.1.1.1.1.1.1.1.0.1.0.1;
+            lengths = segment.1.1.1.1.1.1.1.1.1.1.1.1.1.0.1.0.1;
+            admissions = segment.1.1.1.1.1.1.1.1.1.1.1.1.1.1.0.1.0.1;
           };
       lengths = queues.0;
       packets = queues.1;

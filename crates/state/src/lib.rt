@@ -1,6 +1,7 @@
 // The state of a bus segment: what it is made of, the set-up that it comes from, and the conditions that it stands by (`standing::stands`).
 // Every exported function takes any input.
 #![tactic(auto)]
+
 ghost use Rattle.std.specs.Prelude.{◌≡◌};
 ghost use Rattle.rules.specs.Bus.{nothing};
 ghost use Rattle.state.specs.State.{form};

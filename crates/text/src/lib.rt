@@ -1,5 +1,7 @@
 // Bytes of text in room that is lent. Each function that writes stores its text from an offset on and hands out the offset past it; a text
 // that does not fit is not stored at all, and the offset comes back as it was. Every function takes any input.
+#![tactic(auto)]
+
 ghost use Rattle.std.specs.Prelude.{◌+◌, ◌<◌, ◌≡◌, [], ◌∷◌, leb, length, replicate};
 ghost use Rattle.text.specs.Text.{digit as digit_of, decimal, space};
 ghost use Rattle.text.specs.Room.{room_bytes, stored, past};

@@ -1,0 +1,7 @@
+-- `lines::highest` meets its contract: by whether a run has a figure, with the name.
+use Rattle.std.proofs.Common.{arith}
+use Rattle.text.proofs.Stores.{told_then, told_within}
+use Rattle.page.proofs.lines.highest.Goals as goal
+
+pub returns : goal.returns
+returns c = rw c.in-Run.is (told_within (told_then c.loss-written.ensures c.named.ensures) (omega arith))
