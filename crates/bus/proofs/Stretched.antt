@@ -228,7 +228,7 @@ on made taken left e =
 -- ---- the row of arrivals that the code is lent
 
 pub arrivals_array : (x : Arrivals) (vs : List Val) → Is arrivals-of.the_row x vs → length x.row ≡ 64
-arrivals_array x vs owned = sym (length-map x.row _) ∙ owned.1.1.0.1.0.1
+arrivals_array x vs owned = owned.1.1.0.1.0.1
 
 module _ (x : Arrivals) (places : length x.row ≡ 64) where
   pub row_few : length (in_row x) ≤ 64

@@ -1,5 +1,7 @@
 // What a refusal number means, in words, and which record of a scenario is refused: text in room that the caller lends. Every call takes
 // any input.
+#![tactic(auto)]
+
 ghost use Rattle.std.specs.Prelude.{◌≤◌, min, ◌≡◌, length};
 ghost use Rattle.text.specs.Room.{room_bytes, stored, past, room_with};
 ghost use Rattle.meanings.specs.Meanings.{other_meaning, call_meaning, meaning_of};
@@ -11,6 +13,7 @@ mod records;
 const TOO_LONG: u32 = 22;
 
 // What a number means that refuses a scenario, a batch of runs, a begin or a probe.
+#[tactic(auto, unfolding(crate::specs::Meanings::other_meaning))]
 fn other_meaning(room: &mut [u8; 65536], at: usize, number: u32) -> usize
     ensures value { result ≡ past at (other_meaning number) }
     ensures room_after { room.new ≡ stored room.old at (other_meaning number) }
@@ -58,6 +61,7 @@ fn other_meaning(room: &mut [u8; 65536], at: usize, number: u32) -> usize
 }
 
 // What a number means that refuses an admission or a step, or one of those above.
+#[tactic(auto, unfolding(crate::specs::Meanings::call_meaning))]
 fn call_meaning(room: &mut [u8; 65536], at: usize, number: u32) -> usize
     ensures value { result ≡ past at (call_meaning number) }
     ensures room_after { room.new ≡ stored room.old at (call_meaning number) }
@@ -87,6 +91,7 @@ fn call_meaning(room: &mut [u8; 65536], at: usize, number: u32) -> usize
 }
 
 // What a number means, from an offset of the room on; the offset past it.
+#[tactic(auto, unfolding(crate::specs::Meanings::meaning_of))]
 pub fn meaning(room: &mut [u8; 65536], at: usize, number: u32) -> usize
     ensures value { result ≡ past at (meaning_of number) }
     ensures room_after { room.new ≡ stored room.old at (meaning_of number) }

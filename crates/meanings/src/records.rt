@@ -44,6 +44,7 @@ fn place(input: &[u8], offset: usize) -> usize
 }
 
 // What a record of this kind is.
+#[tactic(auto, unfolding(crate::specs::Refused::kind_words))]
 fn kind(room: &mut [u8; 65536], at: usize, kind: usize) -> usize
     ensures value { result ≡ past at (kind_words kind) }
     ensures room_after { room.new ≡ stored room.old at (kind_words kind) }

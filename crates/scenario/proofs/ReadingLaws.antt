@@ -97,6 +97,38 @@ kind_tag (Is.Station s) = refl
 kind_tag (Is.Arrival a) = refl
 kind_tag (Is.Run steps) = refl
 
+-- the places of the other variants, where a record is no set-up
+pub not_set_up : (found : Record) → ((x : Settings) → found ≡ Is.SetUp x → ⊥) → OneOf (0 ∷ 2 ∷ 3 ∷ 4 ∷ []) (tag_of the_type found)
+not_set_up (Is.Refused n) other = inl refl
+not_set_up (Is.SetUp g) other = absurd (other g refl)
+not_set_up (Is.Station s) other = inr (inl refl)
+not_set_up (Is.Arrival a) other = inr (inr (inl refl))
+not_set_up (Is.Run steps) other = inr (inr (inr refl))
+
+-- where it is no station
+pub not_station : (found : Record) → ((x : Listed) → found ≡ Is.Station x → ⊥) → OneOf (0 ∷ 1 ∷ 3 ∷ 4 ∷ []) (tag_of the_type found)
+not_station (Is.Refused n) other = inl refl
+not_station (Is.SetUp g) other = inr (inl refl)
+not_station (Is.Station s) other = absurd (other s refl)
+not_station (Is.Arrival a) other = inr (inr (inl refl))
+not_station (Is.Run steps) other = inr (inr (inr refl))
+
+-- where it is no arrival
+pub not_arrival : (found : Record) → ((x : Arrival) → found ≡ Is.Arrival x → ⊥) → OneOf (0 ∷ 1 ∷ 2 ∷ 4 ∷ []) (tag_of the_type found)
+not_arrival (Is.Refused n) other = inl refl
+not_arrival (Is.SetUp g) other = inr (inl refl)
+not_arrival (Is.Station s) other = inr (inr (inl refl))
+not_arrival (Is.Arrival a) other = absurd (other a refl)
+not_arrival (Is.Run steps) other = inr (inr (inr refl))
+
+-- where it is no run
+pub not_run : (found : Record) → ((x : ℕ) → found ≡ Is.Run x → ⊥) → OneOf (0 ∷ 1 ∷ 2 ∷ 3 ∷ []) (tag_of the_type found)
+not_run (Is.Refused n) other = inl refl
+not_run (Is.SetUp g) other = inr (inl refl)
+not_run (Is.Station s) other = inr (inr (inl refl))
+not_run (Is.Arrival a) other = inr (inr (inr refl))
+not_run (Is.Run steps) other = absurd (other steps refl)
+
 -- a record that is one of the other variants is not of the kind
 pub other_kind :
     (k : ℕ) (others : List ℕ) (found : Record) (x : Said) → said found ≡ x → has k others ≡ false → OneOf others (tag_of the_type found)

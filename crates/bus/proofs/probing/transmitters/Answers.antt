@@ -1,0 +1,33 @@
+-- `probing::transmitters` meets its contract: the contenders in time, and those of them that lie in the window, are masked together.
+use Rattle.std.proofs.Common.{◌≡◌, ap, ◌∙◌, arith}
+use lib.Bits.{bit_and}
+use Rattle.word.specs.Word.{word_of}
+use Rattle.bus.proofs.Transmitting.{able_at, none_transmit, able_timed, able_untimed, untied_transmit, tied_transmit}
+use Rattle.bus.proofs.probing.transmitters.Goals as goal
+use Rattle.bus.proofs.probing.transmitters.Goals.{Joined-discipline-eq-RTDG, else-discipline-eq-RTDG, then-discipline-eq-RTDG}
+
+pub returns-then-contenders-eq0 : goal.returns-then-contenders-eq0
+returns-then-contenders-eq0 c =
+    let args = c.args in
+    none_transmit args.discipline args.clock args.contenders args.values.now args.contention args.parameters.now
+    args.addresses.now c.if-contenders-eq0.true
+
+-- past the test of the discipline, `able` is the word of the contenders that are in time
+module _ (c : Joined-discipline-eq-RTDG) where
+  able! : c.if-discipline-eq-RTDG.able ≡ word_of (able_at c.args.discipline c.args.clock c.args.contenders c.args.values.now) 64
+  able! =
+      let args = c.args in
+      elim c.if-discipline-eq-RTDG.branch [ then-discipline-eq-RTDG w ↦ w.able-is ∙ ap (bit_and args.contenders) w.in_time.ensures
+      ∙ able_timed args.discipline args.clock args.contenders args.values.now (omega arith) w.if-discipline-eq-RTDG.true | else-discipline-eq-RTDG w ↦ w.able-is ∙ able_untimed args.discipline args.clock args.contenders args.values.now (omega arith) w.if-discipline-eq-RTDG.false ]
+
+pub returns-then-contention : goal.returns-then-contention
+returns-then-contention c =
+    let args = c.args in
+    tied_transmit args.discipline args.clock args.contenders args.values.now args.contention args.parameters.now
+    args.addresses.now c.if-contention.true (able! (goal.at.returns-then-contention c).Joined-discipline-eq-RTDG) c.lying_in.ensures c.lying_in-then-contention.ensures
+
+pub returns : goal.returns
+returns c =
+    let args = c.args in
+    untied_transmit args.discipline args.clock args.contenders args.values.now args.contention args.parameters.now
+    args.addresses.now c.if-contention.false (able! (goal.at.returns c).Joined-discipline-eq-RTDG) c.lying_in-2.ensures
