@@ -9,7 +9,7 @@ use native.Mathlib.Omega.{arith}
 use mir.Val.{Val}
 use denote.Laws.{Is}
 use lib.Dec.{eqb, leb}
-use lib.ListN.{length, take, replicate, length-map}
+use lib.ListN.{length, take, replicate}
 use lib.Seq.{take-append_seam}
 use borrow.Author.Tests.{eq-eqb, ne_eqb}
 use Rattle.state.specs.declared.State.{State}
@@ -47,7 +47,7 @@ one_report (x ∷ reports) r =
 
 -- the array of reports in the code has as many places as a stretch has calls
 pub reports_array : (x : Stretch) (vs : List Val) → Is stretch-row.the_row x vs → length x.reports ≡ 512
-reports_array x vs owned = sym (length-map x.reports _) ∙ owned.1.1.0.1.0.1
+reports_array x vs owned = owned.1.1.0.1.0.1
 
 -- a turn whose text was told at the start of the room is what it comes to, and the room has the text over its start
 pub turn-of :
