@@ -1,4 +1,6 @@
 // The program: a scenario on standard input to its listing on standard output. It reads and writes; all else is the library's.
+#![tactic(auto)]
+
 ghost use Rattle.std.specs.Prelude.{◌≤◌, ◌≡◌, length};
 
 // Writes the first bytes of the room, if there are any to write; whether it could.

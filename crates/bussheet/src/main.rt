@@ -1,16 +1,27 @@
 // The program: the scenario files named as arguments to one sheet on standard output. It reads and writes; all else is the libraries'.
+#![tactic(auto)]
+
 ghost use Rattle.std.specs.Prelude.{◌≤◌, ◌≡◌, length};
 ghost use Rattle.sheet.specs.Sheet.{most_runs};
 
-use libc::STDOUT_FILENO;
 use page::{Entry, Refusal};
 use sheet::{Highest, MOST_RUNS, Run, Sheet, Sums};
+use std::env::{Env, FillError};
+use std::fs;
+use std::io::Read;
+use std::os::fd::AsRawFd;
+
+// Standard output.
+const STDOUT: i32 = 1;
 
 // The bytes that there is space for: one more than a scenario may have, which is enough to see that it is too long.
 const SPACE: usize = 65_537;
 
+// Where the name of a file is no UTF-8, the file is open at this descriptor and as many more as its argument's place (tools/run sees to it).
+const HANDED: usize = 600;
+
 // What became of a file: whether it could be read, and what was measured; the run of one that could not be read, or that is refused, is zero.
-#[derive(Drop)]
+#[derive(Clone, Copy)]
 struct File {
     pub read: bool,
     pub refusal: u32,
@@ -34,19 +45,22 @@ fn space() -> [u8; 65537]
 }
 
 // Whether a file of which so many bytes were read was read without a failure: they fill the space, or a further read finds the end there.
-fn is_read(fd: i32, got: usize) -> bool {
+fn is_read(file: &mut fs::File, got: usize) -> bool {
     if got == SPACE {
         return true;
     }
     let mut more = [0u8; 1];
-    libc::read(fd, &mut more) == 0
+    match file.read(&mut more) {
+        Ok(count) => count == 0,
+        Err(_) => false,
+    }
 }
 
 // What becomes of an open file.
-fn measured(fd: i32) -> File {
+fn measured(file: &mut fs::File) -> File {
     let mut input = space();
-    let got = io::read_full(fd, &mut input);
-    if !is_read(fd, got) {
+    let got = io::read_full(file.as_raw_fd(), &mut input);
+    if !is_read(file, got) {
         return UNREAD;
     }
     let m = measure::measure(&input[..got]);
@@ -59,22 +73,56 @@ fn measured(fd: i32) -> File {
     }
 }
 
-// What becomes of a file with this name.
-fn opened(name: &[u8]) -> File {
-    let fd = os::open_read(name);
-    if fd < 0 {
-        return UNREAD;
+// What becomes of the file at a path.
+fn opened(rt: &HostRuntime, path: &str) -> File {
+    match fs::open(rt, path) {
+        Ok(mut file) => measured(&mut file),
+        Err(_) => UNREAD,
     }
-    let file = measured(fd);
-    libc::close(fd);
-    file
+}
+
+// The last digit of a number.
+fn digit(n: usize) -> u8 {
+    b'0' + (n % 10) as u8
+}
+
+// The path of the open file that is handed over for an argument.
+fn handed(i: usize) -> [u8; 11] {
+    let n = HANDED + i % 400;
+    let mut path = *b"/dev/fd/000";
+    path[8] = digit(n / 100);
+    path[9] = digit(n / 10);
+    path[10] = digit(n);
+    path
+}
+
+// What becomes of the file with this name, which an argument has. The library opens a file by text alone: one with a name that is no UTF-8 has
+// to be handed over.
+fn found(rt: &HostRuntime, i: usize, name: &[u8]) -> File {
+    if let Ok(path) = str::from_utf8(name) {
+        return opened(rt, path);
+    }
+    match str::from_utf8(&handed(i)) {
+        Ok(path) => opened(rt, path),
+        Err(_) => UNREAD,
+    }
+}
+
+// Puts an argument into room for a name; its length, or 0 where there is no such argument or it is longer than the room.
+fn argument(rt: &HostRuntime, i: usize, name: &mut [u8; 4096]) -> usize
+    ensures { result ≤ 4096 }
+{
+    match rt.arg(i, name) {
+        Ok(length) => length,
+        Err(_) => 0,
+    }
 }
 
 // What becomes of the file that an argument names.
-fn played(i: usize) -> File {
+fn played(rt: &HostRuntime, i: usize) -> File {
     let mut name = io::buffer();
-    let length = os::arg(i, &mut name);
-    opened(&name[..length])
+    let length = argument(rt, i, &mut name);
+    found(rt, i, &name[..length])
 }
 
 // What a line is of.
@@ -95,30 +143,30 @@ fn entry(file: File, row: Run) -> Entry {
 fn write_named(entry: Entry, name: &[u8]) -> bool {
     let mut room = io::large_buffer();
     let count = page::line(entry, name, &mut room);
-    io::write_all(STDOUT_FILENO, &room[..count])
+    io::write_all(STDOUT, &room[..count])
 }
 
 // Writes the line of the file that an argument names; of a name that is too long, the bytes for which there is space.
-fn write_line(i: usize, entry: Entry) -> bool {
+fn write_line(rt: &HostRuntime, i: usize, entry: Entry) -> bool {
     let mut name = io::buffer();
-    let length = os::arg(i, &mut name);
-    if os::errno() == libc::ENAMETOOLONG {
-        return write_named(entry, &name);
+    match rt.arg(i, &mut name) {
+        Ok(length) => write_named(entry, &name[..length]),
+        Err(FillError::TooLong) => write_named(entry, &name),
+        Err(FillError::NotPresent) => write_named(entry, b""),
     }
-    write_named(entry, &name[..length])
 }
 
 fn write_heading() -> bool {
     let mut room = io::large_buffer();
     let count = page::heading(&mut room);
-    io::write_all(STDOUT_FILENO, &room[..count])
+    io::write_all(STDOUT, &room[..count])
 }
 
 // Writes the lines that close the sheet, with the name of the run that comes highest.
 fn write_closing(sums: Sums, highest: Highest, name: &[u8]) {
     let mut room = io::large_buffer();
     let count = page::closing(sums, highest, name, &mut room);
-    io::write_all(STDOUT_FILENO, &room[..count]);
+    io::write_all(STDOUT, &room[..count]);
 }
 
 // The argument that names the run which comes highest; 0 where none has a figure.
@@ -130,14 +178,14 @@ fn argument_of(highest: Highest) -> usize {
 }
 
 // Writes the lines that close the sheet, with the name that the arguments have for the highest.
-fn close(sums: Sums, highest: Highest) {
+fn close(rt: &HostRuntime, sums: Sums, highest: Highest) {
     let mut name = io::buffer();
-    let length = os::arg(argument_of(highest), &mut name);
+    let length = argument(rt, argument_of(highest), &mut name);
     write_closing(sums, highest, &name[..length]);
 }
 
 // Writes a sheet and what became of its files, as long as it can be written.
-fn write(sheet: Sheet, files: [File; 256], count: usize)
+fn write(rt: &HostRuntime, sheet: Sheet, files: [File; 256], count: usize)
     requires { count ≤ most_runs }
 {
     if !write_heading() {
@@ -145,31 +193,42 @@ fn write(sheet: Sheet, files: [File; 256], count: usize)
     }
     let rows = sheet.rows;
     for i in 0..count {
-        let written = write_line(i + 1, entry(files[i], rows[i]));
+        let written = write_line(rt, i + 1, entry(files[i], rows[i]));
         if !written {
             return;
         }
     }
     let highest = sheet.highest;
-    close(sheet.sums, highest);
+    close(rt, sheet.sums, highest);
 }
 
 // 'REFUSED 23 0', where more files are named than a sheet has runs.
 fn refuse() {
-    io::write_all(STDOUT_FILENO, b"REFUSED 23 0\n");
+    io::write_all(STDOUT, b"REFUSED 23 0\n");
+}
+
+// Whether there is such an argument.
+fn is_argument(rt: &HostRuntime, i: usize) -> bool {
+    let mut first = [0u8; 1];
+    match rt.arg(i, &mut first) {
+        Ok(_) => true,
+        Err(FillError::TooLong) => true,
+        Err(FillError::NotPresent) => false,
+    }
 }
 
 // How many files are named: the first argument is the program's own name.
-fn file_count() -> usize {
-    let arguments = os::arg_count();
-    if arguments == 0 {
-        return 0;
+fn file_count(rt: &HostRuntime) -> usize {
+    for i in 0..usize::MAX {
+        if !is_argument(rt, i + 1) {
+            return i;
+        }
     }
-    arguments - 1
+    usize::MAX
 }
 
-fn main() {
-    let count = file_count();
+fn main(rt: HostRuntime) {
+    let count = file_count(&rt);
     if MOST_RUNS < count {
         refuse();
         return;
@@ -177,11 +236,11 @@ fn main() {
     let mut files = [UNREAD; 256];
     let mut runs = [sheet::NO_RUN; 256];
     for i in 0..count {
-        let file = played(i + 1);
+        let file = played(&rt, i + 1);
         let run = file.run;
         files[i] = file;
         runs[i] = run;
     }
     let drawn = sheet::draw(runs, count);
-    write(drawn.sheet, files, count);
+    write(&rt, drawn.sheet, files, count);
 }

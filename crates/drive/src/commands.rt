@@ -5,7 +5,7 @@ use crate::words;
 
 // A letter, its numbers in their order, those of pairs and fours after the others, and the place after them. What a command does not have is
 // zero.
-#[derive(Drop)]
+#[derive(Clone, Copy)]
 pub struct Command {
     pub letter: u8,
     pub numbers: [u64; 259],

@@ -1,4 +1,6 @@
 // A script of calls, read from standard input, played on one state of the engine; each answer and the state are written.
+#![tactic(auto)]
+
 mod calls;
 mod commands;
 mod edits;

@@ -2,7 +2,7 @@
 ghost use Rattle.std.specs.Prelude.{◌<◌, ◌≤◌};
 
 // A number that was read, and the place after its digits.
-#[derive(Drop)]
+#[derive(Clone, Copy)]
 pub struct Got {
     pub value: u64,
     pub at: usize,

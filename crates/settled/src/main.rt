@@ -1,5 +1,7 @@
 // The settled examples that are run, and calls for each refusal 1 to 17, 25 and 26. Every standing condition has its broken states in
 // scripts/lent.table, which the program drive lends to the calls.
+#![tactic(auto)]
+
 mod edits;
 mod lines;
 mod refusals;
