@@ -363,7 +363,7 @@ mod tests {
             "pri",
             "rtdg",
             "rtvc",
-            "three",
+            "layouts/three",
             "turned-away",
             "upper-byte",
             "waits",
