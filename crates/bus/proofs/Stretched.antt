@@ -10,7 +10,7 @@ use native.Mathlib.Omega.{arith}
 use mir.Val.{Val}
 use denote.Laws.{Is}
 use lib.Dec.{ltb}
-use lib.ListN.{length, get_or, drop, set, replicate, length-append, length-map, length-take, drop_of_length-le}
+use lib.ListN.{length, get_or, drop, set, replicate, length-append, length-take, drop_of_length-le}
 use lib.Seq.{drop-cons, set_at, append_snoc, get_or-take}
 use borrow.Author.Tests.{ltb-true, ltb-false, le-leb, lt-leb}
 use Rattle.rules.proofs.Laws.{and-true, and-false}

@@ -12,7 +12,6 @@ use lib.ListN.{length, take, drop, drop_of_length-le, get_or, set, replicate, le
 use lib.Seq.{take-append-le, take-length, drop-cons, set-append_seam}
 use Rattle.rules.specs.Lists.{verdict, first_of}
 use Rattle.rules.specs.Bus.{RTDG, RTVC, code}
-use Rattle.text.specs.Text.{bytes}
 use Rattle.words.specs.Words.{same, first_word, after_word, word_span, number_of, number_form}
 use Rattle.words.specs.declared.Span.{Span}
 use Rattle.words.specs.declared.Number.{Number}

@@ -33,7 +33,7 @@ use Rattle.layout.specs.contracts.plan.Plan as coded
 -- the arrays of a plan that a function is handed have their lengths
 pub plan_arrays : (p : Coded.Plan) (vs : List Val) → Is coded.the_row p vs → (length p.stations ≡ 64) × (length p.arrivals ≡ 4096)
 plan_arrays p vs owned =
-    (sym (length-map p.stations _) ∙ owned.1.1.1.1.0.1.0.1, sym (length-map p.arrivals _) ∙ owned.1.1.1.1.1.0.1.0.1)
+    (owned.1.1.1.1.0.1.0.1, owned.1.1.1.1.1.0.1.0.1)
 
 -- and its parameter space is a number of 32 bits
 pub plan_narrow : (p : Coded.Plan) (vs : List Val) → Is coded.the_row p vs → p.settings.d < 4_294_967_296

@@ -1,6 +1,6 @@
 -- One line of a text after the other. Assumes nothing.
-use Prim.Native.Nat.{ℕ, suc, ◌+◌, ◌≤◌, ◌<◌}
-use mathlib.Core.Path.{◌≡◌, refl, sym, ap, ap₂, ◌∙◌}
+use Prim.Native.Nat.{ℕ, suc, ◌+◌, ◌≤◌}
+use mathlib.Core.Path.{◌≡◌, refl, sym, ap, ◌∙◌}
 use mathlib.Core.Bool.{Bool, true, false, cond}
 use mathlib.Core.List.{List, [], ◌∷◌}
 use native.Mathlib.Numerals.{add-one}
@@ -10,7 +10,7 @@ use lib.ListN.{length, drop}
 use Rattle.words.specs.Words.{lines_of, first_line}
 use Rattle.words.proofs.Lines.{lines_on, lines_end}
 use Rattle.layout.specs.declared.plan.Plan as Coded
-use Rattle.layout.specs.Layout.{Plan, Taken, take_line, Saying, wrong, says, request_in, read_lines}
+use Rattle.layout.specs.Layout.{Plan, Taken, take_line, wrong, says, request_in, read_lines}
 use Rattle.layout.specs.Parts.{plan_of}
 
 -- what a line that was taken makes of the lines from it on

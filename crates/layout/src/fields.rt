@@ -10,7 +10,7 @@ use crate::labels;
 const GOES_ON: u32 = 300;
 
 // A word with its number: the fault, or 0; the number; and the offset past it.
-#[derive(Drop)]
+#[derive(Clone, Copy)]
 pub struct Field {
     pub fault: u32,
     pub value: u32,
@@ -18,7 +18,7 @@ pub struct Field {
 }
 
 // The numbers of a line in the order of its words, and zeros past them; or its fault.
-#[derive(Drop)]
+#[derive(Clone, Copy)]
 pub struct Numbers {
     pub fault: u32,
     pub values: [u32; 6],

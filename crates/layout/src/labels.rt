@@ -51,7 +51,7 @@ const LAXITY: u32 = 12;
 const STEPS: u32 = 13;
 
 // The words of a kind of line, in order: the first `count` of the places.
-#[derive(Drop)]
+#[derive(Clone, Copy)]
 pub struct Labels {
     pub codes: [u32; 6],
     pub count: usize,

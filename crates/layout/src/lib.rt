@@ -1,5 +1,7 @@
 // A layout, a scenario as lines of words, to the bytes of its scenario, or to the line that is wrong and its fault. Every exported function takes
 // any bytes.
+#![tactic(auto)]
+
 ghost use Rattle.std.specs.Prelude.{◌≤◌, ◌≡◌, length};
 ghost use Rattle.text.specs.Room.{room_bytes, stored};
 ghost use Rattle.scenario.specs.Writing.{written};
@@ -15,7 +17,7 @@ mod labels;
 mod plan;
 
 // What a layout is read to: the fault and the line that is wrong, and no bytes; or zeros, and how many bytes of the room its scenario takes.
-#[derive(Drop)]
+#[derive(Clone, Copy)]
 pub struct Answer {
     pub fault: u32,
     pub line: usize,
@@ -23,14 +25,14 @@ pub struct Answer {
 }
 
 // A word before a number: its letters, and zeros past its length.
-#[derive(Drop)]
+#[derive(Clone, Copy)]
 pub struct Label {
     pub letters: [u8; 10],
     pub length: usize,
 }
 
 // A layout as read: the fault and the line that is wrong; or zeros, and all that it says.
-#[derive(Drop)]
+#[derive(Clone, Copy)]
 struct Reading {
     pub fault: u32,
     pub line: usize,

@@ -52,7 +52,7 @@ const TO_EARLY: u32 = 310;
 
 // What has been said so far: the set-up's numbers, with n the number of stations; the stations; the arrivals, `count` of them, in order of
 // time; the steps.
-#[derive(Drop)]
+#[derive(Clone, Copy)]
 pub struct Plan {
     pub stage: u32,
     pub settings: Settings,
@@ -63,7 +63,7 @@ pub struct Plan {
 }
 
 // What becomes of a plan by a line: its fault, or 0; and the plan.
-#[derive(Drop)]
+#[derive(Clone, Copy)]
 pub struct Taken {
     pub fault: u32,
     pub plan: Plan,

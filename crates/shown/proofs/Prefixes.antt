@@ -64,7 +64,7 @@ prefix_accepted g xs ys some! e =
             subst
             (λ (l : List Asked). NoneHolds (row_conditions r 0 [] l))
             (sym (take_all (length xs) xs (omega arith)))
-            (first_held g _ _ _ _ 0 [] xs ys
+            (first_held g (length (xs ++ ys)) (length xs) (xs ++ ys) xs 0 [] xs ys
             (subst
             (λ (l : List Asked). NoneHolds (row_conditions (request_for g (xs ++ ys)) 0 [] l))
             (take_all (length (xs ++ ys)) (xs ++ ys) (omega arith))

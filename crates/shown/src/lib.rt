@@ -1,5 +1,7 @@
 // A scenario as lines of a layout, in room that the caller lends: the record at an offset of the input, shown as a line, and where the next
 // one is (docs/LAYOUT.md, 'A scenario shown'). Every call takes any input.
+#![tactic(auto)]
+
 ghost use Rattle.std.specs.Prelude.{◌≤◌, ◌≡◌, drop};
 ghost use Rattle.text.specs.Room.{room_bytes, room_with};
 ghost use Rattle.scenario.specs.Format.{read_record};
@@ -17,7 +19,7 @@ const SET_UP_BYTES: usize = 16;
 const STATION_BYTES: usize = 8;
 
 // What is shown of a record: how many bytes its line has, at the start of the room, and the offset of the next record; or 0 and 0.
-#[derive(Drop)]
+#[derive(Clone, Copy)]
 pub struct Shown {
     pub length: usize,
     pub next: usize,

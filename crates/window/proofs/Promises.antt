@@ -3,7 +3,7 @@
 -- proofs/Unique.antt. Assumes nothing.
 use Prim.Native.Nat.{ℕ, ◌+◌, ◌*◌, ◌^◌, ◌≤◌, ◌<◌}
 use mathlib.Core.Path.{◌≡◌}
-use mathlib.Core.Bool.{Bool, true, false, ◌&&◌, ◌||◌}
+use mathlib.Core.Bool.{true, false, ◌&&◌, ◌||◌}
 use Rattle.window.specs.declared.Side.TheVariants.{Left}
 use Rattle.window.specs.declared.Window.{Window}
 use Rattle.window.specs.Splitting.{exponent_of, first_window, left_half, halved, move_right, moved_right, in_window, is_power, placed, Placed}

@@ -1,5 +1,6 @@
 // Windows and their moves: the splitting of report 90-127, Figure 6, for parameters and addresses alike.
 #![tactic(auto)]
+
 ghost use Rattle.std.specs.Prelude.{◌≡◌};
 ghost use Rattle.window.specs.Splitting.{exponent_of, first_window, left_half, moved_right, in_window, is_power, placed, same_side};
 

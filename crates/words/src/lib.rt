@@ -1,4 +1,6 @@
 // Lines, words and numbers of a text that a person writes. Every exported function takes any bytes.
+#![tactic(auto)]
+
 ghost use Rattle.std.specs.Prelude.{◌≡◌, ◌+◌, ◌≤◌, ◌&&◌, leb, length, drop};
 ghost use Rattle.words.specs.Words.{blank, first_line, word_span, digit_of, number_from, number_of, number_form};
 ghost use Rattle.words.specs.Words.{same as same_words};
@@ -8,21 +10,21 @@ ghost use Rattle.words.specs.Parts.{in_class, bytes_in};
 const LARGEST: u64 = 4_294_967_295;
 
 // Where a word begins and ends in its line.
-#[derive(Drop)]
+#[derive(Clone, Copy)]
 pub struct Span {
     pub from: usize,
     pub to: usize,
 }
 
 // A word as a number: whether it is one, and its value, or 0.
-#[derive(Drop)]
+#[derive(Clone, Copy)]
 pub struct Number {
     pub known: bool,
     pub value: u32,
 }
 
 // Which bytes go together: those of a line, blanks, those of a word.
-#[derive(Drop)]
+#[derive(Clone, Copy)]
 enum Class {
     Line,
     Blank,

@@ -1,5 +1,5 @@
 -- `probe` meets its contract: it tries 1, then 26, then 17, and probes one slot of the contention under way.
-use Rattle.std.proofs.Common.{◌<◌, ◌≡◌, ap, ◌∙◌, true, false, ltb, rules}
+use Rattle.std.proofs.Common.{◌≡◌, ap, ◌∙◌, true, false, ltb, rules}
 use Rattle.rules.specs.Bus.{last_slot}
 use Rattle.bus.specs.Types.{State}
 use Rattle.bus.specs.Coded.{Answer}

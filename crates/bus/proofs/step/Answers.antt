@@ -1,5 +1,5 @@
 -- `step` meets its contract: it tries 1, then 17, begins a contention if none is under way, and probes one slot.
-use Rattle.std.proofs.Common.{ℕ, ◌<◌, ◌≡◌, refl, ap, ◌∙◌, false, ltb, length, rules}
+use Rattle.std.proofs.Common.{ℕ, ◌≡◌, refl, ap, ◌∙◌, false, ltb, length, rules}
 use Rattle.rules.specs.Bus.{last_slot}
 use Rattle.rules.specs.Probe.{probe}
 use Rattle.bus.specs.Types.{Segment, Queues, State}
@@ -70,13 +70,16 @@ module _ (c : Joined-not-under_way) where
 
   opened! : Opened c.args.s c.if-not-under_way.s.segment c.if-not-under_way.s.queues c.if-not-under_way.drops
   opened! =
-      elim c.if-not-under_way.branch [ then-not-under_way w ↦
-      opened_as (ap (λ (x : State). x.segment) w.s-is) (ap (λ (x : State). x.queues) w.s-is) w.drops-is
-      (late_gone c.args.s readied.0 w.dropping-to.result w.dropping-to.ensures w.without-s.result w.without-s.ensures
-      (queues_arrays w.without-s.result _ w.without-s.type_inv) w.dropped-drops.result w.dropped-drops.ensures w.begun-s.result w.begun-s.ensures
-      (denied refl w.if-not-under_way.true)) | else-not-under_way w ↦
-      opened_as (ap (λ (x : State). x.segment) w.s-is) (ap (λ (x : State). x.queues) w.s-is) w.drops-is
-      (was_open c.args.s readied.0 (granted refl w.if-not-under_way.false)) ]
+      elim c.if-not-under_way.branch [
+        | then-not-under_way w ↦
+            opened_as (ap (λ (x : State). x.segment) w.s-is) (ap (λ (x : State). x.queues) w.s-is) w.drops-is
+            (late_gone c.args.s readied.0 w.dropping-to.result w.dropping-to.ensures w.without-s.result w.without-s.ensures
+            (queues_arrays w.without-s.result _ w.without-s.type_inv) w.dropped-drops.result w.dropped-drops.ensures w.begun-s.result w.begun-s.ensures
+            (denied refl w.if-not-under_way.true))
+        | else-not-under_way w ↦
+            opened_as (ap (λ (x : State). x.segment) w.s-is) (ap (λ (x : State). x.queues) w.s-is) w.drops-is
+            (was_open c.args.s readied.0 (granted refl w.if-not-under_way.false))
+      ]
 
   abbrev queues : Queues
   queues = c.if-not-under_way.s.queues

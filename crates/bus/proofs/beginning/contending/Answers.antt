@@ -66,15 +66,18 @@ loop-i-preserved c =
     let i = c.loop-i.i in
     let inv = c.loop-i.invariant in
     let room : i < 64 = omega arith in
-    elim c.if-test.branch [ then-test w ↦ (
-      omega arith,
-      subst (λ (row : List Address). Written contenders listed row (i + 1)) (sym w.addresses-is)
-          (written contenders listed addresses i room inv.1 (sym c.test.ensures ∙ w.if-test.true)),
-    ) | else-test w ↦ (
-      omega arith,
-      subst (λ (row : List Address). Written contenders listed row (i + 1)) (sym w.addresses-is)
-          (passed_over contenders listed addresses i room inv.1 (sym c.test.ensures ∙ w.if-test.false)),
-    ) ]
+    elim c.if-test.branch [
+      | then-test w ↦ (
+        omega arith,
+        subst (λ (row : List Address). Written contenders listed row (i + 1)) (sym w.addresses-is)
+            (written contenders listed addresses i room inv.1 (sym c.test.ensures ∙ w.if-test.true)),
+      )
+      | else-test w ↦ (
+        omega arith,
+        subst (λ (row : List Address). Written contenders listed row (i + 1)) (sym w.addresses-is)
+            (passed_over contenders listed addresses i room inv.1 (sym c.test.ensures ∙ w.if-test.false)),
+      )
+    ]
 
 pub returns : goal.returns
 returns c =

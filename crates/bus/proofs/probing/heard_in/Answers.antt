@@ -3,7 +3,7 @@ use Rattle.std.proofs.Common.{◌<◌, ◌≡◌, sym, ap, ◌∙◌, arith, rul
 use Rattle.word.specs.Word.{count_of, lowest_of}
 use Rattle.bus.specs.Types.{Segment}
 use Rattle.bus.specs.Parts.{transmitters_of, transmitters_in}
-use Rattle.bus.proofs.HeardLaws.{lowest_in, counted!}
+use Rattle.bus.proofs.HeardLaws.{lowest_in, counted! }
 use Rattle.bus.proofs.probing.heard_in.Goals as goal
 use Rattle.bus.proofs.probing.heard_in.Goals.{After-count-heard, After-lowest-place}
 

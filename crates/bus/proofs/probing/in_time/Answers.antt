@@ -16,7 +16,7 @@ loop-i-preserved c =
     let test = timely c.args.slot c.args.values.now in
     let told = ap not (sym c.before-in-loop-i.ensures) in (
       omega arith,
-      elim c.if-not-before.branch [ then-not-before w ↦ word_set test turn.i turn.found c.if-not-before.found (omega arith) turn.invariant.1 (told ∙ ap not w.if-not-before.true) (w.found-is ∙ w.set-found.ensures) | else-not-before w ↦ word_left test turn.i turn.found c.if-not-before.found turn.invariant.1 (told ∙ ap not w.if-not-before.false) w.found-is ]
+      elim c.if-not-before.branch [ then-not-before w ↦ word_set test turn.i turn.found c.if-not-before.found (omega arith) turn.invariant.1 (told ∙ ap not w.if-not-before.true) (w.found-is ∙ w.set-found.ensures) | else-not-before w ↦ word_left test turn.i turn.found c.if-not-before.found turn.invariant.1 (told ∙ ap not w.if-not-before.false) w.found-is ],
     )
 
 pub returns : goal.returns

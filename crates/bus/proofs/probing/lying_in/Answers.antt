@@ -16,7 +16,7 @@ loop-i-preserved c =
     let test = lies c.args.w c.args.row.now in
     let told = sym c.in_window.ensures in (
       omega arith,
-      elim c.if-in_window.branch [ then-in_window w ↦ word_set test turn.i turn.found c.if-in_window.found (omega arith) turn.invariant.1 (told ∙ w.if-in_window.true) (w.found-is ∙ w.set-found.ensures) | else-in_window w ↦ word_left test turn.i turn.found c.if-in_window.found turn.invariant.1 (told ∙ w.if-in_window.false) w.found-is ]
+      elim c.if-in_window.branch [ then-in_window w ↦ word_set test turn.i turn.found c.if-in_window.found (omega arith) turn.invariant.1 (told ∙ w.if-in_window.true) (w.found-is ∙ w.set-found.ensures) | else-in_window w ↦ word_left test turn.i turn.found c.if-in_window.found turn.invariant.1 (told ∙ w.if-in_window.false) w.found-is ],
     )
 
 pub returns : goal.returns

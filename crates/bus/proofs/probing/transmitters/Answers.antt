@@ -17,8 +17,11 @@ module _ (c : Joined-discipline-eq-RTDG) where
   able! : c.if-discipline-eq-RTDG.able ≡ word_of (able_at c.args.discipline c.args.clock c.args.contenders c.args.values.now) 64
   able! =
       let args = c.args in
-      elim c.if-discipline-eq-RTDG.branch [ then-discipline-eq-RTDG w ↦ w.able-is ∙ ap (bit_and args.contenders) w.in_time.ensures
-      ∙ able_timed args.discipline args.clock args.contenders args.values.now (omega arith) w.if-discipline-eq-RTDG.true | else-discipline-eq-RTDG w ↦ w.able-is ∙ able_untimed args.discipline args.clock args.contenders args.values.now (omega arith) w.if-discipline-eq-RTDG.false ]
+      elim c.if-discipline-eq-RTDG.branch [
+        | then-discipline-eq-RTDG w ↦ w.able-is ∙ ap (bit_and args.contenders) w.in_time.ensures
+            ∙ able_timed args.discipline args.clock args.contenders args.values.now (omega arith) w.if-discipline-eq-RTDG.true
+        | else-discipline-eq-RTDG w ↦ w.able-is ∙ able_untimed args.discipline args.clock args.contenders args.values.now (omega arith) w.if-discipline-eq-RTDG.false
+      ]
 
 pub returns-then-contention : goal.returns-then-contention
 returns-then-contention c =

@@ -31,21 +31,24 @@ loop-j-preserved c =
     let said = sym c.stays.ensures in
     let closed = c.loop-j.invariant.4 in
     let within : 16 * c.loop-i.i + c.loop-j.j < length xs = omega (arith, c.loop-i.invariant.3) in
-    elim c.if-stays.branch [ then-stays w ↦ (
-      omega arith,
-      omega arith,
-      omega (arith, w.filled-is),
-      ap (λ (qs : Queues). qs.lengths) w.queues-is ∙ c.loop-j.invariant.3,
-      rw (w.queues-is, w.filled-is)
-          (closed_stays f xs (16 * c.loop-i.i) c.loop-j.j within c.loop-j.queues.packets c.loop-j.filled closed (said ∙ w.if-stays.true)),
-    ) | else-stays w ↦ (
-      omega arith,
-      omega arith,
-      omega (arith, w.filled-is),
-      ap (λ (qs : Queues). qs.lengths) w.queues-is ∙ c.loop-j.invariant.3,
-      rw (w.queues-is, w.filled-is)
-          (closed_leaves f xs (16 * c.loop-i.i) c.loop-j.j within c.loop-j.queues.packets c.loop-j.filled closed (said ∙ w.if-stays.false)),
-    ) ]
+    elim c.if-stays.branch [
+      | then-stays w ↦ (
+        omega arith,
+        omega arith,
+        omega (arith, w.filled-is),
+        ap (λ (qs : Queues). qs.lengths) w.queues-is ∙ c.loop-j.invariant.3,
+        rw (w.queues-is, w.filled-is)
+            (closed_stays f xs (16 * c.loop-i.i) c.loop-j.j within c.loop-j.queues.packets c.loop-j.filled closed (said ∙ w.if-stays.true)),
+      )
+      | else-stays w ↦ (
+        omega arith,
+        omega arith,
+        omega (arith, w.filled-is),
+        ap (λ (qs : Queues). qs.lengths) w.queues-is ∙ c.loop-j.invariant.3,
+        rw (w.queues-is, w.filled-is)
+            (closed_leaves f xs (16 * c.loop-i.i) c.loop-j.j within c.loop-j.queues.packets c.loop-j.filled closed (said ∙ w.if-stays.false)),
+      )
+    ]
 
 pub loop-i-preserved : goal.loop-i-preserved
 loop-i-preserved c =
