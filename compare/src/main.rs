@@ -14,8 +14,9 @@ PROGRAMS are ten paths: BUSRUN SECOND DRIVE REPLAY BUSSHEET REPORT BATCH TALLY B
 a scenario on standard input, DRIVE and REPLAY a script, BATCH and TALLY a batch of runs, BUSLAYOUT and PLAN a layout or,
 with '--show', a scenario; BUSSHEET and REPORT take scenario files as arguments. Of a wrong layout, what is written to
 standard error is compared: BUSLAYOUT tells the fault by words of scripts/layout-faults.table, PLAN by its number.
-Two programs may be '-': the cases for them are passed over. A FILE that ends in '.script' is a script, one that ends in
-'.layout' a layout, any other a scenario. The last line of 'all' and 'seeded' is 'N passed, M failed'.
+With 'differs' two programs may be '-', and the cases for them are passed over. A FILE that ends in '.script' is a
+script, one that ends in '.layout' a layout, any other a scenario. The last line of 'all' and 'seeded' is
+'N passed, M failed'.
 Exit status: 0 no case failed, or with 'differs' one did; 1 the opposite, or a file cannot be read; 2 bad usage.
 ";
 
@@ -40,7 +41,7 @@ fn done(words: &[&str]) -> Option<Result<bool, String>> {
     Some(match words {
         ["all", parts, programs @ ..] => {
             let (programs, paths) = taken(programs)?;
-            all(parts.parse().ok().filter(|parts| *parts > 0)?, paths).map(|sets| play(&played(sets, &programs), &programs))
+            all(parts.parse().ok().filter(|parts| *parts > 0)?, paths).map(|sets| play(&sets, &programs))
         }
         ["differs", programs @ ..] => {
             let (programs, paths) = taken(programs)?;
@@ -48,8 +49,7 @@ fn done(words: &[&str]) -> Option<Result<bool, String>> {
         }
         ["seeded", seed, count, programs @ ..] => {
             let count = count.parse().ok()?;
-            let programs = taken(programs)?.0;
-            Ok(play(&played(seeded(seed.parse().ok()?, [count; 6]), &programs), &programs))
+            Ok(play(&seeded(seed.parse().ok()?, [count; 6]), &taken(programs)?.0))
         }
         _ => return None,
     })
@@ -59,11 +59,6 @@ fn done(words: &[&str]) -> Option<Result<bool, String>> {
 fn all(parts: usize, paths: &[&str]) -> Result<Vec<Set>, String> {
     let counts = COUNTS.map(|count| count / parts);
     Ok([tables(), files(paths)?, seeded(SEED, counts)].into_iter().flatten().collect())
-}
-
-/// The sets whose cases are not passed over.
-fn played(sets: Vec<Set>, programs: &Programs) -> Vec<Set> {
-    sets.into_iter().filter(|set| programs[set.kind.place()].first != "-").collect()
 }
 
 /// The programs, two of each kind, and the words after them.

@@ -1,9 +1,17 @@
 // The program: a layout on standard input to its scenario on standard output, or with --show a scenario to its layout; and what went wrong in one
 // line on standard error. It reads and writes; all else is the libraries'.
+#![tactic(auto)]
+
 ghost use Rattle.std.specs.Prelude.{◌≡◌, length};
 
 use layout::Answer;
-use libc::{EPIPE, STDERR_FILENO, STDIN_FILENO, STDOUT_FILENO};
+use std::env::{Env, FillError};
+use std::io::{ErrorKind, Read};
+
+// Standard input and standard error.
+const STDIN: i32 = 0;
+
+const STDERR: i32 = 2;
 
 // The bytes that there is space for: one more than a layout may have, and one more than a scenario may have, which is enough to see that
 // it is too long.
@@ -13,7 +21,7 @@ const SCENARIO_SPACE: usize = 65_537;
 
 // Says a part of the line on standard error.
 fn say(words: &[u8]) {
-    io::write_all(STDERR_FILENO, words);
+    io::write_all(STDERR, words);
 }
 
 // Says, in one line, what went wrong.
@@ -24,8 +32,8 @@ fn say_line(words: &[u8]) {
 }
 
 // Says that the text could not be written, unless its reader has closed it.
-fn say_unwritten() {
-    if os::errno() == EPIPE {
+fn say_unwritten(kind: ErrorKind) {
+    if kind == ErrorKind::BrokenPipe {
         return;
     }
     say_line(b"the output cannot be written");
@@ -42,7 +50,7 @@ fn say_word(code: u32) {
 // Says a refusal's number and what it means.
 fn say_refusal(number: u32) {
     say(b"refused, number ");
-    io::print_decimal(STDERR_FILENO, number as u64);
+    io::print_decimal(STDERR, number as u64);
     say(b": ");
     let mut room = io::large_buffer();
     let end = meanings::meaning(&mut room, 0, number);
@@ -105,7 +113,7 @@ fn say_fault(fault: u32) {
 // Says which line of a layout is wrong, and its fault.
 fn say_wrong(answer: Answer) {
     say(b"buslayout: line ");
-    io::print_decimal(STDERR_FILENO, answer.line as u64);
+    io::print_decimal(STDERR, answer.line as u64);
     say(b": ");
     say_fault(answer.fault);
     say(b"\n");
@@ -127,16 +135,30 @@ fn scenario_space() -> [u8; 65537]
 
 // Whether the input, of which so many bytes were read into so much space, was read without a failure: they fill the space, or a further read
 // finds the end there.
-fn is_read(got: usize, space: usize) -> bool {
+fn is_read(rt: &HostRuntime, got: usize, space: usize) -> bool {
     if got == space {
         return true;
     }
     let mut more = [0u8; 1];
-    libc::read(STDIN_FILENO, &mut more) == 0
+    match rt.stdin().read(&mut more) {
+        Ok(count) => count == 0,
+        Err(_) => false,
+    }
+}
+
+// Writes a text, or says that it could not be written; whether it was.
+fn write_text(rt: &HostRuntime, text: &[u8]) -> bool {
+    match rt.write_all(text) {
+        Ok(()) => true,
+        Err(e) => {
+            say_unwritten(e.kind());
+            false
+        }
+    }
 }
 
 // Writes the scenario of a layout, or says what is wrong with it.
-fn lay_out(text: &[u8]) {
+fn lay_out(rt: &HostRuntime, text: &[u8]) {
     let mut room = io::large_buffer();
     let answer = layout::read(text, &mut room);
     if answer.fault != 0 {
@@ -144,17 +166,14 @@ fn lay_out(text: &[u8]) {
         return;
     }
     let length = answer.length;
-    let written = io::write_all(STDOUT_FILENO, &room[..length]);
-    if !written {
-        say_unwritten();
-    }
+    write_text(rt, &room[..length]);
 }
 
 // The scenario of the layout on standard input.
-fn from_layout() {
+fn from_layout(rt: &HostRuntime) {
     let mut text = layout_space();
-    let got = io::read_full(STDIN_FILENO, &mut text);
-    if !is_read(got, LAYOUT_SPACE) {
+    let got = io::read_full(STDIN, &mut text);
+    if !is_read(rt, got, LAYOUT_SPACE) {
         say_line(b"the input cannot be read");
         return;
     }
@@ -162,30 +181,29 @@ fn from_layout() {
         say_line(b"a layout has at most 524,288 bytes");
         return;
     }
-    lay_out(&text[..got]);
+    lay_out(rt, &text[..got]);
 }
 
 // Writes the line of the record at an offset; the offset of the next record, or 0 where there is none or it could not be written.
-fn show_record(input: &[u8], at: usize) -> usize {
+fn show_record(rt: &HostRuntime, input: &[u8], at: usize) -> usize {
     let mut room = io::large_buffer();
     let shown = shown::show(input, at, &mut room);
     let length = shown.length;
-    let written = io::write_all(STDOUT_FILENO, &room[..length]);
+    let written = write_text(rt, &room[..length]);
     if !written {
-        say_unwritten();
         return 0;
     }
     shown.next
 }
 
 // Writes the lines of a good scenario, a record a turn; it has no more records than bytes.
-fn show_records(input: &[u8]) {
-    let mut at = show_record(input, 0);
+fn show_records(rt: &HostRuntime, input: &[u8]) {
+    let mut at = show_record(rt, input, 0);
     for turn in 0..SCENARIO_SPACE {
         if at == 0 {
             return;
         }
-        at = show_record(input, at);
+        at = show_record(rt, input, at);
     }
 }
 
@@ -197,42 +215,53 @@ fn say_refused(input: &[u8], number: u32, offset: usize) {
 }
 
 // Writes a scenario as a layout, or says what refuses it.
-fn show_all(input: &[u8]) {
+fn show_all(rt: &HostRuntime, input: &[u8]) {
     let s = scenario::read(input);
     if s.refusal != 0 {
         say_refused(input, s.refusal, s.offset);
         return;
     }
-    show_records(input);
+    show_records(rt, input);
 }
 
 // The layout of the scenario on standard input.
-fn from_scenario() {
+fn from_scenario(rt: &HostRuntime) {
     let mut input = scenario_space();
-    let got = io::read_full(STDIN_FILENO, &mut input);
-    if !is_read(got, SCENARIO_SPACE) {
+    let got = io::read_full(STDIN, &mut input);
+    if !is_read(rt, got, SCENARIO_SPACE) {
         say_line(b"the input cannot be read");
         return;
     }
-    show_all(&input[..got]);
+    show_all(rt, &input[..got]);
+}
+
+// Whether there is such an argument; the first is the program's own name.
+fn is_argument(rt: &HostRuntime, i: usize) -> bool {
+    let mut first = [0u8; 1];
+    match rt.arg(i, &mut first) {
+        Ok(_) => true,
+        Err(FillError::TooLong) => true,
+        Err(FillError::NotPresent) => false,
+    }
 }
 
 // Whether the argument asks for a layout.
-fn is_show() -> bool {
+fn is_show(rt: &HostRuntime) -> bool {
     let mut word = io::buffer();
-    let length = os::arg(1, &mut word);
-    words::same(&word[..length], b"--show")
+    match rt.arg(1, &mut word) {
+        Ok(length) => words::same(&word[..length], b"--show"),
+        Err(_) => false,
+    }
 }
 
-fn main() {
-    let arguments = os::arg_count();
-    if arguments < 2 {
-        from_layout();
+fn main(rt: HostRuntime) {
+    if !is_argument(&rt, 1) {
+        from_layout(&rt);
         return;
     }
-    if arguments == 2 {
-        if is_show() {
-            from_scenario();
+    if !is_argument(&rt, 2) {
+        if is_show(&rt) {
+            from_scenario(&rt);
             return;
         }
     }

@@ -1,4 +1,5 @@
-// The program: the scenario files named as arguments to one sheet on standard output. It reads and writes; all else is the libraries'.
+// The program: the scenario files named as arguments to one sheet on standard output, and what went wrong, a line for each thing, on standard
+// error. It reads and writes; all else is the libraries'.
 #![tactic(auto)]
 
 ghost use Rattle.std.specs.Prelude.{◌≤◌, ◌≡◌, length};
@@ -8,11 +9,13 @@ use page::{Entry, Refusal};
 use sheet::{Highest, MOST_RUNS, Run, Sheet, Sums};
 use std::env::{Env, FillError};
 use std::fs;
-use std::io::Read;
+use std::io::{ErrorKind, Read};
 use std::os::fd::AsRawFd;
 
-// Standard output.
+// Standard output and standard error.
 const STDOUT: i32 = 1;
+
+const STDERR: i32 = 2;
 
 // The bytes that there is space for: one more than a scenario may have, which is enough to see that it is too long.
 const SPACE: usize = 65_537;
@@ -37,6 +40,55 @@ const UNREAD: File = File {
     run: sheet::NO_RUN,
 };
 
+// '23: over 256 runs'
+const TOO_MANY: u32 = 23;
+
+// Says on standard error, in one line, what went wrong.
+fn say(words: &[u8]) {
+    let mut line = io::large_buffer();
+    let named = text::letters(&mut line, 0, b"bussheet: ");
+    let said = text::letters(&mut line, named, words);
+    let end = text::put(&mut line, said, b'\n');
+    io::write_all(STDERR, &line[..end]);
+}
+
+// The same of a file, with its name.
+fn say_of(name: &[u8], words: &[u8]) {
+    let mut line = io::large_buffer();
+    let named = text::letters(&mut line, 0, name);
+    let apart = text::letters(&mut line, named, b": ");
+    let end = text::letters(&mut line, apart, words);
+    say(&line[..end]);
+}
+
+// Says what refuses the scenario of a file, and which record.
+fn say_refused(name: &[u8], input: &[u8], number: u32, offset: usize) {
+    let mut room = io::large_buffer();
+    let length = meanings::refused(input, number, offset, &mut room);
+    say_of(name, &room[..length]);
+}
+
+// Says that more files are named than a sheet has runs.
+fn say_too_many() {
+    let mut room = io::large_buffer();
+    let named = text::letters(&mut room, 0, b"refused, number 23: ");
+    let end = meanings::meaning(&mut room, named, TOO_MANY);
+    say(&room[..end]);
+}
+
+// Says that the text could not be written, unless its reader has closed it.
+fn say_unwritten(kind: ErrorKind) {
+    if kind == ErrorKind::BrokenPipe {
+        return;
+    }
+    say(b"the output cannot be written");
+}
+
+// Says of a file that it cannot be read.
+fn say_unread(name: &[u8]) {
+    say_of(name, b"the file cannot be read");
+}
+
 // Space for the bytes of a file.
 fn space() -> [u8; 65537]
     ensures { 65537 ≡ length result }
@@ -56,14 +108,18 @@ fn is_read(file: &mut fs::File, got: usize) -> bool {
     }
 }
 
-// What becomes of an open file.
-fn measured(file: &mut fs::File) -> File {
+// What becomes of a file with this name, open.
+fn measured(file: &mut fs::File, name: &[u8]) -> File {
     let mut input = space();
     let got = io::read_full(file.as_raw_fd(), &mut input);
     if !is_read(file, got) {
+        say_unread(name);
         return UNREAD;
     }
     let m = measure::measure(&input[..got]);
+    if m.refusal != 0 {
+        say_refused(name, &input[..got], m.refusal, m.offset);
+    }
     let run = m.run;
     File {
         read: true,
@@ -73,11 +129,14 @@ fn measured(file: &mut fs::File) -> File {
     }
 }
 
-// What becomes of the file at a path.
-fn opened(rt: &HostRuntime, path: &str) -> File {
+// What becomes of a file with this name, at a path.
+fn opened(rt: &HostRuntime, path: &str, name: &[u8]) -> File {
     match fs::open(rt, path) {
-        Ok(mut file) => measured(&mut file),
-        Err(_) => UNREAD,
+        Ok(mut file) => measured(&mut file, name),
+        Err(_) => {
+            say_unread(name);
+            UNREAD
+        }
     }
 }
 
@@ -100,11 +159,14 @@ fn handed(i: usize) -> [u8; 11] {
 // to be handed over.
 fn found(rt: &HostRuntime, i: usize, name: &[u8]) -> File {
     if let Ok(path) = str::from_utf8(name) {
-        return opened(rt, path);
+        return opened(rt, path, name);
     }
     match str::from_utf8(&handed(i)) {
-        Ok(path) => opened(rt, path),
-        Err(_) => UNREAD,
+        Ok(path) => opened(rt, path, name),
+        Err(_) => {
+            say_unread(name);
+            UNREAD
+        }
     }
 }
 
@@ -118,11 +180,17 @@ fn argument(rt: &HostRuntime, i: usize, name: &mut [u8; 4096]) -> usize
     }
 }
 
-// What becomes of the file that an argument names.
+// What becomes of the file that an argument names; there is none with a name for which there is no space.
 fn played(rt: &HostRuntime, i: usize) -> File {
     let mut name = io::buffer();
-    let length = argument(rt, i, &mut name);
-    found(rt, i, &name[..length])
+    match rt.arg(i, &mut name) {
+        Ok(length) => found(rt, i, &name[..length]),
+        Err(FillError::TooLong) => {
+            say_unread(&name);
+            UNREAD
+        }
+        Err(FillError::NotPresent) => found(rt, i, b""),
+    }
 }
 
 // What a line is of.
@@ -139,34 +207,45 @@ fn entry(file: File, row: Run) -> Entry {
     })
 }
 
+// Writes a text, or says that it could not be written; whether it was.
+fn write_text(rt: &HostRuntime, text: &[u8]) -> bool {
+    match rt.write_all(text) {
+        Ok(()) => true,
+        Err(e) => {
+            say_unwritten(e.kind());
+            false
+        }
+    }
+}
+
 // Writes the line of an entry with its name; whether it could.
-fn write_named(entry: Entry, name: &[u8]) -> bool {
+fn write_named(rt: &HostRuntime, entry: Entry, name: &[u8]) -> bool {
     let mut room = io::large_buffer();
     let count = page::line(entry, name, &mut room);
-    io::write_all(STDOUT, &room[..count])
+    write_text(rt, &room[..count])
 }
 
 // Writes the line of the file that an argument names; of a name that is too long, the bytes for which there is space.
 fn write_line(rt: &HostRuntime, i: usize, entry: Entry) -> bool {
     let mut name = io::buffer();
     match rt.arg(i, &mut name) {
-        Ok(length) => write_named(entry, &name[..length]),
-        Err(FillError::TooLong) => write_named(entry, &name),
-        Err(FillError::NotPresent) => write_named(entry, b""),
+        Ok(length) => write_named(rt, entry, &name[..length]),
+        Err(FillError::TooLong) => write_named(rt, entry, &name),
+        Err(FillError::NotPresent) => write_named(rt, entry, b""),
     }
 }
 
-fn write_heading() -> bool {
+fn write_heading(rt: &HostRuntime) -> bool {
     let mut room = io::large_buffer();
     let count = page::heading(&mut room);
-    io::write_all(STDOUT, &room[..count])
+    write_text(rt, &room[..count])
 }
 
 // Writes the lines that close the sheet, with the name of the run that comes highest.
-fn write_closing(sums: Sums, highest: Highest, name: &[u8]) {
+fn write_closing(rt: &HostRuntime, sums: Sums, highest: Highest, name: &[u8]) {
     let mut room = io::large_buffer();
     let count = page::closing(sums, highest, name, &mut room);
-    io::write_all(STDOUT, &room[..count]);
+    write_text(rt, &room[..count]);
 }
 
 // The argument that names the run which comes highest; 0 where none has a figure.
@@ -181,14 +260,14 @@ fn argument_of(highest: Highest) -> usize {
 fn close(rt: &HostRuntime, sums: Sums, highest: Highest) {
     let mut name = io::buffer();
     let length = argument(rt, argument_of(highest), &mut name);
-    write_closing(sums, highest, &name[..length]);
+    write_closing(rt, sums, highest, &name[..length]);
 }
 
 // Writes a sheet and what became of its files, as long as it can be written.
 fn write(rt: &HostRuntime, sheet: Sheet, files: [File; 256], count: usize)
     requires { count ≤ most_runs }
 {
-    if !write_heading() {
+    if !write_heading(rt) {
         return;
     }
     let rows = sheet.rows;
@@ -205,6 +284,7 @@ fn write(rt: &HostRuntime, sheet: Sheet, files: [File; 256], count: usize)
 // 'REFUSED 23 0', where more files are named than a sheet has runs.
 fn refuse() {
     io::write_all(STDOUT, b"REFUSED 23 0\n");
+    say_too_many();
 }
 
 // Whether there is such an argument.
