@@ -29,7 +29,7 @@ pub enum Entry {
 pub fn heading(room: &mut [u8; 65536]) -> usize
     ensures value { result ≡ length heading_text }
     ensures room_after { room.new ≡ room_with heading_text room.old }
-    ensures upper_bound { result ≤ room_bytes }
+    ensures length_bound { result ≤ room_bytes }
 {
     lines::heading(room, 0)
 }
@@ -38,7 +38,7 @@ pub fn heading(room: &mut [u8; 65536]) -> usize
 pub fn line(entry: Entry, name: &[u8], room: &mut [u8; 65536]) -> usize
     ensures value { result ≡ length (line_text entry name.now) }
     ensures room_after { room.new ≡ room_with (line_text entry name.now) room.old }
-    ensures upper_bound { result ≤ room_bytes }
+    ensures length_bound { result ≤ room_bytes }
 {
     let at = lines::cells(room, 0, entry);
     lines::named(room, at, name)
@@ -48,7 +48,7 @@ pub fn line(entry: Entry, name: &[u8], room: &mut [u8; 65536]) -> usize
 pub fn closing(sums: Sums, highest: Highest, name: &[u8], room: &mut [u8; 65536]) -> usize
     ensures value { result ≡ length (closing_text sums highest name.now) }
     ensures room_after { room.new ≡ room_with (closing_text sums highest name.now) room.old }
-    ensures upper_bound { result ≤ room_bytes }
+    ensures length_bound { result ≤ room_bytes }
 {
     let at = lines::sums(room, 0, sums);
     lines::highest(room, at, highest, name)
@@ -58,7 +58,7 @@ pub fn closing(sums: Sums, highest: Highest, name: &[u8], room: &mut [u8; 65536]
 pub fn write(sheet: Sheet, room: &mut [u8; 65536]) -> usize
     ensures value { result ≡ length (sheet_text sheet) }
     ensures room_after { room.new ≡ room_with (sheet_text sheet) room.old }
-    ensures upper_bound { result ≤ room_bytes }
+    ensures length_bound { result ≤ room_bytes }
 {
     let rows = sheet.rows;
     let highest = sheet.highest;

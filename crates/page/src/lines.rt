@@ -118,9 +118,9 @@ pub fn cells(room: &mut [u8; 65536], at: usize, entry: Entry) -> usize
 
 // How many bytes of a name are written.
 fn shown(name: &[u8]) -> usize
-    ensures upper_bound { result ≤ length name.now }
-    ensures upper_bound_2 { result ≤ name_bytes }
-    ensures name_value { take result name.now ≡ shownText name.now }
+    ensures within_name { result ≤ length name.now }
+    ensures within_most { result ≤ name_bytes }
+    ensures text_value { take result name.now ≡ shownText name.now }
 {
     if NAME < name.len() {
         return NAME;
@@ -243,7 +243,7 @@ pub fn at_most(count: usize) -> usize
 
 // The lines of the first so many runs, each with its place, counted from 1, for a name.
 pub fn rows(room: &mut [u8; 65536], at: usize, runs: [Run; 256], count: usize) -> usize
-    requires count_le_most_runs { count ≤ most_runs }
+    requires count_bound { count ≤ most_runs }
     requires roomy { roomy at 38144 }
     ensures { Told room.old room.new at result (rows_text 0 (take count runs)) 38144 }
 {

@@ -16,11 +16,11 @@ returns c =
     let put = c.put in
     let name = args.name.now in
     let fine = count.ensures in
-    let long = length-take-le count.result name fine.upper_bound in
+    let long = length-take-le count.result name fine.within_name in
     let a = told_here args.room.now args.at (space ∷ space ∷ []) (omega arith) (spaces.ensures.value, spaces.ensures.room_after) in
-    let b = told_here spaces.new.room spaces.result (take count.result name) (omega (arith, a.past, fine.upper_bound_2)) (letters.ensures.value, letters.ensures.room_after) in
-    let d = told_here letters.new.room letters.result (newline ∷ []) (omega (arith, a.past, b.past, fine.upper_bound_2)) (put.ensures.value, put.ensures.room_after) in
+    let b = told_here spaces.new.room spaces.result (take count.result name) (omega (arith, a.past, fine.within_most)) (letters.ensures.value, letters.ensures.room_after) in
+    let d = told_here letters.new.room letters.result (newline ∷ []) (omega (arith, a.past, b.past, fine.within_most)) (put.ensures.value, put.ensures.room_after) in
     subst
     (λ (shown : List ℕ). Told args.room.now put.new.room args.at put.result (space ∷ space ∷ (shown ++ (newline ∷ []))) 4_099)
-    fine.name_value
-    (told_within (told_then a (told_then b d)) (omega (arith, fine.upper_bound_2)))
+    fine.text_value
+    (told_within (told_then a (told_then b d)) (omega (arith, fine.within_most)))
