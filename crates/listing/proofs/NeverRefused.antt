@@ -107,7 +107,7 @@ pub due_stands :
 due_stands [] b h = (h, refl)
 due_stands (a ∷ later) b h =
     let kept = due_stands later (admit b (asks a)).1 (next_stands b h (admission (asks a))) in
-    go (due b.clock a) (kept.0, kept.1 ∙ admit_clock b (asks a))
+    go (due b.clock a) refl (kept.0, kept.1 ∙ admit_clock b (asks a))
   where
     admitted : Left
     admitted = admit_due (admit b (asks a)).1 later
@@ -118,11 +118,12 @@ due_stands (a ∷ later) b h =
     waits : Left
     waits = record { text = []; bus = b; arrivals = a ∷ later }
 
-    go :
-        (t : Bool) → Standing admitted.bus × (admitted.bus.clock ≡ b.clock)
-        → Standing (cond t (after text admitted) waits).bus × ((cond t (after text admitted) waits).bus.clock ≡ b.clock)
-    go true kept = kept
-    go false kept = (h, refl)
+    Kept : Left → Type 0
+    Kept x = Standing x.bus × (x.bus.clock ≡ b.clock)
+
+    go : (t : Bool) → due b.clock a ≡ t → Kept admitted → Kept (admit_due b (a ∷ later))
+    go true e kept = let same : admit_due b (a ∷ later) ≡ after text admitted = simp e in subst Kept (sym same) kept
+    go false e kept = let same : admit_due b (a ∷ later) ≡ waits = simp e in subst Kept (sym same) (h, refl)
 
 -- no step of a run is refused, if the clock has room for its steps
 run_fine :

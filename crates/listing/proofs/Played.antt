@@ -27,6 +27,7 @@ use Rattle.bus.proofs.Coded.{coded_admit_form, coded_step_form}
 use Rattle.bus.proofs.Promises.{answer_read}
 use Rattle.listing.specs.Text.{refusal_text, dropped_text, probed_text}
 use Rattle.listing.specs.Run.{Left, admit_due, closing_text, run_text, answers_of, end_of}
+use Rattle.listing.specs.Run as Run
 use Rattle.listing.specs.Turns.{Play, report_text, reports_text, answers_in, course_of}
 
 -- ---- what a stretch takes and leaves
@@ -100,24 +101,35 @@ course_moves calls s (a ∷ later) more steps h =
 
 -- ---- the run
 
--- where an arrival is due, the run is what it leaves
+-- where an arrival is due, it is admitted
+due_admitted :
+    (b : Bus) (a : Arrival) (later : List Arrival) → due b.clock a ≡ true
+    → admit_due b (a ∷ later) ≡ Run.after (refusal_text b.clock a.address.0 (admit b (asks a)).0.refusal) (admit_due (admit b (asks a)).1 later)
+due_admitted b a later e = simp e
+
+-- and the run is what it leaves
 run_admits :
     (steps : ℕ) (b : Bus) (a : Arrival) (later : List Arrival) → due b.clock a ≡ true
     → run_text (suc steps) b (a ∷ later)
     ≡ refusal_text b.clock a.address.0 (admit b (asks a)).0.refusal ++ run_text (suc steps) (admit b (asks a)).1 later
 run_admits steps b a later e =
-    simp e (append_assoc (refusal_text b.clock a.address.0 (admit b (asks a)).0.refusal) _ _)
+    ap
+    (λ (x : Left).
+    x.text ++ (dropped_text (step x.bus).0 ++ (probed_text (step x.bus).0 ++ run_text steps (step x.bus).1 x.arrivals)))
+    (due_admitted b a later e)
+    ∙ append_assoc (refusal_text b.clock a.address.0 (admit b (asks a)).0.refusal) _ _
 
 -- and so are its answers and its end, which such an arrival adds nothing to
 answers_admit :
     (steps : ℕ) (b : Bus) (a : Arrival) (later : List Arrival) → due b.clock a ≡ true
     → answers_of (suc steps) b (a ∷ later) ≡ answers_of (suc steps) (admit b (asks a)).1 later
-answers_admit steps b a later e = simp e refl
+answers_admit steps b a later e =
+    ap (λ (x : Left). (step x.bus).0 ∷ answers_of steps (step x.bus).1 x.arrivals) (due_admitted b a later e)
 
 end_admits :
     (steps : ℕ) (b : Bus) (a : Arrival) (later : List Arrival) → due b.clock a ≡ true
     → end_of (suc steps) b (a ∷ later) ≡ end_of (suc steps) (admit b (asks a)).1 later
-end_admits steps b a later e = simp e refl
+end_admits steps b a later e = ap (λ (x : Left). end_of steps (step x.bus).1 x.arrivals) (due_admitted b a later e)
 
 -- none of these arrivals is due: there is none, or the first is not
 abbrev none_due : Bus → List Arrival → Type 0
