@@ -12,6 +12,7 @@ import glob
 import json
 import os
 import re
+import subprocess
 import sys
 
 WORD = re.compile(r'--[^\n]*|"[^"\n]*"|[ \t\n]+|[(){}\[\];,]|[^\s(){}\[\];,]+')
@@ -45,7 +46,8 @@ def blank(t):
 
 
 def common_names():
-    path = '/opt/rattle/rattle/std/proofs/Common.antt'
+    doc = subprocess.run(['rt', 'doc'], capture_output=True, text=True, stdin=subprocess.DEVNULL).stdout.strip()
+    path = os.path.join(os.path.dirname(doc), 'rattle/std/proofs/Common.antt')
     names = set()
     if os.path.exists(path):
         for m in re.finditer(r'\{([^}]*)\}', open(path).read()):

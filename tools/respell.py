@@ -7,9 +7,11 @@ import collections
 import glob
 import os
 import re
+import subprocess
 import sys
 
-KIT = "/opt/rattle/rattle"
+# The kit's library lies beside the page that 'rt doc' names.
+KIT = os.path.join(os.path.dirname(subprocess.run(["rt", "doc"], capture_output=True, text=True, stdin=subprocess.DEVNULL).stdout.strip()), "rattle")
 WORD = re.compile(r"[A-Za-z][\w'-]*")
 DECLARED = re.compile(
     r"^\s*(?:(?:abbrev|unfoldable|opaque|pub|private|inductive|where) )*([A-Za-z][\w'-]*)(?:\s+\{[^}]*\}|\s+\([^)]*\))*\s*:(?:\s+(.*))?$"
