@@ -10,7 +10,9 @@ use lib.Dec.{eqb, ltb}
 use lib.ListN.{length, get_or, take, set}
 use borrow.Author.Tests.{eqb-true, eqb-false, ltb-true, ltb-false, lt-ltb, le-ltb, not-true}
 use Rattle.rules.specs.Lists.{keep, count, total}
-use Rattle.rules.specs.Bus.{Discipline, PRI, RTDG, RTVC, Offer, Station, Bus, most_admitted, late}
+use Rattle.rules.specs.declared.Discipline.{Discipline}
+use Rattle.rules.specs.declared.Discipline.TheVariants.{PRI, RTDG, RTVC}
+use Rattle.rules.specs.Bus.{Offer, Station, Bus, most_admitted, late}
 use Rattle.rules.specs.SetUp.{discipline_of}
 use Rattle.rules.specs.Standing.{OfferStands}
 use Rattle.rules.specs.Begin.{sits_out, parameter_of, offers, chosen, goes_before, choice, entered, drops_of, begin}

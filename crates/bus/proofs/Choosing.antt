@@ -11,7 +11,9 @@ use lib.Dec.{ltb}
 use lib.ListN.{take}
 use borrow.Author.Tests.{ltb-false, lt-ltb, le-ltb}
 use Rattle.rules.specs.Lists.{Among, All}
-use Rattle.rules.specs.Bus.{Discipline, PRI, RTDG, RTVC, late}
+use Rattle.rules.specs.declared.Discipline.{Discipline}
+use Rattle.rules.specs.declared.Discipline.TheVariants.{PRI, RTDG, RTVC}
+use Rattle.rules.specs.Bus.{late}
 use Rattle.rules.specs.SetUp.{discipline_of}
 use Rattle.rules.specs.Standing.{Rising}
 use Rattle.rules.specs.Begin.{smaller, goes_before, chosen, choice}

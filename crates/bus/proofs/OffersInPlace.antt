@@ -12,7 +12,9 @@ use lib.ListN.{length, get_or, take}
 use lib.Seq.{slice, get_or-take}
 use borrow.Author.Tests.{eqb-true, eqb-false, lt-ltb, le-ltb}
 use Rattle.rules.specs.Lists.{Among}
-use Rattle.rules.specs.Bus.{Discipline, PRI, RTDG, RTVC, late, code}
+use Rattle.rules.specs.declared.Discipline.{Discipline}
+use Rattle.rules.specs.declared.Discipline.TheVariants.{PRI, RTDG, RTVC}
+use Rattle.rules.specs.Bus.{late, code}
 use Rattle.rules.specs.SetUp.{discipline_of}
 use Rattle.rules.specs.Begin.{sits_out, goes_before, chosen, choice}
 use Rattle.rules.specs.Standing.{StationStands}

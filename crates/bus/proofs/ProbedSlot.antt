@@ -19,7 +19,9 @@ use Rattle.window.specs.Splitting.{first_window, left_half, move_right, moved_ri
 use Rattle.window.proofs.Facts.{moved_right_free}
 use Rattle.rules.specs.Lists.{kept, keep, Among}
 use Rattle.rules.specs.Bus as Machine
-use Rattle.rules.specs.Bus.{Discipline, PRI, RTDG, RTVC, Station, Bus, places, most_stations, late}
+use Rattle.rules.specs.declared.Discipline.{Discipline}
+use Rattle.rules.specs.declared.Discipline.TheVariants.{PRI, RTDG, RTVC}
+use Rattle.rules.specs.Bus.{Station, Bus, places, most_stations, late}
 use Rattle.rules.specs.SetUp.{discipline_of}
 use Rattle.rules.specs.Standing.{OfferStands, StationStands, WindowStands, ContentionStands}
 use Rattle.rules.specs.Probe as Probe

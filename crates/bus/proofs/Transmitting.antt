@@ -17,7 +17,8 @@ use Rattle.window.specs.declared.Window.{Window}
 use Rattle.window.specs.Splitting.{in_window}
 use Rattle.word.specs.Word.{bits, bit_at, word_of, set_at}
 use Rattle.word.proofs.Laws.{set_next, word_stays, word_bits, word_same, word_none, bit_none, both_of, both_with}
-use Rattle.rules.specs.Bus.{Discipline, late}
+use Rattle.rules.specs.declared.Discipline.{Discipline}
+use Rattle.rules.specs.Bus.{late}
 use Rattle.rules.specs.SetUp.{discipline_of}
 use Rattle.sorts.proofs.DisciplineCases.{is_rtdg, by_discipline}
 use Rattle.bus.specs.Types.{Slot, Contention}

@@ -6,7 +6,9 @@ use Rattle.window.specs.declared.Side.TheVariants.{Left, Right}
 use Rattle.window.specs.Splitting.{first_window, left_half, moved_right, in_window}
 use Rattle.word.specs.Word.{bit_at, members, word_of, first_or, count_of}
 use Rattle.rules.specs.Lists.{first_of}
-use Rattle.rules.specs.Bus.{places, most_admitted, Discipline, PRI, RTDG, RTVC, late}
+use Rattle.rules.specs.declared.Discipline.{Discipline}
+use Rattle.rules.specs.declared.Discipline.TheVariants.{PRI, RTDG, RTVC}
+use Rattle.rules.specs.Bus.{places, most_admitted, late}
 use Rattle.rules.specs.SetUp.{discipline_of}
 use Rattle.rules.specs.Standing.{value_is_fit, length_fits}
 use Rattle.rules.specs.Begin.{sits_out, choice}

@@ -7,7 +7,7 @@ ghost use Rattle.state.specs.State.{last_of};
 ghost use Rattle.bus.specs.Parts.{parameter_for, rank_of};
 
 use rules::{Packet, Slot};
-use sorts::{Capability, disciplines};
+use sorts::{Capability, Windowed, disciplines};
 use state::{Round, Settings};
 
 // 'the smallest value, the lowest packet number among equals'
@@ -88,7 +88,7 @@ pub fn parameter(settings: Settings, clock: Slot, capability: Capability, packet
         let l = laxity(settings, clock, Slot(packet.value));
         return sorts::wide(l);
     }
-    sorts::capability_number(capability)
+    capability.number()
 }
 
 // 'if no circuit has won in this round or the capability is above the last winner's; otherwise the station sits out'

@@ -7,7 +7,7 @@ ghost use Rattle.bus.specs.Parts.{addresses_of, transmitters_of, transmitters_in
 
 use crate::{Answer, Heard, Moved, Progress};
 use rules::{Packet, Slot};
-use sorts::{Address, Capability, disciplines};
+use sorts::{Address, Capability, Windowed, disciplines};
 use state::{Contention, Listed, Round, Segment, Settings, zeros};
 use window::{Side, Window};
 
@@ -51,7 +51,7 @@ pub fn addresses_of(listed: [Listed; 64]) -> [u64; 64]
     let mut addresses = [0u64; 64];
     for i in 0..64 {
         let l = listed[i];
-        addresses[i] = sorts::address_number(l.address);
+        addresses[i] = l.address.number();
     }
     addresses
 }

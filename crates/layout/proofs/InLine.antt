@@ -11,7 +11,8 @@ use lib.Dec.{eqb, leb}
 use lib.ListN.{length, take, drop, drop_of_length-le, get_or, set, replicate, length-append}
 use lib.Seq.{take-append-le, take-length, drop-cons, set-append_seam}
 use Rattle.rules.specs.Lists.{verdict, first_of}
-use Rattle.rules.specs.Bus.{RTDG, RTVC, code}
+use Rattle.rules.specs.declared.Discipline.TheVariants.{RTDG, RTVC}
+use Rattle.rules.specs.Bus.{code}
 use Rattle.words.specs.Words.{same, first_word, after_word, word_span, number_of, number_form}
 use Rattle.words.specs.declared.Span.{Span}
 use Rattle.words.specs.declared.Number.{Number}

@@ -3,7 +3,9 @@
 use Rattle.std.specs.Prelude.{ℕ, suc, ◌/◌, ◌%◌, List, [], ◌∷◌, ◌++◌, map, length}
 use Prim.Native.String.{String}
 use Rattle.rules.specs.Lists.{count_up}
-use Rattle.rules.specs.Bus.{Discipline, PRI, RTDG, RTVC, code}
+use Rattle.rules.specs.declared.Discipline.{Discipline}
+use Rattle.rules.specs.declared.Discipline.TheVariants.{PRI, RTDG, RTVC}
+use Rattle.rules.specs.Bus.{code}
 use Rattle.rules.specs.SetUp.{Asked, Request}
 use Rattle.text.specs.Text.{bytes, digit, newline}
 use Rattle.layout.specs.Layout.{arrival_of, Saying, wrong, says}

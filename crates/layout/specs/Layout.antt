@@ -3,7 +3,8 @@
 use Rattle.std.specs.Prelude.{ℕ, zero, suc, ◌+◌, ◌*◌, ◌/◌, ◌-◌, Bool, not, ◌||◌, cond, List, [], ◌∷◌, ◌++◌, ltb, leb, eqb, length, get_or}
 use Rattle.std.proofs.Math.Option.{Option, none, some}
 use Rattle.rules.specs.Lists.{first_of}
-use Rattle.rules.specs.Bus.{most_stations, RTDG, RTVC, code}
+use Rattle.rules.specs.declared.Discipline.TheVariants.{RTDG, RTVC}
+use Rattle.rules.specs.Bus.{most_stations, code}
 use Rattle.rules.specs.SetUp.{Asked, Request, discipline_of, set_up_verdict}
 use Rattle.rules.specs.Standing.{value_is_fit, length_fits}
 use Rattle.state.specs.declared.Arrival.{Arrival}

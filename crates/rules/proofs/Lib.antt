@@ -30,3 +30,4 @@ pub mod Computing
 pub mod Starred
 pub mod WrongEngines
 pub mod Promises
+pub mod Unique

@@ -5,6 +5,8 @@
 use Rattle.std.specs.Prelude.{ℕ, Bool, false, List, [], ◌∷◌, ◌++◌, map, ltb, length}
 use Rattle.std.proofs.Math.Option.{Option, none}
 use Rattle.window.specs.declared.Window.{Window}
+pub use Rattle.rules.specs.declared.Discipline.{Discipline}
+pub use Rattle.rules.specs.declared.Discipline.TheVariants.{PRI, RTDG, RTVC}
 pub use Rattle.rules.specs.declared.Slot.{Slot}
 pub use Rattle.rules.specs.declared.Packet.{Packet}
 use Rattle.rules.specs.Lists.{total}
@@ -47,10 +49,6 @@ most_admitted = 4_294_967_295
 -- packets turned away (P4): 'The count stops at 4,294,967,295.'
 abbrev pub most_turned : ℕ
 most_turned = 4_294_967_295
-
--- 'by priority', 'by laxity', 'by virtual circuit'
-pub data Discipline : Type 0 where
-  PRI RTDG RTVC : Discipline
 
 -- '0 PRI, 1 RTDG, 2 RTVC'
 abbrev pub code : Discipline → ℕ

@@ -1,6 +1,7 @@
 -- The modules of the definitions. Assumes nothing.
 pub mod Lists
 pub mod Bus
+pub mod Refusals
 pub mod SetUp
 pub mod Standing
 pub mod Admission

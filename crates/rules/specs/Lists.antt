@@ -1,5 +1,6 @@
 -- Small words on lists and tests, in which the rules are written. Assumes nothing.
 use Rattle.std.specs.Prelude.{ℕ, zero, suc, ◌+◌, ◌≡◌, ◌⊎◌, Bool, true, false, not, ◌&&◌, ◌||◌, List, [], ◌∷◌, leb, eqb}
+use Rattle.std.specs.List.{list_any, list_all}
 
 -- 1 for a test that holds, 0 for one that does not
 abbrev pub bit : Bool → ℕ
@@ -24,13 +25,11 @@ module _ {X : Type 0} where
 
   -- whether the test holds for some of xs
   abbrev pub some_of : (X → Bool) → List X → Bool
-  some_of test [] = false
-  some_of test (x ∷ xs) = test x || some_of test xs
+  some_of test xs = list_any test xs
 
   -- whether the test holds for each of xs
   abbrev pub each_of : (X → Bool) → List X → Bool
-  each_of test [] = true
-  each_of test (x ∷ xs) = test x && each_of test xs
+  each_of test xs = list_all test xs
 
   -- the sum of a number over xs
   abbrev pub total : (X → ℕ) → List X → ℕ

@@ -11,7 +11,8 @@ use lib.Seq.{take_all, drop_at, drop-drop}
 use borrow.Author.Tests.{le-ltb, ltb-false, eqb-true}
 use Rattle.rules.specs.Lists.{outside, at_head, in_tail, All, first_of}
 use Rattle.rules.specs.declared.Verdict.{Verdict}
-use Rattle.rules.specs.Bus.{most_stations, least_space, most_space, RTDG, RTVC, code}
+use Rattle.rules.specs.declared.Discipline.TheVariants.{RTDG, RTVC}
+use Rattle.rules.specs.Bus.{most_stations, least_space, most_space, code}
 use Rattle.rules.specs.SetUp.{Asked, Request, fine, fault, step_outside, settings_tests, set_up_verdict}
 use Rattle.rules.specs.Conditions.{StepOutside, CapabilityOutside, row_conditions, set_up_conditions}
 use Rattle.rules.proofs.Laws.{all_cons, all_nil}

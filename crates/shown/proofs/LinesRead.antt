@@ -8,7 +8,9 @@ use lib.Dec.{ltb, eqb}
 use lib.ListN.{length}
 use borrow.Author.Tests.{le-ltb, lt-leb, ne_eqb, eqb-false}
 use Rattle.rules.specs.Lists.{first_of}
-use Rattle.rules.specs.Bus.{most_stations, Discipline, PRI, RTDG, RTVC, code}
+use Rattle.rules.specs.declared.Discipline.{Discipline}
+use Rattle.rules.specs.declared.Discipline.TheVariants.{PRI, RTDG, RTVC}
+use Rattle.rules.specs.Bus.{most_stations, code}
 use Rattle.rules.specs.SetUp.{Asked, discipline_of, set_up_verdict}
 use Rattle.rules.specs.Standing.{value_is_fit, length_fits}
 use Rattle.rules.proofs.Laws.{and-true}

@@ -9,7 +9,8 @@ use lib.ListN.{length, length-append}
 use lib.Seq.{append_snoc, take_all}
 use borrow.Author.Tests.{le-ltb}
 use Rattle.rules.specs.Lists.{at_head, in_tail, All}
-use Rattle.rules.specs.Bus.{code, RTVC}
+use Rattle.rules.specs.declared.Discipline.TheVariants.{RTVC}
+use Rattle.rules.specs.Bus.{code}
 use Rattle.rules.specs.SetUp.{Asked, Request, set_up_verdict}
 use Rattle.rules.specs.Conditions.{row_conditions, set_up_conditions}
 use Rattle.rules.proofs.Laws.{all_cons, all_nil}

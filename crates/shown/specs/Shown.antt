@@ -2,7 +2,8 @@
 -- has, are those by which a layout is read (layout/specs/Layout.antt). Assumes nothing.
 use Rattle.std.specs.Prelude.{ℕ, zero, suc, ◌+◌, Bool, ◌&&◌, cond, List, [], ◌∷◌, ◌++◌, eqb, length, drop}
 use Rattle.rules.specs.Lists.{first_of}
-use Rattle.rules.specs.Bus.{Discipline, PRI, RTDG, RTVC}
+use Rattle.rules.specs.declared.Discipline.{Discipline}
+use Rattle.rules.specs.declared.Discipline.TheVariants.{PRI, RTDG, RTVC}
 use Rattle.rules.specs.SetUp.{Asked, Request, discipline_of}
 use Rattle.rules.specs.Standing.{value_is_fit, length_fits}
 use Rattle.state.specs.declared.Arrival.{Arrival}

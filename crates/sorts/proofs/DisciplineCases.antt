@@ -2,7 +2,8 @@
 use Prim.Native.Nat.{ℕ, zero, suc, ◌≤◌}
 use mathlib.Core.Path.{◌≡◌, refl, ap}
 use native.Mathlib.Omega.{arith}
-use Rattle.rules.specs.Bus.{Discipline, PRI, RTDG, RTVC}
+use Rattle.rules.specs.declared.Discipline.{Discipline}
+use Rattle.rules.specs.declared.Discipline.TheVariants.{PRI, RTDG, RTVC}
 use Rattle.rules.specs.SetUp.{discipline_of}
 
 pub is_pri : {n : ℕ} → n ≡ 0 → discipline_of n ≡ PRI

@@ -6,13 +6,12 @@ use Rattle.sorts.proofs.before.Reads as before
 use Rattle.sorts.proofs.same_slot.Reads as same-slot
 use Rattle.sorts.proofs.slots_until.Reads as slots-until
 use Rattle.sorts.proofs.same_address.Reads as same_address
-use Rattle.sorts.proofs.address_past.Reads as address-past
-use Rattle.sorts.proofs.address_number.Reads as address-number
 use Rattle.sorts.proofs.same_capability.Reads as same_capability
 use Rattle.sorts.proofs.not_above.Reads as not-above
-use Rattle.sorts.proofs.capability_past.Reads as capability-past
-use Rattle.sorts.proofs.capability_number.Reads as capability-number
 use Rattle.sorts.proofs.wide.Reads as wide
+use Rattle.sorts.proofs.AddressWindowed.number.Reads as address_number
+use Rattle.sorts.proofs.CapabilityWindowed.number.Reads as capability_number
+use Rattle.sorts.proofs.is_past.Reads as is_past
 use Rattle.sorts.proofs.disciplines.late.Reads as late
 use Rattle.sorts.proofs.disciplines.value_fits.Reads as value_is_fit
 use Rattle.sorts.proofs.disciplines.length_fits.Reads as length_fits
@@ -31,23 +30,11 @@ slots_until_determined κs args r r' end end' = unique
 pub same_address_determined : Determines same_address.Learnt
 same_address_determined κs args r r' end end' = unique
 
-pub address_past_determined : Determines address-past.Learnt
-address_past_determined κs args r r' end end' = unique
-
-pub address_number_determined : Determines address-number.Learnt
-address_number_determined κs args r r' end end' = unique
-
 pub same_capability_determined : Determines same_capability.Learnt
 same_capability_determined κs args r r' end end' = unique
 
 pub not_above_determined : Determines not-above.Learnt
 not_above_determined κs args r r' end end' = unique
-
-pub capability_past_determined : Determines capability-past.Learnt
-capability_past_determined κs args r r' end end' = unique
-
-pub capability_number_determined : Determines capability-number.Learnt
-capability_number_determined κs args r r' end end' = unique
 
 pub wide_determined : Determines wide.Learnt
 wide_determined κs args r r' end end' = unique
@@ -66,3 +53,12 @@ one_more_determined κs args r r' end end' = unique
 
 pub turned_after_determined : Determines turned-after.Learnt
 turned_after_determined κs args r r' end end' = unique
+
+pub address_number_determined : Determines address_number.Learnt
+address_number_determined κs args r r' end end' = unique
+
+pub capability_number_determined : Determines capability_number.Learnt
+capability_number_determined κs args r r' end end' = unique
+
+pub is_past_determined : (g : _) (laws : _) (copies : _) (windowed : _) (d : _) (clones : _) (e : _) → Determines (is_past.Learnt g laws copies windowed d clones e)
+is_past_determined g laws copies windowed d clones e κs args r r' end end' = unique

@@ -15,20 +15,18 @@ pub fn one_more(count: u64) -> u64
     ensures { result ≡ one_higher count }
 {
     if count < MOST_TURNED {
-        return count + 1;
+        count + 1
+    } else {
+        count
     }
-    count
 }
 
 // The count after an admission: 'raised by exactly the admissions refused with 14 or 15'.
 pub fn turned_after(refusal: u32, count: u64) -> u64
     ensures { result ≡ turned_after refusal count }
 {
-    if refusal == LATE {
-        return one_more(count);
+    match refusal {
+        LATE | FILLED => one_more(count),
+        _ => count,
     }
-    if refusal == FILLED {
-        return one_more(count);
-    }
-    count
 }

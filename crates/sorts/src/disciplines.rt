@@ -1,10 +1,11 @@
-// What the three disciplines hold a packet to: its value, its latest start and its length.
+// What the three disciplines hold a packet to: its value, its latest start and its length. A discipline comes by the number that a set-up
+// gives, which may be any.
 ghost use Rattle.std.specs.Prelude.{◌≡◌};
 ghost use Rattle.rules.specs.Bus.{late};
 ghost use Rattle.rules.specs.SetUp.{discipline_of};
 ghost use Rattle.rules.specs.Standing.{value_is_fit, length_fits};
 
-use rules::Slot;
+use rules::{Discipline, Slot};
 
 pub const PRI: u32 = 0;
 
@@ -22,31 +23,26 @@ const LONGEST_PACKET: u32 = 4_096;
 pub fn late(discipline: u32, slot: Slot, value: u32) -> bool
     ensures { result ≡ late (discipline_of discipline) slot.0 value }
 {
-    if discipline == RTDG {
-        return crate::before(Slot(value), slot);
+    match Discipline::from(discipline) {
+        Discipline::RTDG => Slot(value) < slot,
+        Discipline::PRI | Discipline::RTVC => false,
     }
-    false
 }
 
 // 'for PRI, a priority 0 to D - 1; for RTDG, the latest slot in which the packet may start; for RTVC, 0'
 pub fn value_fits(discipline: u32, d: u32, value: u32) -> bool
     ensures { result ≡ value_is_fit (discipline_of discipline) d value }
 {
-    if discipline == PRI {
-        return value < d;
+    match Discipline::from(discipline) {
+        Discipline::PRI => value < d,
+        Discipline::RTDG => value <= CLOCK_END,
+        Discipline::RTVC => value == 0,
     }
-    if discipline == RTDG {
-        return value <= CLOCK_END;
-    }
-    value == 0
 }
 
 // Whether a packet's length is in its range.
 pub fn length_fits(length: u32) -> bool
     ensures { result ≡ length_fits length }
 {
-    if length < 1 {
-        return false;
-    }
-    length <= LONGEST_PACKET
+    (1..=LONGEST_PACKET).contains(&length)
 }

@@ -16,7 +16,8 @@ use lib.Seq.{slice, slice-cons, slice_empty, take-suc, take_all, take-take, get_
 use borrow.Author.Tests.{leb-true, leb-false, ltb-true, ltb-false, eqb-true, le-leb, lt-leb, lt-ltb, le-ltb, ne_eqb}
 use Rattle.rules.specs.Lists.{each_of, outside, first_of, verdict}
 use Rattle.rules.specs.declared.Verdict.{Verdict}
-use Rattle.rules.specs.Bus.{most_stations, least_space, most_space, most_step, places, RTDG, code, Station, Bus, nothing}
+use Rattle.rules.specs.declared.Discipline.TheVariants.{RTDG}
+use Rattle.rules.specs.Bus.{most_stations, least_space, most_space, most_step, places, code, Station, Bus, nothing}
 use Rattle.rules.specs.SetUp.{Asked, Request, fault, fine, settings_tests, station_tests, row_tests, set_up_verdict, fresh_station, fresh_bus}
 use Rattle.rules.specs.Standing.{asked, asked_for}
 use Rattle.rules.specs.Conditions.{settings_conditions}

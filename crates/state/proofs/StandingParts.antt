@@ -17,7 +17,9 @@ use borrow.Author.Tests.{eqb-true, leb-true, leb-false, ltb-true, ltb-false, le-
 use Rattle.window.specs.Splitting.{placed}
 use Rattle.rules.specs.Lists.{each_of, some_of, total, distinct}
 use Rattle.rules.specs.Bus as Machine
-use Rattle.rules.specs.Bus.{places, most_stations, clock_end, most_admitted, most_turned, Discipline, PRI, RTDG, RTVC, waiting, numbers, numbers_in}
+use Rattle.rules.specs.declared.Discipline.{Discipline}
+use Rattle.rules.specs.declared.Discipline.TheVariants.{PRI, RTDG, RTVC}
+use Rattle.rules.specs.Bus.{places, most_stations, clock_end, most_admitted, most_turned, waiting, numbers, numbers_in}
 use Rattle.rules.specs.SetUp.{Request, discipline_of, set_up_verdict}
 use Rattle.rules.specs.Standing.{packet_fits, rising, same_packet, offer_fits, offer_stands, station_stands, last_stands, contention_stands, stands, asked_for, Standing}
 use Rattle.rules.proofs.Laws.{clash, and-true, true-and}

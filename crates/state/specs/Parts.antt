@@ -2,7 +2,9 @@
 use Rattle.std.specs.Prelude.{ℕ, zero, suc, ◌+◌, Bool, true, not, ◌&&◌, ◌||◌, cond, List, [], ◌++◌, map, leb, ltb, eqb, length, get_or, take, drop}
 use Rattle.window.specs.Splitting.{placed}
 use Rattle.rules.specs.Lists.{each_of, some_of, has, distinct}
-use Rattle.rules.specs.Bus.{Discipline, PRI, RTDG, RTVC, numbers_in}
+use Rattle.rules.specs.declared.Discipline.{Discipline}
+use Rattle.rules.specs.declared.Discipline.TheVariants.{PRI, RTDG, RTVC}
+use Rattle.rules.specs.Bus.{numbers_in}
 use Rattle.rules.specs.SetUp.{Asked, discipline_of}
 use Rattle.rules.specs.Standing.{packet_fits, rising, same_packet}
 use Rattle.state.specs.State.{Slot, Capability, Settings, Listed, Contender, Recorded, Contention, Segment, Queues, State, Packet, no_packet, no_contender, recorded_at, recorded, no_contention, no_round, nobody, places_at, queue_at, row, has_no_packet, queue_padded, contender_padded, round_padded, contention_padded, each_place}

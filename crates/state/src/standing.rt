@@ -11,7 +11,7 @@ use crate::{
     zeros,
 };
 use rules::{Packet, Slot};
-use sorts::{Capability, counts, disciplines};
+use sorts::{Capability, Windowed, counts, disciplines};
 use window::{Side, Window};
 
 // 'packets admitted: at most 4,294,967,295'
@@ -147,7 +147,7 @@ fn parameter_fits(discipline: u32, capability: Capability, c: Contender) -> bool
     if discipline == disciplines::RTDG {
         return true;
     }
-    c.parameter == sorts::capability_number(capability)
+    c.parameter == capability.number()
 }
 
 // 'each contender's packet in its own station's queue, its parameter below D and in PRI and RTVC equal to priority or capability'; the

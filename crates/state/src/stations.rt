@@ -112,7 +112,7 @@ fn capability_outside(discipline: u32, d: u32, capability: Capability) -> bool
     ensures { result ≡ capability_outside discipline d capability.0 }
 {
     if discipline == disciplines::RTVC {
-        return sorts::capability_past(d, capability);
+        return sorts::is_past(d, capability);
     }
     !sorts::same_capability(capability, Capability(0))
 }
@@ -127,7 +127,7 @@ fn station_verdict(
 ) -> Verdict
     ensures { (earlier : List Listed) → address ≡ shared Addresses s earlier → capability ≡ shared Capabilities s earlier → result ≡ first_of fine (station_tests (request_with settings []) i (map asked_of earlier) (asked_of s)) }
 {
-    if sorts::address_past(settings.a, s.address) {
+    if sorts::is_past(settings.a, s.address) {
         return fault(7, i);
     }
     if address {

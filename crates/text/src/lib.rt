@@ -5,6 +5,7 @@
 ghost use Rattle.std.specs.Prelude.{◌+◌, ◌<◌, ◌≡◌, [], ◌∷◌, leb, length, replicate};
 ghost use Rattle.text.specs.Text.{digit as digit_of, decimal, space};
 ghost use Rattle.text.specs.Room.{room_bytes, stored, past};
+ghost use Rattle.text.specs.Parts.{Stores};
 
 const ROOM_BYTES: usize = 65_536;
 
@@ -101,4 +102,41 @@ pub fn number(room: &mut [u8; 65536], at: usize, n: u64) -> usize
         rest /= 10;
     }
     at + size
+}
+
+// Text that is being stored in lent room: the room, and the offset that the next text is stored at.
+#[derive(Drop)]
+pub struct Writer<'a> {
+    pub room: &'a mut [u8; 65536],
+    pub at: usize,
+}
+
+impl<'a> Writer<'a> {
+    // One byte.
+    pub fn put(&mut self, byte: u8)
+        ensures { Stores self.old self.new (byte ∷ []) }
+    {
+        self.at = put(self.room, self.at, byte);
+    }
+
+    // A word.
+    pub fn letters(&mut self, word: &[u8])
+        ensures { Stores self.old self.new word.now }
+    {
+        self.at = letters(self.room, self.at, word);
+    }
+
+    // So many spaces.
+    pub fn spaces(&mut self, count: usize)
+        ensures { Stores self.old self.new (replicate count space) }
+    {
+        self.at = spaces(self.room, self.at, count);
+    }
+
+    // A number in decimal.
+    pub fn number(&mut self, n: u64)
+        ensures { Stores self.old self.new (decimal n) }
+    {
+        self.at = number(self.room, self.at, n);
+    }
 }

@@ -5,14 +5,14 @@ ghost use Rattle.std.specs.Prelude.{◌≡◌};
 ghost use Rattle.window.specs.Splitting.{exponent_of, first_window, left_half, moved_right, in_window, is_power, placed, same_side};
 
 // Which half of its parent a window is; the first window counts as right (Figure 6, line 3).
-#[derive(Clone, Copy)]
+#[derive(Clone, Copy, PartialEq, Eq)]
 pub enum Side {
     Left,
     Right,
 }
 
 // The numbers from start up to, but not with, start + size.
-#[derive(Clone, Copy)]
+#[derive(Clone, Copy, PartialEq, Eq)]
 pub struct Window {
     pub start: u64,
     pub size: u64,
@@ -108,20 +108,10 @@ pub fn is_placed(w: Window, space: u32) -> bool
         return false;
     }
     if size == whole {
-        return is_right(side);
+        return side == Side::Right;
     }
     if start / size % 2 == 0 {
-        return !is_right(side);
+        return side != Side::Right;
     }
-    is_right(side)
-}
-
-// Whether a side is the right one.
-fn is_right(side: Side) -> bool
-    ensures { result ≡ same_side side Side.Right }
-{
-    match side {
-        Side::Left => false,
-        Side::Right => true,
-    }
+    side == Side::Right
 }

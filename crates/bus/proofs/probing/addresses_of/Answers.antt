@@ -27,9 +27,9 @@ pub loop-i-preserved : goal.loop-i-preserved
 loop-i-preserved c =
     let addresses = c.loop-i.addresses in
     let i = c.loop-i.i in (
-      length-set addresses i c.address_number.result ∙ c.loop-i.invariant.0,
+      length-set addresses i c.number.result ∙ c.loop-i.invariant.0,
       omega arith,
-      written addresses c.args.listed i c.address_number.result (omega arith) c.loop-i.invariant.2 c.address_number.ensures,
+      written addresses c.args.listed i c.number.result (omega arith) c.loop-i.invariant.2 c.number.ensures,
     )
 
 pub returns : goal.returns

@@ -2,7 +2,7 @@
 use Rattle.std.proofs.Common.{ℕ, ◌+◌, ◌≡◌, refl, sym, ap, ◌∙◌, Bool, true, false, cond, List, arith, get_or}
 use lib.Seq.{slice}
 use Rattle.std.proofs.Math.Option.{Option}
-use Rattle.rules.specs.Bus.{Discipline}
+use Rattle.rules.specs.declared.Discipline.{Discipline}
 use Rattle.rules.specs.SetUp.{discipline_of}
 use Rattle.rules.specs.Begin.{chosen, choice}
 use Rattle.bus.specs.Types.{Packet}
