@@ -5,7 +5,7 @@ ghost use Rattle.rules.specs.Admission.{one_higher, turned_after};
 // 'The count stops at 4,294,967,295.'
 pub const MOST_TURNED: u64 = 4_294_967_295;
 
-// 'refused as late', 'for want of a place'
+// 'refused as late', 'for want of a place': by the numbers that answers have, since any number may come (`turned_after` of the rules).
 const LATE: u32 = 14;
 
 const FILLED: u32 = 15;

@@ -1,5 +1,4 @@
-// What the three disciplines hold a packet to: its value, its latest start and its length. A discipline comes by the number that a set-up
-// gives, which may be any.
+// What the three disciplines hold a packet to: its value, its latest start and its length.
 ghost use Rattle.std.specs.Prelude.{◌≡◌};
 ghost use Rattle.rules.specs.Bus.{late};
 ghost use Rattle.rules.specs.SetUp.{discipline_of};
@@ -7,6 +6,8 @@ ghost use Rattle.rules.specs.Standing.{value_is_fit, length_fits};
 
 use rules::{Discipline, Slot};
 
+// The disciplines by the numbers that a set-up gives. Any number may come: refusal 2 is the answer to one that names none, and `late` and
+// `value_fits` go by `discipline_of`, which takes them all.
 pub const PRI: u32 = 0;
 
 pub const RTDG: u32 = 1;
