@@ -19,6 +19,8 @@ use Rattle.window.specs.declared.Window.{Window}
 use Rattle.window.specs.Splitting.{same_side}
 use Rattle.rules.specs.Lists.{each_of, All, at_head, in_tail}
 use Rattle.rules.specs.Bus as Machine
+use Rattle.rules.specs.declared.Discipline.{Discipline}
+use Rattle.rules.specs.declared.Discipline.TheVariants.{PRI, RTDG, RTVC}
 use Rattle.rules.specs.Bus.{Bus, places, most_stations, code, nothing}
 use Rattle.rules.specs.SetUp.{discipline_of}
 use Rattle.rules.specs.Standing.{Standing}
@@ -364,10 +366,10 @@ standing_fits b h = record { few = (set_up_stands b h).n_most; room = λ s i. (h
 pub nothing_fits : Fits nothing
 nothing_fits = record { few = omega arith; room = all_nil (λ s. length s.queue ≤ places) }
 
-discipline_code : (d : Machine.Discipline) → (discipline_of (code d) ≡ d) × (code d ≤ 2)
-discipline_code Machine.PRI = (refl, omega arith)
-discipline_code Machine.RTDG = (refl, omega arith)
-discipline_code Machine.RTVC = (refl, omega arith)
+discipline_code : (d : Discipline) → (discipline_of (code d) ≡ d) × (code d ≤ 2)
+discipline_code PRI = (refl, omega arith)
+discipline_code RTDG = (refl, omega arith)
+discipline_code RTVC = (refl, omega arith)
 
 offer_contender : (o : Option Machine.Offer) → (offer_of (contender_form o) ≡ o) × (contender_padded (contender_form o) ≡ true)
 offer_contender none = (refl, refl)
