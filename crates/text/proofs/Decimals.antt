@@ -1,7 +1,7 @@
 -- A number in decimal: its digits from the highest place down, and how many they are. Assumes nothing.
-use Prim.Native.Nat.{ℕ, zero, suc, ◌/◌, ◌%◌, ◌^◌, ◌≤◌, ◌<◌}
+use Prim.Native.Nat.{ℕ, zero, suc, ◌+◌, ◌*◌, ◌/◌, ◌%◌, ◌^◌, ◌≤◌, ◌<◌}
 use mathlib.Core.Path.{◌≡◌, refl, sym, ap, ap₂, ◌∙◌}
-use mathlib.Core.Logic.{◌⊎◌, inr, ⊎_elim}
+use mathlib.Core.Logic.{◌⊎◌, inl, inr, ⊎_elim}
 use mathlib.Core.Bool.{Bool, true, false, cond}
 use mathlib.Core.List.{List, [], ◌∷◌, ◌++◌}
 use native.Mathlib.Nat.{div-one, div-div-eq-div-mul, pow-suc, pow-succ', one-le-pow}
@@ -66,6 +66,13 @@ digits_length (suc k) n = ap suc (digits_length k n)
 -- a number has a digit for each place up to that of its highest power of ten
 pub power_length : (n p : ℕ) (h : power_for n p) → length (decimal n) ≡ suc h.0
 power_length n p h = ap length (decimal-digits n p h) ∙ digits_length (suc h.0) n
+
+-- a number that is not below 10 ^ k, and below 10 times it, has k + 1 digits; 0 has one
+pub decimal_size : (n k : ℕ) → 10 ^ k ≤ n → n < 10 * 10 ^ k → k + 1 ≡ length (decimal n)
+decimal_size n k low high = omega (arith, power_length n (10 ^ k) (k, refl, omega arith, inr low))
+
+pub decimal_zero : (n : ℕ) → n ≡ 0 → 1 ≡ length (decimal n)
+decimal_zero n e = rw e (sym (power_length 0 1 (0, refl, omega arith, inl refl)))
 
 -- any turns give the digits at as many places as they are
 turns_places : (turns n : ℕ) → decimal_in turns n ≡ digits (length (decimal_in turns n)) n

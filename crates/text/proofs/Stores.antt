@@ -4,12 +4,14 @@ use Prim.Native.Nat.{ℕ, suc, ◌+◌, ◌≤◌, ◌<◌}
 use mathlib.Core.Path.{◌≡◌, refl, sym, ap, ap₂, ◌∙◌}
 use mathlib.Core.Bool.{Bool, true, false, not, cond}
 use mathlib.Core.List.{List, [], ◌∷◌, ◌++◌}
+use Rattle.std.proofs.Common.{append_assoc}
 use native.Mathlib.Nat.{add-zero}
 use native.Mathlib.Omega.{arith}
 use borrow.Author.Tests.{leb-true, leb-false, not-true, not-false, le-leb, lt-leb}
 use lib.Dec.{leb}
 use lib.ListN.{length, take, drop, set, length-append}
-use lib.Seq.{sets, set_comm, sets-eq, length-sets}
+use borrow.Rule.Slice.PartMut.{put_mid}
+use lib.Seq.{drop-drop, sets, set_comm, sets-eq, length-sets}
 use Rattle.text.specs.Room.{room_bytes, fits, stored, past, room_with}
 use Rattle.text.specs.Parts.{roomy, Told}
 
@@ -134,6 +136,16 @@ pub stands :
     (room : List ℕ) (at : ℕ) (text : List ℕ) → length room ≡ room_bytes → roomy at (length text)
     → stored room at text ≡ take at room ++ text ++ drop (at + length text) room
 stands room at text long h = stored_fits room at text h ∙ sets-eq text room at (omega arith)
+
+-- a text that is copied into that part of the room is stored there
+pub stored_over :
+    (room part text : List ℕ) (at long : ℕ) → length room ≡ room_bytes → roomy at (length text) → part ≡ text → long ≡ length text
+    → put_mid at long room part ≡ stored room at text
+stored_over room part text at long whole h e f =
+    ap₂ (λ (l : List ℕ) (m : ℕ). put_mid at m room l) e f
+    ∙ sym (append_assoc (take at room) text (drop (length text) (drop at room)))
+    ∙ ap (λ (l : List ℕ). take at room ++ text ++ l) (drop-drop (length text) at room)
+    ∙ sym (stands room at text whole h)
 
 -- the room stays as long as it is, whatever the text
 pub stored_kept : (room : List ℕ) (at : ℕ) (text : List ℕ) → length (stored room at text) ≡ length room

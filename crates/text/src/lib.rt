@@ -13,10 +13,7 @@ const ROOM_BYTES: usize = 65_536;
 fn has_room(at: usize, count: usize) -> bool
     ensures { result ≡ leb (at + count) room_bytes }
 {
-    if at > ROOM_BYTES {
-        return false;
-    }
-    count <= ROOM_BYTES - at
+    at <= ROOM_BYTES && count <= ROOM_BYTES - at
 }
 
 // One byte.
@@ -32,6 +29,7 @@ pub fn put(room: &mut [u8; 65536], at: usize, byte: u8) -> usize
 }
 
 // A word.
+#[tactic(auto, using(crate::proofs::Stores::stored_over))]
 pub fn letters(room: &mut [u8; 65536], at: usize, word: &[u8]) -> usize
     ensures value { result ≡ past at word.now }
     ensures room_after { room.new ≡ stored room.old at word.now }
@@ -39,15 +37,13 @@ pub fn letters(room: &mut [u8; 65536], at: usize, word: &[u8]) -> usize
     if !has_room(at, word.len()) {
         return at;
     }
-    let mut i = 0;
-    while i < word.len() {
-        room[at + i] = word[i];
-        i += 1;
-    }
-    at + i
+    let end = at + word.len();
+    room[at..end].copy_from_slice(word);
+    end
 }
 
 // So many spaces.
+#[tactic(auto, using(crate::proofs::Stores::stored_over))]
 pub fn spaces(room: &mut [u8; 65536], at: usize, count: usize) -> usize
     ensures value { result ≡ past at (replicate count space) }
     ensures room_after { room.new ≡ stored room.old at (replicate count space) }
@@ -55,26 +51,17 @@ pub fn spaces(room: &mut [u8; 65536], at: usize, count: usize) -> usize
     if !has_room(at, count) {
         return at;
     }
-    let mut written = 0;
-    while written < count {
-        room[at + written] = b' ';
-        written += 1;
-    }
-    at + count
+    let end = at + count;
+    room[at..end].fill(b' ');
+    end
 }
 
 // How many digits a number has.
+#[tactic(auto, using(crate::proofs::Decimals::decimal_size, crate::proofs::Decimals::decimal_zero))]
 pub fn digits_of(n: u64) -> usize
     ensures { result ≡ length (decimal n) }
 {
-    let tenth = n / 10;
-    let mut power = 1;
-    let mut size = 1;
-    while power <= tenth {
-        power *= 10;
-        size += 1;
-    }
-    size
+    n.checked_ilog10().map_or(1, |power| power as usize + 1)
 }
 
 // The ASCII code of a digit.
@@ -94,10 +81,8 @@ pub fn number(room: &mut [u8; 65536], at: usize, n: u64) -> usize
     if !has_room(at, size) {
         return at;
     }
-    let mut k = size;
     let mut rest = n;
-    while k > 0 {
-        k -= 1;
+    for k in (0..size).rev() {
         room[at + k] = digit(rest % 10);
         rest /= 10;
     }

@@ -15,6 +15,3 @@ pub record Stored (n : ℕ) (a b : List ℕ) (at k rest : ℕ) : Type 0 where
 
 abbrev pub invariant-loop-k : goal.invariant-loop-k
 invariant-loop-k l = roomy l.at l.size × (l.k ≤ l.size) × Stored l.n l.fn.room l.room l.at l.k l.rest
-
-abbrev pub decreases-loop-k : goal.decreases-loop-k
-decreases-loop-k l = l.k
