@@ -1,7 +1,7 @@
 -- Text stored in room that is lent: a byte before text, text after text, and what the room has then; what a text comes to that fits, and one
 -- that does not. Assumes nothing.
 use Prim.Native.Nat.{ℕ, suc, ◌+◌, ◌≤◌, ◌<◌}
-use mathlib.Core.Path.{◌≡◌, refl, sym, ap, ap₂, ◌∙◌}
+use mathlib.Core.Path.{◌≡◌, refl, sym, ap, ap₂, subst, ◌∙◌}
 use mathlib.Core.Bool.{Bool, true, false, not, cond}
 use mathlib.Core.List.{List, [], ◌∷◌, ◌++◌}
 use Rattle.std.proofs.Common.{append_assoc}
@@ -13,7 +13,8 @@ use lib.ListN.{length, take, drop, set, length-append}
 use borrow.Rule.Slice.PartMut.{put_mid}
 use lib.Seq.{drop-drop, sets, set_comm, sets-eq, length-sets}
 use Rattle.text.specs.Room.{room_bytes, fits, stored, past, room_with}
-use Rattle.text.specs.Parts.{roomy, Told}
+use Rattle.text.specs.Parts.{roomy, Told, Stores, Wrote}
+use Rattle.text.specs.declared.Writer.{Writer}
 
 -- text after text is one text
 pub sets_then : (room x y : List ℕ) (at : ℕ) → sets (sets room at x) (at + length x) y ≡ sets room at (x ++ y)
@@ -130,6 +131,27 @@ told_stored room at text most h few said =
       past = said.0 ∙ past_fits at text (omega arith);
       few = few;
     }
+
+-- ---- what a writer wrote
+
+-- a text of no more bytes than there is room for
+pub wrote :
+    {a b : Writer} {text : List ℕ} (most : ℕ) → Stores a b text → roomy a.at most → length text ≤ most → Wrote a b text most
+wrote {a} {b} {text} most said h few =
+    record { told = told_stored a.room.now a.at text most h few (said.past, said.room); same = said.same }
+
+-- text after text
+pub wrote_then : {a b c : Writer} {x y : List ℕ} {p q : ℕ} → Wrote a b x p → Wrote b c y q → Wrote a c (x ++ y) (p + q)
+wrote_then first second = record { told = told_then first.told second.told; same = second.same ∙ first.same }
+
+-- no more than so many bytes is no more than more of them
+pub wrote_within : {a b : Writer} {x : List ℕ} {p q : ℕ} → Wrote a b x p → p ≤ q → Wrote a b x q
+wrote_within said h = record { told = told_within said.told h; same = said.same }
+
+-- the same, where the text is known by another form
+pub wrote_join :
+    {a b c : Writer} {x y z : List ℕ} {p q n : ℕ} → Wrote a b x p → Wrote b c y q → x ++ y ≡ z → p + q ≤ n → Wrote a c z n
+wrote_join {a} {b} {c} {n = n} first second e h = subst (λ (l : List ℕ). Wrote a c l n) e (wrote_within (wrote_then first second) h)
 
 -- the text stands at the offset, and all else is as it was
 pub stands :
