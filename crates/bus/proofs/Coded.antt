@@ -18,7 +18,7 @@ use Rattle.rules.specs.Standing.{Standing, stands}
 use Rattle.rules.specs.declared.Admitted.{Admitted}
 use Rattle.rules.specs.Admission.{Arrival, admission_tests, admission_refusal, TurnsAway, turned_after, handed_back, admit}
 use Rattle.rules.specs.Begin.{begin}
-use Rattle.rules.specs.Probe.{Contender, Answer, refused_answer, dropping, Open, transmitters, unheard, heard}
+use Rattle.rules.specs.Probe.{Contender, Answer, refused_answer, dropping, phase_of, idle, collision, success, wait_of, answered, Open, transmitters, unheard, heard}
 use Rattle.window.specs.declared.Side.{Side}
 use Rattle.window.specs.declared.Side.TheVariants.{Left, Right}
 use Rattle.rules.specs.Step.{Begun, refused_begun, begun_answer, begin_tests, begin_refusal, begin_call, probe_tests, probe_refusal, open_under_way, probed_in, probe_call, opened, step_refusal, step}
@@ -38,7 +38,7 @@ use Rattle.rules.proofs.Reach.{standing_reached}
 use Rattle.rules.proofs.Promises.{promised}
 use Rattle.bus.specs.Types.{State}
 use Rattle.state.specs.State.{Held, meaning, form, padded, standing}
-use Rattle.bus.specs.Coded.{on_meaning, coded_admit, coded_begin, coded_probe, coded_step, coded_closing, coded, answer_form, answer_of, state_turned, turned_in}
+use Rattle.bus.specs.Coded.{on_meaning, coded_admit, coded_begin, coded_probe, coded_step, coded_closing, coded, phase_number, phase_form, event_number, event_form, answer_form, answer_of, state_turned, turned_in}
 use Rattle.state.proofs.Form.{form_meaning, Fits, standing_fits, nothing_fits, meaning_form, padded_form}
 use Rattle.state.proofs.Stands.{form_stands}
 
@@ -343,67 +343,101 @@ standing_exactly_step s = (
     go true e one = clash (next_begun s e) ((standing_exactly_probe (coded_begin s).1).0 one)
     go false e one = refl
 
--- ---- an answer in the code's sorts says all of the engine's answer: a contention ended or it did not
+-- ---- an answer in the code's sorts says all of the engine's answer: its phase, its event and whether the contention ended are among those that the
+-- sorts have
 
-abbrev ending : Answer → ℕ → Answer
-ending a n =
-    record {
-      refusal = a.refusal;
-      drops = a.drops;
-      slot = a.slot;
-      phase = a.phase;
-      start = a.start;
-      size = a.size;
-      event = a.event;
-      address = a.address;
-      number = a.number;
-      length = a.length;
-      wait = a.wait;
-      ended = n;
-    }
+-- what the sorts hold: the phases up to 1, the events up to 2, and 0 or 1
+pub record Sorted (a : Answer) : Type 0 where
+  pub phase : a.phase ≤ 1
+  pub event : a.event ≤ 2
+  pub ended : a.ended ≤ 1
+
+phase_same : (n : ℕ) → n ≤ 1 → phase_number (phase_form n) ≡ n
+phase_same zero h = refl
+phase_same (suc zero) h = refl
+phase_same (suc (suc n)) h = absurd (omega arith)
+
+event_same : (n : ℕ) → n ≤ 2 → event_number (event_form n) ≡ n
+event_same zero h = refl
+event_same (suc zero) h = refl
+event_same (suc (suc zero)) h = refl
+event_same (suc (suc (suc n))) h = absurd (omega arith)
 
 ended_bit : (n : ℕ) → n ≤ 1 → bit (not (eqb n 0)) ≡ n
 ended_bit zero h = refl
 ended_bit (suc zero) h = refl
 ended_bit (suc (suc n)) h = absurd (omega arith)
 
-unheard_ended : (o : Open) (side : Side) → (unheard o side).0.ended ≤ 1
-unheard_ended o Left = omega arith
-unheard_ended o Right = omega arith
+refused_sorted : (n : ℕ) → Sorted (refused_answer n)
+refused_sorted n = record { phase = omega arith; event = omega arith; ended = omega arith }
 
-heard_ended : (o : Open) (xs : List Contender) → (heard o xs).0.ended ≤ 1
-heard_ended o [] = unheard_ended o o.contention.window.side
-heard_ended o (x ∷ []) = omega arith
-heard_ended o (x ∷ y ∷ more) = omega arith
-
-probe_ended : (s : State) → (coded_probe s).0.ended ≤ 1
-probe_ended s = go (padded s)
+answered_sorted :
+    (o : Open) (event address number length wait ended : ℕ) → event ≤ 2 → ended ≤ 1 → Sorted (answered o event address number length wait ended)
+answered_sorted o event address number length wait ended h k = record { phase = go o.contention.tie; event = h; ended = k }
   where
-    accepted : (b : Bus) (c : Option Contention) → (probed_in b c).0.ended ≤ 1
-    accepted b none = omega arith
-    accepted b (some c) = heard_ended (open_under_way b c) (transmitters b c)
+    go : (tie : Option ℕ) → phase_of tie ≤ 1
+    go none = omega arith
+    go (some tied) = omega arith
 
-    on_bus : (b : Bus) (t : Bool) → (cond t (probed_in b b.contention) (refused_answer (probe_refusal b), b)).0.ended ≤ 1
+unheard_sorted : (o : Open) (side : Side) → Sorted (unheard o side).0
+unheard_sorted o Left = answered_sorted o idle 0 0 0 0 0 (omega arith) (omega arith)
+unheard_sorted o Right = answered_sorted o idle 0 0 0 0 1 (omega arith) (omega arith)
+
+heard_sorted : (o : Open) (xs : List Contender) → Sorted (heard o xs).0
+heard_sorted o [] = unheard_sorted o o.contention.window.side
+heard_sorted o (x ∷ []) =
+    answered_sorted o success x.address x.packet.number x.packet.length (wait_of x.packet o.bus.clock) 1 (omega arith) (omega arith)
+heard_sorted o (x ∷ y ∷ more) = answered_sorted o collision 0 0 0 0 0 (omega arith) (omega arith)
+
+probe_sorted : (s : State) → Sorted (coded_probe s).0
+probe_sorted s = go (padded s)
+  where
+    accepted : (b : Bus) (c : Option Contention) → Sorted (probed_in b c).0
+    accepted b none = refused_sorted _
+    accepted b (some c) = heard_sorted (open_under_way b c) (transmitters b c)
+
+    on_bus : (b : Bus) (t : Bool) → Sorted (cond t (probed_in b b.contention) (refused_answer (probe_refusal b), b)).0
     on_bus b true = accepted b b.contention
-    on_bus b false = omega arith
+    on_bus b false = refused_sorted (probe_refusal b)
 
     result : Bool → Answer × State
     result t = cond t ((probe_call (meaning s)).0, form (probe_call (meaning s)).1) (refused_answer 1, s)
 
-    go : (t : Bool) → (result t).0.ended ≤ 1
+    go : (t : Bool) → Sorted (result t).0
     go true = on_bus (meaning s) (eqb (probe_refusal (meaning s)) 0)
-    go false = omega arith
+    go false = refused_sorted 1
 
-read : (a : Answer) → a.ended ≤ 1 → answer_of (answer_form a) ≡ a
-read a h = ap (ending a) (ended_bit a.ended h)
+-- an answer with this phase, event and ending
+abbrev with_kinds : Answer → ℕ → ℕ → ℕ → Answer
+with_kinds a phase event ended =
+    record {
+      refusal = a.refusal;
+      drops = a.drops;
+      slot = a.slot;
+      phase = phase;
+      start = a.start;
+      size = a.size;
+      event = event;
+      address = a.address;
+      number = a.number;
+      length = a.length;
+      wait = a.wait;
+      ended = ended;
+    }
+
+read : (a : Answer) → Sorted a → answer_of (answer_form a) ≡ a
+read a h = λ i. with_kinds a (phase_same a.phase h.phase i) (event_same a.event h.event i) (ended_bit a.ended h.ended i)
 
 pub answer_read : (s : State) → answer_of (answer_form (coded_step s).0) ≡ (coded_step s).0
 answer_read s =
     read (coded_step s).0
-    (step_ways coded s (λ o. o.0.ended ≤ 1) (λ f. probe_ended s) (λ n. omega arith) (λ n. omega arith) (λ b z. probe_ended (coded_begin s).1))
+    (step_ways coded s (λ o. Sorted o.0) (λ f. probe_sorted s) (λ n. refused_sorted _) (λ n. refused_sorted _)
+    (λ b z.
+    let h = probe_sorted (coded_begin s).1 in
+    record { phase = h.phase; event = h.event; ended = h.ended }))
 
 pub probe_read : (s : State) → answer_of (answer_form (coded_probe s).0) ≡ (coded_probe s).0
-probe_read s = read (coded_probe s).0 (probe_ended s)
+probe_read s = read (coded_probe s).0 (probe_sorted s)
 
 -- ---- an accepted step is a probe, or a begin and a probe
 

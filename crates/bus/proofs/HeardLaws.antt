@@ -8,7 +8,7 @@ use native.Mathlib.Omega.{arith}
 use lib.ListN.{length}
 use borrow.Author.Tests.{eq-eqb, ne_eqb}
 use Rattle.word.specs.Word.{bit_at, members, first_or, count_of, lowest_of}
-use Rattle.rules.specs.Probe.{success}
+use Rattle.bus.specs.Coded.{Success, succeeded}
 use Rattle.bus.specs.Types.{Segment, State}
 use Rattle.bus.specs.Parts.{Moved, transmitters_in, with_moved, Sole, no_sole, sole_at, sole_of, heard_in, moved_in}
 use Rattle.state.proofs.Stands.{Lent}
@@ -29,8 +29,8 @@ module _ (g : Segment) (drops : ℕ) where
   pub segment_moved : (probed g drops).segment ≡ with_moved g m
   segment_moved = refl
 
-  pub winner_moved : m.answer.event ≡ success → (probed g drops).winner ≡ sole.place
-  winner_moved e = ap (λ t. cond t sole.place 0) (eq-eqb m.answer.event success e)
+  pub winner_moved : m.answer.event ≡ Success → (probed g drops).winner ≡ sole.place
+  winner_moved e = ap (λ t. cond t sole.place 0) (ap succeeded e)
 
 -- the lowest bit of a word, where one is set, is a place of the rows
 pub lowest_in : (w : ℕ) → count_of w ≡ 1 → lowest_of w < 64

@@ -2,12 +2,14 @@
 -- Assumes nothing.
 use Prim.Native.Nat.{ℕ, ◌+◌, ◌-◌, ◌≤◌, ◌<◌}
 use mathlib.Core.Path.{◌≡◌, refl, sym, ap, ap₂, ◌∙◌, subst}
-use mathlib.Core.Bool.{Bool, true, false, ◌&&◌, cond}
+use mathlib.Core.Bool.{Bool, true, false, not, ◌&&◌, cond}
 use mathlib.Core.List.{List}
 use native.Mathlib.Omega.{arith}
 use lib.Dec.{eqb, ltb}
 use lib.ListN.{length, get_or, set, replicate}
 use borrow.Author.Tests.{eq-eqb, ne_eqb}
+use denote.Enum.Bare as Bare
+use Rattle.bus.specs.contracts.Event as event
 use Rattle.window.specs.declared.Side.{Side}
 use Rattle.window.specs.declared.Side.TheVariants.{Left, Right}
 use Rattle.rules.specs.SetUp.{discipline_of}
@@ -17,7 +19,7 @@ use Rattle.rules.specs.Standing.{Standing}
 use Rattle.rules.specs.Admission as Rules
 use Rattle.rules.specs.Admission.{admission_refusal, turned_after}
 use Rattle.rules.specs.Begin.{begin, drops_of}
-use Rattle.rules.specs.Probe.{success, probe, refused_answer}
+use Rattle.rules.specs.Probe.{probe, refused_answer}
 use Rattle.rules.specs.Step.{opened}
 use Rattle.rules.specs.Engine as Engine
 use Rattle.rules.specs.Engine.{machine, Call, next}
@@ -28,7 +30,7 @@ use Rattle.rules.proofs.Standing.{stands_exactly, set_up_stands}
 use Rattle.bus.specs.Types.{Address, Settings, Segment, Queues, State, Arrival}
 use Rattle.word.specs.Word.{count_of}
 use Rattle.state.specs.State.{Recorded, recorded_in, Held, meaning, form, queue_at, standing, waiting_in}
-use Rattle.bus.specs.Coded.{Answer, Stepped, Admission, arrival_of, coded_admit, coded_step, coded, admission_result, step_result, state_turned}
+use Rattle.bus.specs.Coded.{Answer, Event, Idle, Collision, Success, succeeded, Stepped, Admission, arrival_of, coded_admit, coded_step, coded, admission_result, step_result, state_turned}
 use Rattle.bus.specs.Stretch.{Arrivals, Report, no_arrival, most_calls, no_report, asks, due, arrival_report, step_report, in_row, may_be_more}
 use Rattle.bus.specs.Parts.{refusal_at, answered, Asked, asked_if, begun_with, Progress, Moved, unheard_on, won_on, collided_on, transmitters_in, moved_by, with_moved, segment_with, queue_form, stays, Sent, Heard, progress_of, Sole, sole_of, heard_in, moved_in, heard_of}
 use Rattle.state.specs.Parts.{no_contenders, queue_of}
@@ -318,6 +320,39 @@ offered_open s r between kept g f =
 
 -- ---- a probe in place
 
+-- as the code compares it
+not_not : (t : Bool) → not (not t) ≡ t
+not_not true = refl
+not_not false = refl
+
+same_success : (e : Event) → Bare.sameb event.the_type e Success ≡ succeeded e
+same_success Idle = refl
+same_success Collision = refl
+same_success Success = refl
+
+success_only : (e : Event) → succeeded e ≡ true → e ≡ Success
+success_only Idle yes! = clash yes! refl
+success_only Collision yes! = clash yes! refl
+success_only Success yes! = refl
+
+module _ (e : Event) {t : Bool} where
+  pub is_success : t ≡ Bare.sameb event.the_type e Success → t ≡ true → e ≡ Success
+  is_success f yes! = success_only e (sym (same_success e) ∙ sym f ∙ yes!)
+
+  pub none_success : t ≡ Bare.sameb event.the_type e Success → t ≡ false → ¬ (e ≡ Success)
+  none_success f no! k = clash (ap succeeded k) (sym (same_success e) ∙ sym f ∙ no!)
+
+  pub success_left : t ≡ not (Bare.sameb event.the_type e Success) → t ≡ false → e ≡ Success
+  success_left f no! = success_only e (sym (same_success e) ∙ sym (not_not _) ∙ ap not (sym f ∙ no!))
+
+  pub success_denied : t ≡ not (Bare.sameb event.the_type e Success) → t ≡ true → ¬ (e ≡ Success)
+  success_denied f yes! k = clash (ap succeeded k) (sym (same_success e) ∙ sym (not_not _) ∙ ap not (sym f ∙ yes!))
+
+not_succeeded : (e : Event) → ¬ (e ≡ Success) → succeeded e ≡ false
+not_succeeded Idle n = refl
+not_succeeded Collision n = refl
+not_succeeded Success n = absurd (n refl)
+
 -- a contention that goes on has no winner
 module _ (g : Settings) (pr : Progress) (drops count : ℕ) (sole : Sole) where
   abbrev by : Bool → Bool → Side → Moved
@@ -327,14 +362,14 @@ module _ (g : Settings) (pr : Progress) (drops count : ℕ) (sole : Sole) where
       (unheard_on pr drops side)
       (cond one (won_on (discipline_of g.discipline) pr drops sole.listed sole.packet) (collided_on g.a pr drops))
 
-  unended_by : (none one : Bool) (side : Side) → (by none one side).answer.ended ≡ false → (by none one side).answer.event ≡ success → ⊥
-  unended_by true one Left f k = omega arith
+  unended_by : (none one : Bool) (side : Side) → (by none one side).answer.ended ≡ false → (by none one side).answer.event ≡ Success → ⊥
+  unended_by true one Left f k = clash (ap succeeded k) refl
   unended_by true one Right f k = clash refl f
   unended_by false true side f k = clash refl f
-  unended_by false false side f k = omega arith
+  unended_by false false side f k = clash (ap succeeded k) refl
 
   pub unended :
-      (m : Moved) → m ≡ moved_by g pr drops count sole.listed sole.packet → m.answer.ended ≡ false → ¬ (m.answer.event ≡ success)
+      (m : Moved) → m ≡ moved_by g pr drops count sole.listed sole.packet → m.answer.ended ≡ false → ¬ (m.answer.event ≡ Success)
   unended m e f k =
       unended_by (eqb count 0) (eqb count 1) pr.contention.window.side
       (sym (ap (λ (o : Moved). o.answer.ended) e) ∙ f)
@@ -381,7 +416,7 @@ module _ (g : Segment) (queues : Queues) (drops : ℕ) (ready : Lent (whole g qu
 
   -- the queues by whether a packet was sent
   after_is :
-      (sent : Bool) → eqb p.answer.event success ≡ sent → (rest : Queues) → rest ≡ cond sent (queues_after (whole g queues) p) queues
+      (sent : Bool) → succeeded p.answer.event ≡ sent → (rest : Queues) → rest ≡ cond sent (queues_after (whole g queues) p) queues
       → after g m rest ≡ stepped (probe (open_of (whole g queues) drops))
   after_is sent f rest k =
       ap₂ (λ (answer : Answer) (q : Queues). record { answer = answer; state = whole (with_moved g m) q }) answer! k
@@ -390,25 +425,25 @@ module _ (g : Segment) (queues : Queues) (drops : ℕ) (ready : Lent (whole g qu
       ∙ probed_is (whole g queues) ready begun drops p refl
 
   -- no packet was sent
-  probed_unsent : ¬ (m.answer.event ≡ success) → after g m queues ≡ stepped (probe (open_of (whole g queues) drops))
+  probed_unsent : ¬ (m.answer.event ≡ Success) → after g m queues ≡ stepped (probe (open_of (whole g queues) drops))
   probed_unsent n =
-      after_is false (ne_eqb p.answer.event success (λ k. n (ap (λ (x : Answer). x.event) answer! ∙ k))) queues refl
+      after_is false (not_succeeded p.answer.event (λ k. n (ap (λ (x : Answer). x.event) answer! ∙ k))) queues refl
 
   -- the winner is a station
-  winner! : m.answer.event ≡ success → sole.place ≡ p.winner
+  winner! : m.answer.event ≡ Success → sole.place ≡ p.winner
   winner! k = ap (λ (x : Sole). x.place) h ∙ sym (winner_moved g drops (ap (λ (x : Moved). x.answer.event) (sym whole_moved) ∙ k))
 
-  winner_placed : m.answer.event ≡ success → sole.place < most_stations
+  winner_placed : m.answer.event ≡ Success → sole.place < most_stations
   winner_placed k = omega (arith, winner! k, winner_there (whole g queues) ready drops p refl)
 
   -- the winner's packet leaves its queue
   probed_sent :
-      m.answer.event ≡ success → (rest : Queues)
+      m.answer.event ≡ Success → (rest : Queues)
       → rest ≡ with_queue queues sole.place (queue_form (keep (stays (Sent m.answer.number)) (queue_at queues sole.place)))
       → after g m rest ≡ stepped (probe (open_of (whole g queues) drops))
   probed_sent k rest f =
       after_is true
-      (eq-eqb p.answer.event success (sym (ap (λ (x : Answer). x.event) answer!) ∙ k))
+      (ap succeeded (sym (ap (λ (x : Answer). x.event) answer!) ∙ k))
       rest
       (f
       ∙ ap₂
@@ -434,12 +469,12 @@ module _ (g : Segment) (queues : Queues) (drops : ℕ) (ready : Lent (whole g qu
     abbrev heard_with : Heard → Queues → Stepped
     heard_with x rest = record { answer = x.answer; state = whole x.segment rest }
 
-    pub none_won : ¬ (h.answer.event ≡ success) → heard_with h queues ≡ stepped (probe (open_of it drops))
+    pub none_won : ¬ (h.answer.event ≡ Success) → heard_with h queues ≡ stepped (probe (open_of it drops))
     none_won n =
         ap (λ (x : Heard). heard_with x queues) h!
         ∙ probed_unsent g queues drops ready begun (sole_of g (heard_in g)) refl (moved_in g drops) refl (λ k. n (event! ∙ k))
 
-    module _ (won : h.answer.event ≡ success) where
+    module _ (won : h.answer.event ≡ Success) where
       pub winner_there! : h.place < 64
       winner_there! =
           omega (
@@ -472,16 +507,16 @@ module _ (s : State) (r : Lent s) (on_time : ltb last_slot s.segment.clock.0 ≡
   of_step : stepped (probe (open_of (whole g queues) drops)) ≡ step_result (coded_step s)
   of_step = probes s r on_time (open_of (whole g queues) drops) o.is
 
-  none_sent : ¬ (m.answer.event ≡ success) → after g m queues ≡ step_result (coded_step s)
+  none_sent : ¬ (m.answer.event ≡ Success) → after g m queues ≡ step_result (coded_step s)
   none_sent n = probed_unsent g queues drops o.ready o.begun sole h m e n ∙ of_step
 
   one_sent :
-      m.answer.event ≡ success → (rest : Queues)
+      m.answer.event ≡ Success → (rest : Queues)
       → rest ≡ with_queue queues sole.place (queue_form (keep (stays (Sent m.answer.number)) (queue_at queues sole.place)))
       → after g m rest ≡ step_result (coded_step s)
   one_sent k rest f = probed_sent g queues drops o.ready o.begun sole h m e k rest f ∙ of_step
 
-  pub winner_in : m.answer.event ≡ success → sole.place < most_stations
+  pub winner_in : m.answer.event ≡ Success → sole.place < most_stations
   winner_in = winner_placed g queues drops o.ready o.begun sole h m e
 
   -- the contention goes on; or it ends, without a winner or with one
@@ -489,11 +524,11 @@ module _ (s : State) (r : Lent s) (on_time : ltb last_slot s.segment.clock.0 ≡
   still_on f = contenders_of g m f queues ∙ none_sent (unended g.settings (progress_of g) drops (count_of (transmitters_in g)) sole m e f)
 
   pub ends_unheard :
-      m.answer.ended ≡ true → ¬ (m.answer.event ≡ success) → placed g m zeroed queues ≡ step_result (coded_step s)
+      m.answer.ended ≡ true → ¬ (m.answer.event ≡ Success) → placed g m zeroed queues ≡ step_result (coded_step s)
   ends_unheard f n = cleared g m queues ∙ contenders_of g m f queues ∙ none_sent n
 
   pub ends_won :
-      m.answer.ended ≡ true → m.answer.event ≡ success → (rest : Queues)
+      m.answer.ended ≡ true → m.answer.event ≡ Success → (rest : Queues)
       → rest ≡ with_queue queues sole.place (queue_form (keep (stays (Sent m.answer.number)) (queue_at queues sole.place)))
       → placed g m zeroed rest ≡ step_result (coded_step s)
   ends_won f k rest h' = cleared g m rest ∙ contenders_of g m f rest ∙ one_sent k rest h'

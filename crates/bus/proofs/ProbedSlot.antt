@@ -29,7 +29,7 @@ use Rattle.rules.specs.Probe.{contending, contenders, lies_in, able, transmits, 
 use Rattle.rules.proofs.Laws.{and-true, true-and, count_some, count-le, total_among}
 use Rattle.bus.specs.Types.{Packet, Address, Capability, Contention, Round, Segment, Queues, State}
 use Rattle.state.specs.State.{Held, recorded_in, recorded_at, place_in, no_packet, no_contender, no_round, no_contention, nobody, queue_at, offer_of, station_with, station_at, values_from, stations_of, last_of, tie_of, contention_of, meaning, form, contender_padded, has_no_station, round_padded, no_window, contention_padded}
-use Rattle.bus.specs.Coded.{Answer, Stepped, answer_form, step_result}
+use Rattle.bus.specs.Coded.{Answer, Phase, Parameter, Tie, Stepped, phase_form, event_form, succeeded, answer_form, step_result}
 use Rattle.bus.specs.Parts.{Progress, Moved, Sent, stays, queue_form, contender_at, lies_within, addresses_of, answer_at, split_of, collided_on, unheard_on, round_after, won_on, moved_by, segment_with, with_moved, progress_of, Sole, no_sole, sole_at, sole_of, heard_in}
 use Rattle.state.specs.Parts.{no_contenders}
 use Rattle.state.proofs.Rows.{values_map, values_same, row_at, among_values}
@@ -58,7 +58,7 @@ pub record Probed : Type 0 where
 
 abbrev probed_with : Segment → Moved → ℕ → Probed
 probed_with g m place =
-    record { answer = m.answer; segment = with_moved g m; winner = cond (eqb m.answer.event success) place 0 }
+    record { answer = m.answer; segment = with_moved g m; winner = cond (succeeded m.answer.event) place 0 }
 
 -- two or more have no sole winner
 pub sole_more : (g : Segment) (i j : ℕ) (places : List ℕ) → sole_of g (i ∷ j ∷ places) ≡ no_sole
@@ -483,22 +483,22 @@ slot_with p queues = record { answer = p.answer; state = record { segment = p.se
 
 -- on success the packet leaves the winner's queue
 abbrev pub slot_of : State → Probed → Stepped
-slot_of s p = slot_with p (cond (eqb p.answer.event success) (queues_after s p) s.queues)
+slot_of s p = slot_with p (cond (succeeded p.answer.event) (queues_after s p) s.queues)
 
 -- the same of the machine's answer and bus
 abbrev pub stepped : Probe.Answer × Bus → Stepped
 stepped r = step_result (r.0, form r.1)
 
-phase_is : (c : Contention) → cond c.tied tie_phase parameter_phase ≡ phase_of (tie_of c)
+phase_is : (c : Contention) → cond c.tied Tie Parameter ≡ phase_form (phase_of (tie_of c))
 phase_is c = go c.tied
   where
-    go : (t : Bool) → cond t tie_phase parameter_phase ≡ phase_of (cond t (some c.tie) none)
+    go : (t : Bool) → cond t Tie Parameter ≡ phase_form (phase_of (cond t (some c.tie) none))
     go true = refl
     go false = refl
 
 answer_is :
     (s : State) (drops event : ℕ) (address : Address) (number length wait ended : ℕ)
-    → answer_at (progress_of s.segment) drops event address number length wait (not (eqb ended 0))
+    → answer_at (progress_of s.segment) drops (event_form event) address number length wait (not (eqb ended 0))
     ≡ answer_form (answered (open_of s drops) event address.0 number length wait ended)
 answer_is s drops event address number length wait ended =
     λ i.
@@ -509,7 +509,7 @@ answer_is s drops event address number length wait ended =
       phase = phase_is s.segment.contention i;
       start = s.segment.contention.window.start;
       size = s.segment.contention.window.size;
-      event = event;
+      event = event_form event;
       address = address;
       number = number;
       length = length;

@@ -2,6 +2,8 @@
 -- what its own contract says. Assumes nothing.
 use Rattle.window.specs.Determined.{Determines}
 use Rattle.window.proofs.Unique.{unique}
+use Rattle.bus.proofs.U32FromPhase.from.Reads as phase_number
+use Rattle.bus.proofs.U32FromEvent.from.Reads as event_number
 use Rattle.bus.proofs.admit.Reads as admit
 use Rattle.bus.proofs.begin.Reads as begin
 use Rattle.bus.proofs.probe.Reads as probe
@@ -26,3 +28,9 @@ play_determined κs args r r' end end' = unique
 
 pub closing_determined : Determines closing.Learnt
 closing_determined κs args r r' end end' = unique
+
+pub phase_number_determined : Determines phase_number.Learnt
+phase_number_determined κs args r r' end end' = unique
+
+pub event_number_determined : Determines event_number.Learnt
+event_number_determined κs args r r' end end' = unique

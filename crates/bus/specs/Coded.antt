@@ -9,7 +9,7 @@ use Rattle.rules.specs.Bus.{most_stations, Bus}
 use Rattle.rules.specs.declared.Admitted.{Admitted}
 use Rattle.rules.specs.Admission.{Arrival, one_higher, admit}
 use Rattle.rules.specs.Probe as Probe
-use Rattle.rules.specs.Probe.{refused_answer}
+use Rattle.rules.specs.Probe.{refused_answer, parameter_phase, tie_phase, idle, collision, success}
 use Rattle.rules.specs.Step as Step
 use Rattle.rules.specs.Step.{Contends, refused_begun, begin_call, probe_call}
 use Rattle.rules.specs.Closing as Closing
@@ -22,6 +22,10 @@ pub use Rattle.bus.specs.declared.Admission.{Admission}
 pub use Rattle.bus.specs.declared.Begun.{Begun}
 pub use Rattle.bus.specs.declared.Started.{Started}
 pub use Rattle.bus.specs.declared.Answer.{Answer}
+pub use Rattle.bus.specs.declared.Phase.{Phase}
+pub use Rattle.bus.specs.declared.Phase.TheVariants.{Parameter, Tie}
+pub use Rattle.bus.specs.declared.Event.{Event}
+pub use Rattle.bus.specs.declared.Event.TheVariants.{Idle, Collision, Success}
 pub use Rattle.bus.specs.declared.Stepped.{Stepped}
 pub use Rattle.bus.specs.declared.Totals.{Totals}
 
@@ -59,6 +63,29 @@ coded_step s = step_of coded s
 
 -- ---- what comes back
 
+-- the numbers of the phases and of the events
+abbrev pub phase_number : Phase → ℕ
+phase_number Parameter = parameter_phase
+phase_number Tie = tie_phase
+
+abbrev pub event_number : Event → ℕ
+event_number Idle = idle
+event_number Collision = collision
+event_number Success = success
+
+-- the phase and the event of a number; of any above the largest the last
+abbrev pub phase_form : ℕ → Phase
+phase_form n = cond (eqb n parameter_phase) Parameter Tie
+
+abbrev pub event_form : ℕ → Event
+event_form n = cond (eqb n idle) Idle (cond (eqb n collision) Collision Success)
+
+-- whether one succeeded
+abbrev pub succeeded : Event → Bool
+succeeded Idle = false
+succeeded Collision = false
+succeeded Success = true
+
 -- the answer to a step or a probe, in the code's sorts
 abbrev pub answer_form : Probe.Answer → Answer
 answer_form a =
@@ -66,10 +93,10 @@ answer_form a =
       refusal = a.refusal;
       drops = a.drops;
       slot = record { 0 = a.slot };
-      phase = a.phase;
+      phase = phase_form a.phase;
       start = a.start;
       size = a.size;
-      event = a.event;
+      event = event_form a.event;
       address = record { 0 = a.address };
       number = a.number;
       length = a.length;
@@ -84,10 +111,10 @@ answer_of a =
       refusal = a.refusal;
       drops = a.drops;
       slot = a.slot.0;
-      phase = a.phase;
+      phase = phase_number a.phase;
       start = a.start;
       size = a.size;
-      event = a.event;
+      event = event_number a.event;
       address = a.address.0;
       number = a.number;
       length = a.length;

@@ -14,11 +14,11 @@ use Rattle.rules.specs.Standing.{value_is_fit, length_fits}
 use Rattle.rules.specs.Begin.{sits_out, choice}
 use Rattle.rules.specs.declared.Admitted.{Admitted}
 use Rattle.rules.specs.Probe as Probe
-use Rattle.rules.specs.Probe.{idle, collision, success, parameter_phase, tie_phase, wait_of}
+use Rattle.rules.specs.Probe.{wait_of}
 use Rattle.bus.specs.Types.{Slot, Address, Capability, Settings, Listed, Contender, Contention, Round, Segment, Queues, Queue, Packet}
 use Rattle.state.specs.Parts.{no_contenders}
 use Rattle.state.specs.State.{Recorded, recorded_in, recorded_at, recorded, no_packet, no_contender, no_contention, no_round, nobody, row, queue_at, last_of}
-use Rattle.bus.specs.Coded.{Begun, Answer}
+use Rattle.bus.specs.Coded.{Begun, Answer, Phase, Parameter, Tie, Event, Idle, Collision, Success}
 pub use Rattle.bus.specs.declared.Leaving.{Leaving}
 pub use Rattle.bus.specs.declared.Leaving.TheVariants.{Late, Sent}
 pub use Rattle.bus.specs.declared.Chosen.{Chosen}
@@ -206,13 +206,13 @@ transmitters_in g =
     transmitters_of g.settings.discipline g.clock g.contention g.contenders g.parameters g.values (addresses_of g.listed)
 
 -- an answer to a probe, by the progress so far
-abbrev pub answer_at : Progress → ℕ → ℕ → Address → ℕ → ℕ → ℕ → Bool → Answer
+abbrev pub answer_at : Progress → ℕ → Event → Address → ℕ → ℕ → ℕ → Bool → Answer
 answer_at p drops event address number length wait ended =
     record {
       refusal = 0;
       drops = drops;
       slot = p.clock;
-      phase = cond p.contention.tied tie_phase parameter_phase;
+      phase = cond p.contention.tied Tie Parameter;
       start = p.contention.window.start;
       size = p.contention.window.size;
       event = event;
@@ -239,7 +239,7 @@ split_of a c large tied =
 abbrev pub collided_on : ℕ → Progress → ℕ → Moved
 collided_on a p drops =
     record {
-      answer = answer_at p drops collision (record { 0 = 0 }) 0 0 0 false;
+      answer = answer_at p drops Collision (record { 0 = 0 }) 0 0 0 false;
       progress = went_on p (split_of a p.contention (leb 2 p.contention.window.size) p.contention.tied);
     }
 
@@ -247,7 +247,7 @@ collided_on a p drops =
 abbrev pub unheard_on : Progress → ℕ → Side → Moved
 unheard_on p drops Left =
     record {
-      answer = answer_at p drops idle (record { 0 = 0 }) 0 0 0 false;
+      answer = answer_at p drops Idle (record { 0 = 0 }) 0 0 0 false;
       progress =
           went_on
           p
@@ -255,7 +255,7 @@ unheard_on p drops Left =
     }
 unheard_on p drops Right =
     record {
-      answer = answer_at p drops idle (record { 0 = 0 }) 0 0 0 true;
+      answer = answer_at p drops Idle (record { 0 = 0 }) 0 0 0 true;
       progress = record { clock = record { 0 = p.clock.0 + 1 }; sent = p.sent; round = no_round; contention = no_contention };
     }
 
@@ -269,7 +269,7 @@ round_after RTVC c = record { won = true; last = c }
 abbrev pub won_on : Discipline → Progress → ℕ → Listed → Packet → Moved
 won_on d p drops l packet =
     record {
-      answer = answer_at p drops success l.address packet.number packet.length (wait_of packet p.clock.0) true;
+      answer = answer_at p drops Success l.address packet.number packet.length (wait_of packet p.clock.0) true;
       progress =
           record {
             clock = record { 0 = p.clock.0 + packet.length };

@@ -10,6 +10,7 @@ use Rattle.bus.specs.Types.{State, Arrival}
 use Rattle.bus.specs.Coded.{Answer, arrival_of, answer_form, answer_of, coded_admit, coded_step, coded}
 pub use Rattle.bus.specs.declared.Arrivals.{Arrivals}
 pub use Rattle.bus.specs.declared.Report.{Report}
+pub use Rattle.bus.specs.declared.Report.TheVariants as Report
 pub use Rattle.bus.specs.declared.Stretch.{Stretch}
 
 -- how many calls a stretch has at the most
@@ -34,25 +35,22 @@ no_arrival = record { time = record { 0 = 0 }; address = record { 0 = 0 }; value
 
 -- ---- what is said of a call
 
-abbrev pub no_admitted : Admitted
-no_admitted = record { refusal = 0; number = 0 }
-
 abbrev pub no_answer : Answer
 no_answer = answer_form (refused_answer 0)
 
 -- a place that no report fills
 abbrev pub no_report : Report
-no_report = record { arrival = false; clock = record { 0 = 0 }; address = record { 0 = 0 }; admitted = no_admitted; answer = no_answer }
+no_report = Report.Step (record { 0 = 0 }) no_answer
 
 -- an arrival was admitted or refused, at a clock
 abbrev pub arrival_report : State → Arrival → Admitted → Report
 arrival_report s a admitted =
-    record { arrival = true; clock = s.segment.clock; address = a.address; admitted = admitted; answer = no_answer }
+    Report.Arrival s.segment.clock a.address admitted
 
 -- a step was made, at a clock
 abbrev pub step_report : State → Answer → Report
 step_report s answer =
-    record { arrival = false; clock = s.segment.clock; address = record { 0 = 0 }; admitted = no_admitted; answer = answer }
+    Report.Step s.segment.clock answer
 
 -- ---- the calls
 
@@ -113,7 +111,7 @@ after_steps (suc steps) s = after_steps steps (coded_step s).1
 
 -- ---- what comes back
 
--- the reports in their row, and zeros past them
+-- the reports in their row, and that of no step past them
 abbrev pub stretch_form : Course → Stretch
 stretch_form c =
     record {
@@ -128,7 +126,8 @@ stretch_form c =
 
 -- what a report says that the engine replied
 abbrev pub reply_of : Report → Reply
-reply_of r = cond r.arrival (Engine.admitted r.admitted) (Engine.probed (answer_of r.answer))
+reply_of (Report.Arrival clock address admitted) = Engine.admitted admitted
+reply_of (Report.Step clock answer) = Engine.probed (answer_of answer)
 
 -- the refusal number in a reply, 0 where the call was accepted
 abbrev pub refusal_in : Reply → ℕ

@@ -7,7 +7,7 @@ ghost use Rattle.rules.specs.Bus.{last_slot};
 ghost use Rattle.rules.specs.Probe.{refused_answer};
 ghost use Rattle.rules.specs.Step.{refused_begun};
 ghost use Rattle.bus.specs.Stretch.{stretch_of, stretch_form};
-ghost use Rattle.bus.specs.Coded.{coded_admit, coded_begin, coded_probe, coded_step, admission_result, begin_result, step_result, arrival_of, begun_form, answer_form, totals_of};
+ghost use Rattle.bus.specs.Coded.{phase_number, event_number, coded_admit, coded_begin, coded_probe, coded_step, admission_result, begin_result, step_result, arrival_of, begun_form, answer_form, totals_of};
 
 use rules::{Admitted, Packet, Slot};
 use sorts::{Address, counts};
@@ -24,14 +24,14 @@ mod waiting;
 const LAST_SLOT: u32 = 1_073_737_728;
 
 // The answer to no step and no probe.
-const NO_ANSWER: Answer = Answer {
+pub const NO_ANSWER: Answer = Answer {
     refusal: 0,
     drops: 0,
     slot: Slot(0),
-    phase: 0,
+    phase: Phase::Parameter,
     start: 0,
     size: 0,
-    event: 0,
+    event: Event::Idle,
     address: Address(0),
     number: 0,
     length: 0,
@@ -68,18 +68,58 @@ pub struct Started {
     pub state: State,
 }
 
-// The answer to a step or a probe; the drops of a probe are 0. Phase 0 is the parameter phase, 1 the tie phase; event 0 idle, 1 collision,
-// 2 success. The address, the packet's number, its length and its wait, the number of slots from its admission slot to the slot probed, are 0
-// unless one succeeded.
+// The phase of a contention: the parameter phase, or the tie phase.
+#[derive(Clone, Copy, PartialEq, Eq)]
+pub enum Phase {
+    Parameter,
+    Tie,
+}
+
+// 0 the parameter phase, 1 the tie phase.
+impl From<Phase> for u32 {
+    ghost from_gives = { λ phase number. number ≡ phase_number phase };
+
+    fn from(phase: Phase) -> u32 {
+        match phase {
+            Phase::Parameter => 0,
+            Phase::Tie => 1,
+        }
+    }
+}
+
+// What is heard in a slot.
+#[derive(Clone, Copy, PartialEq, Eq)]
+pub enum Event {
+    Idle,
+    Collision,
+    Success,
+}
+
+// 0 idle, 1 collision, 2 success.
+impl From<Event> for u32 {
+    ghost from_gives = { λ event number. number ≡ event_number event };
+
+    fn from(event: Event) -> u32 {
+        match event {
+            Event::Idle => 0,
+            Event::Collision => 1,
+            Event::Success => 2,
+        }
+    }
+}
+
+// The answer to a step or a probe; the drops of a probe are 0. The address, the packet's number, its length and its wait, the number of slots
+// from its admission slot to the slot probed, are 0 unless one succeeded. A refused one has its number, and zero in the other fields: the
+// parameter phase and idle.
 #[derive(Clone, Copy)]
 pub struct Answer {
     pub refusal: u32,
     pub drops: u64,
     pub slot: Slot,
-    pub phase: u32,
+    pub phase: Phase,
     pub start: u64,
     pub size: u64,
-    pub event: u32,
+    pub event: Event,
     pub address: Address,
     pub number: u32,
     pub length: u32,
@@ -103,17 +143,21 @@ pub struct Arrivals {
 }
 
 // What is said of a call in a stretch: of an arrival the clock, its address and the answer to its admission; of a step the clock and
-// its answer. What has no meaning is zero.
+// its answer.
 #[derive(Clone, Copy)]
-pub struct Report {
-    pub arrival: bool,
-    pub clock: Slot,
-    pub address: Address,
-    pub admitted: Admitted,
-    pub answer: Answer,
+pub enum Report {
+    Step {
+        clock: Slot,
+        answer: Answer,
+    },
+    Arrival {
+        clock: Slot,
+        address: Address,
+        admitted: Admitted,
+    },
 }
 
-// A stretch of a run: the reports of the calls made, zeros past them; how many arrivals have been taken, the state, and how many steps are
+// A stretch of a run: the reports of the calls made, and past them that of no step; how many arrivals have been taken, the state, and how many steps are
 // left. The state lies before the shorter number: after that and its padding the compiled code would hold it twice as it is handed back.
 #[derive(Clone, Copy)]
 pub struct Stretch {
@@ -305,7 +349,7 @@ pub fn probe(mut s: State) -> Stepped
         let segment = heard.segment;
         s.segment = segment;
         // 'That packet leaves its queue.'
-        if answer.event == probing::SUCCESS {
+        if answer.event == Event::Success {
             let place = heard.place;
             let sent = Leaving::Sent(answer.number);
             s.queues = waiting::without(s.queues, place, place + 1, sent);
@@ -365,7 +409,7 @@ pub fn step(mut s: State) -> Stepped
         answer = heard.answer;
         let segment = heard.segment;
         s.segment = segment;
-        if answer.event == probing::SUCCESS {
+        if answer.event == Event::Success {
             let place = heard.place;
             let leaving = Leaving::Sent(answer.number);
             s.queues = waiting::without(s.queues, place, place + 1, leaving);

@@ -1,14 +1,14 @@
 // A stretch of a run: arrivals and steps, one call after the other.
 ghost use Rattle.std.specs.Prelude.{◌+◌, ◌≡◌, true, false, ◌&&◌, leb, ltb};
-ghost use Rattle.bus.specs.Stretch.{most_calls, row_places, no_admitted, no_answer, stretch_of, stretch_form};
+ghost use Rattle.bus.specs.Stretch.{most_calls, row_places, stretch_of, stretch_form};
 ghost use Rattle.state.specs.State.{standing};
 
 use crate::{
-    Answer, Arrivals, Leaving, Progress, Report, Stretch, beginning, joining, offering, probing,
+    Arrivals, Event, Leaving, Progress, Report, Stretch, beginning, joining, offering, probing,
     waiting,
 };
-use rules::{Admitted, Packet, Slot};
-use sorts::{Address, counts};
+use rules::{Packet, Slot};
+use sorts::counts;
 use state::{State, zeros};
 
 // The calls that a stretch has at the most, and the arrivals of its row.
@@ -16,17 +16,9 @@ const MOST_CALLS: usize = 512;
 
 const ROW: usize = 64;
 
-// The answer to no admission, and no report.
-const NO_ADMITTED: Admitted = Admitted {
-    refusal: 0,
-    number: 0,
-};
-
-const NO_REPORT: Report = Report {
-    arrival: false,
+// A place of the reports that none fills.
+const NO_REPORT: Report = Report::Step {
     clock: Slot(0),
-    address: Address(0),
-    admitted: NO_ADMITTED,
     answer: crate::NO_ANSWER,
 };
 
@@ -51,32 +43,6 @@ fn is_due(taken: usize, length: usize, time: Slot, clock: Slot) -> bool
         return false;
     }
     !sorts::before(clock, time)
-}
-
-// What is said of an arrival.
-fn of_arrival(clock: Slot, address: Address, admitted: Admitted) -> Report
-    ensures { result ≡ record { arrival = true; clock = clock; address = address; admitted = admitted; answer = no_answer } }
-{
-    Report {
-        arrival: true,
-        clock,
-        address,
-        admitted,
-        answer: crate::NO_ANSWER,
-    }
-}
-
-// What is said of a step.
-fn of_step(clock: Slot, answer: Answer) -> Report
-    ensures { result ≡ record { arrival = false; clock = clock; address = record { 0 = 0 }; admitted = no_admitted; answer = answer } }
-{
-    Report {
-        arrival: false,
-        clock,
-        address: Address(0),
-        admitted: NO_ADMITTED,
-        answer,
-    }
 }
 
 // The calls of a stretch. A state that does not stand comes back as lent, and each call is refused; one that stands stands after each
@@ -105,7 +71,11 @@ pub fn calls(s: State, stands: bool, arrivals: Arrivals, steps: u32) -> Stretch
                 stands, settings, listed, clock, g.admitted, lengths, a.address, a.value, a.length,
             );
             let admitted = asked.answer;
-            reports[made] = of_arrival(clock, a.address, admitted);
+            reports[made] = Report::Arrival {
+                clock,
+                address: a.address,
+                admitted,
+            };
             made += 1;
             taken += 1;
             if admitted.refusal != 0 {
@@ -129,7 +99,7 @@ pub fn calls(s: State, stands: bool, arrivals: Arrivals, steps: u32) -> Stretch
         let refusal = crate::step_refusal(stands, clock);
         if refusal != 0 {
             let answer = crate::refused(refusal);
-            reports[made] = of_step(clock, answer);
+            reports[made] = Report::Step { clock, answer };
             made += 1;
             left -= 1;
             continue;
@@ -218,7 +188,7 @@ pub fn calls(s: State, stands: bool, arrivals: Arrivals, steps: u32) -> Stretch
         };
         let moved = probing::moved(settings, progress, drops, count, listed, packet);
         let answer = moved.answer;
-        reports[made] = of_step(clock, answer);
+        reports[made] = Report::Step { clock, answer };
         made += 1;
         left -= 1;
         let p = moved.progress;
@@ -242,7 +212,7 @@ pub fn calls(s: State, stands: bool, arrivals: Arrivals, steps: u32) -> Stretch
         g.values = none;
         g.lengths = none;
         g.admissions = admissions;
-        if answer.event != probing::SUCCESS {
+        if answer.event != Event::Success {
             continue;
         }
         // 'That packet leaves its queue.'

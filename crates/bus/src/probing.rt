@@ -5,18 +5,11 @@ ghost use Rattle.word.specs.Word.{word_of, count_of};
 ghost use Rattle.rules.specs.SetUp.{discipline_of};
 ghost use Rattle.bus.specs.Parts.{addresses_of, transmitters_of, transmitters_in, answer_at, went_on, split_of, collided_on, unheard_on, round_after, won_on, moved_by, with_moved, sole_of, heard_in, heard_of};
 
-use crate::{Answer, Heard, Moved, Progress};
+use crate::{Answer, Event, Heard, Moved, Phase, Progress};
 use rules::{Packet, Slot};
 use sorts::{Address, Capability, Windowed, disciplines};
 use state::{Contention, Listed, Round, Segment, Settings, zeros};
 use window::{Side, Window};
-
-// The events as numbers.
-const IDLE: u32 = 0;
-
-const COLLISION: u32 = 1;
-
-pub const SUCCESS: u32 = 2;
 
 // The stations whose number in a row lies in a window, as a word.
 fn lying_in(w: Window, row: &[u64; 64]) -> u64
@@ -90,7 +83,7 @@ pub fn transmitters<'a>(
 }
 
 // The answer to a probe without a winner.
-fn unsent(progress: Progress, drops: u64, event: u32, ended: bool) -> Answer
+fn unsent(progress: Progress, drops: u64, event: Event, ended: bool) -> Answer
     ensures { result ≡ answer_at progress drops event (record { 0 = 0 }) 0 0 0 ended }
 {
     answer_to(progress, drops, event, Address(0), 0, 0, 0, ended)
@@ -100,7 +93,7 @@ fn unsent(progress: Progress, drops: u64, event: u32, ended: bool) -> Answer
 fn answer_to(
     progress: Progress,
     drops: u64,
-    event: u32,
+    event: Event,
     address: Address,
     number: u32,
     length: u32,
@@ -112,10 +105,11 @@ fn answer_to(
     let contention = progress.contention;
     let window = contention.window;
     let slot = progress.clock;
-    let mut phase = 0;
-    if contention.tied {
-        phase = 1;
-    }
+    let phase = if contention.tied {
+        Phase::Tie
+    } else {
+        Phase::Parameter
+    };
     Answer {
         refusal: 0,
         drops,
@@ -190,7 +184,7 @@ fn collided(a: u32, progress: Progress, drops: u64) -> Moved
 {
     let c = split(a, progress.contention);
     let next = went_on(progress, c);
-    let answer = unsent(progress, drops, COLLISION, false);
+    let answer = unsent(progress, drops, Event::Collision, false);
     Moved {
         answer,
         progress: next,
@@ -215,7 +209,7 @@ fn unheard(progress: Progress, drops: u64) -> Moved
                 tie: c.tie,
             };
             let next = went_on(progress, onto);
-            let answer = unsent(progress, drops, IDLE, false);
+            let answer = unsent(progress, drops, Event::Idle, false);
             Moved {
                 answer,
                 progress: next,
@@ -223,7 +217,7 @@ fn unheard(progress: Progress, drops: u64) -> Moved
         }
         Side::Right => {
             let clock = later(progress.clock, 1);
-            let answer = unsent(progress, drops, IDLE, true);
+            let answer = unsent(progress, drops, Event::Idle, true);
             let next = Progress {
                 clock,
                 sent: progress.sent,
@@ -264,7 +258,7 @@ fn won(discipline: u32, progress: Progress, drops: u64, l: Listed, packet: Packe
     let answer = answer_to(
         progress,
         drops,
-        SUCCESS,
+        Event::Success,
         l.address,
         packet.number,
         packet.length,

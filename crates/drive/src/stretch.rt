@@ -1,11 +1,25 @@
 // How a stretch is written.
 use crate::lines;
-use bus::Report;
+use bus::{NO_ANSWER, Report};
+use rules::Admitted;
+use sorts::Address;
+
+// What a report does not tell is zero.
+const NO_ADMITTED: Admitted = Admitted {
+    refusal: 0,
+    number: 0,
+};
 
 // 'call i admission clock address refusal number refusal drops slot phase start size event address number length wait ended'
 fn report(i: usize, r: Report) {
-    let admitted = r.admitted;
-    let a = r.answer;
+    let (clock, address, admitted, a) = match r {
+        Report::Arrival {
+            clock,
+            address,
+            admitted,
+        } => (clock, address, admitted, NO_ANSWER),
+        Report::Step { clock, answer } => (clock, Address(0), NO_ADMITTED, answer),
+    };
     let answered = admitted.number as u64;
     let number = a.number as u64;
     let length = a.length as u64;
@@ -13,18 +27,18 @@ fn report(i: usize, r: Report) {
     let ended = lines::of_flag(a.ended);
     let numbers = [
         i as u64,
-        lines::of_flag(r.arrival),
-        r.clock.0 as u64,
-        r.address.0 as u64,
+        lines::of_flag(matches!(r, Report::Arrival { .. })),
+        clock.0 as u64,
+        address.0 as u64,
         admitted.refusal as u64,
         answered,
         a.refusal as u64,
         a.drops,
         a.slot.0 as u64,
-        a.phase as u64,
+        u32::from(a.phase) as u64,
         a.start,
         a.size,
-        a.event as u64,
+        u32::from(a.event) as u64,
         a.address.0 as u64,
         number,
         length,

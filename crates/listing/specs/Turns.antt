@@ -62,20 +62,22 @@ arrivals_form arrivals = record { row = arrivals ++ replicate (row_places - leng
 
 -- of an arrival the refusal, if it was refused; of a step the packets dropped, and the probe
 abbrev pub report_text : Report → List ℕ
-report_text r =
-    cond
-    r.arrival
-    (refusal_text r.clock.0 r.address.0 r.admitted.refusal)
-    (dropped_text (answer_of r.answer) ++ probed_text (answer_of r.answer))
+report_text (Report.Arrival clock address admitted) = refusal_text clock.0 address.0 admitted.refusal
+report_text (Report.Step clock answer) = dropped_text (answer_of answer) ++ probed_text (answer_of answer)
 
 abbrev pub reports_text : List Report → List ℕ
 reports_text [] = []
 reports_text (r ∷ later) = report_text r ++ reports_text later
 
+-- the answer to a step, if the call reported is one
+abbrev pub answer_in : Report → List Answer
+answer_in (Report.Arrival clock address admitted) = []
+answer_in (Report.Step clock answer) = answer_of answer ∷ []
+
 -- the answers to the steps among the calls reported
 abbrev pub answers_in : List Report → List Answer
 answers_in [] = []
-answers_in (r ∷ later) = cond r.arrival [] (answer_of r.answer ∷ []) ++ answers_in later
+answers_in (r ∷ later) = answer_in r ++ answers_in later
 
 -- ---- any other turn: a stretch of calls, or the run ends
 

@@ -102,17 +102,19 @@ fn tell(room: &mut [u8; 65536], at: usize, report: Report) -> usize
     requires { roomy at 128 }
     ensures { Told room.old room.new at result (report_text report) 128 }
 {
-    if !report.arrival {
-        let answer = report.answer;
-        return telling::answer(room, at, answer);
+    match report {
+        Report::Step { answer, .. } => telling::answer(room, at, answer),
+        Report::Arrival {
+            clock,
+            address,
+            admitted,
+        } => {
+            if admitted.refusal == 0 {
+                return at;
+            }
+            telling::arrival(room, at, clock, address, admitted.refusal)
+        }
     }
-    let admitted = report.admitted;
-    if admitted.refusal == 0 {
-        return at;
-    }
-    let clock = report.clock;
-    let address = report.address;
-    telling::arrival(room, at, clock, address, admitted.refusal)
 }
 
 // The text of all reports of a stretch; how many bytes it has. The reports are taken out once: to read one of them in the stretch would copy

@@ -1,13 +1,13 @@
 // The lines of a listing, written straight into room that the caller lends, from an offset on. A function that writes hands out the offset
 // after its text.
 ghost use Rattle.std.specs.Prelude.{◌≡◌, [], ◌∷◌, ◌++◌};
-ghost use Rattle.bus.specs.Coded.{answer_of};
+ghost use Rattle.bus.specs.Coded.{phase_number, event_number, answer_of};
 ghost use Rattle.text.specs.Text.{decimal, space, newline as newlineByte};
 ghost use Rattle.text.specs.Parts.{Told, roomy};
 ghost use Rattle.listing.specs.Text.{phase_letter, event_letter, refused_text, arrival_text, end_text, dropped_text, probed_text};
 ghost use Rattle.listing.specs.Parts.{opening_text, winner_text};
 
-use bus::{Answer, Totals};
+use bus::{Answer, Event, Phase, Totals};
 use rules::Slot;
 use sorts::Address;
 
@@ -55,20 +55,24 @@ fn newline(room: &mut [u8; 65536], at: usize) -> usize
 }
 
 // 'phase P or T'
-fn phase_letter(phase: u32) -> u8
-    ensures { result ≡ phase_letter phase }
+fn phase_letter(phase: Phase) -> u8
+    ensures { result ≡ phase_letter (phase_number phase) }
 {
-    if phase == 0 { b'P' } else { b'T' }
+    match phase {
+        Phase::Parameter => b'P',
+        Phase::Tie => b'T',
+    }
 }
 
 // 'event I, C, or S'
-fn event_letter(event: u32) -> u8
-    ensures { result ≡ event_letter event }
+fn event_letter(event: Event) -> u8
+    ensures { result ≡ event_letter (event_number event) }
 {
-    if event == 0 {
-        return b'I';
+    match event {
+        Event::Idle => b'I',
+        Event::Collision => b'C',
+        Event::Success => b'S',
     }
-    if event == 1 { b'C' } else { b'S' }
 }
 
 // 'REFUSED number offset'
@@ -130,9 +134,9 @@ fn winner(room: &mut [u8; 65536], at: usize, answer: Answer) -> usize
     requires { roomy at 44 }
     ensures { Told room.old room.new at result (winner_text (answer_of answer)) 44 }
 {
-    if answer.event < 2 {
+    let Event::Success = answer.event else {
         return at;
-    }
+    };
     let address = short_field(room, at, answer.address.0);
     let number = short_field(room, address, answer.number);
     let length = short_field(room, number, answer.length);

@@ -9,9 +9,10 @@ use lib.ListN.{length, get_or, take}
 use lib.Seq.{take-suc}
 use Rattle.rules.specs.Probe.{Answer}
 use Rattle.bus.specs.declared.Report.{Report}
+use Rattle.bus.specs.declared.Report.TheVariants as Report
 use Rattle.bus.specs.Coded.{answer_of}
 use Rattle.bus.specs.Stretch.{no_report}
-use Rattle.listing.specs.Turns.{answers_in}
+use Rattle.listing.specs.Turns.{answer_in, answers_in}
 use Rattle.measure.specs.Measured.{wait_in, longer, longest_wait}
 use Rattle.measure.specs.Parts.{wait_told}
 
@@ -54,15 +55,13 @@ longest_append (a ∷ said) others =
 -- of reports with one report more
 one_report :
     (reports : List Report) (r : Report) → longest_wait (answers_in (reports ++ (r ∷ []))) ≡ longer (longest_wait (answers_in reports)) (wait_told r)
-one_report [] r = go r.arrival
+one_report [] r = go r
   where
-    go :
-        (t : Bool)
-        → longest_wait (cond t [] (answer_of r.answer ∷ []) ++ []) ≡ longer 0 (cond t 0 (wait_in (answer_of r.answer)))
-    go true = sym (none_longer 0)
-    go false = longer_none (wait_in (answer_of r.answer)) ∙ sym (none_longer (wait_in (answer_of r.answer)))
+    go : (r : Report) → longest_wait (answer_in r ++ []) ≡ longer 0 (wait_told r)
+    go (Report.Arrival clock address admitted) = sym (none_longer 0)
+    go (Report.Step clock answer) = longer_none (wait_in (answer_of answer)) ∙ sym (none_longer (wait_in (answer_of answer)))
 one_report (x ∷ reports) r =
-    let first = cond x.arrival [] (answer_of x.answer ∷ []) in
+    let first = answer_in x in
     longest_append first (answers_in (reports ++ (r ∷ [])))
     ∙ ap (longer (longest_wait first)) (one_report reports r)
     ∙ sym (longer_of_three (longest_wait first) (longest_wait (answers_in reports)) (wait_told r))

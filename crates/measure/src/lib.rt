@@ -7,13 +7,10 @@ ghost use Rattle.listing.specs.Turns.{answers_in};
 ghost use Rattle.measure.specs.Measured.{longer, longest_wait, measured};
 ghost use Rattle.measure.specs.Parts.{wait_told, Finishes};
 
-use bus::{Report, Stretch};
+use bus::{Event, Report, Stretch};
 use scenario::ARRIVAL_BYTES;
 use sheet::Run;
 use state::State;
-
-// 'event .. 2 success'
-const SUCCESS: u32 = 2;
 
 // A run measured: the number of the refusal and the offset of what is refused, and no run; or 0 and 0, and the finished run.
 #[derive(Clone, Copy)]
@@ -27,14 +24,10 @@ pub struct Measured {
 fn wait_told(report: Report) -> u32
     ensures { result ≡ wait_told report }
 {
-    if report.arrival {
-        return 0;
+    match report {
+        Report::Step { answer, .. } if answer.event == Event::Success => answer.wait,
+        _ => 0,
     }
-    let answer = report.answer;
-    if answer.event == SUCCESS {
-        return answer.wait;
-    }
-    0
 }
 
 // The longer of two waits.

@@ -1,6 +1,6 @@
 // Lines of what the calls answer: a label, a colon, and numbers.
 use crate::segments;
-use bus::Answer;
+use bus::{Answer, Report};
 use sorts::Address;
 use state::{Row, Settings, State};
 
@@ -126,10 +126,10 @@ fn answered(text: &[u8], a: Answer) {
     number(a.refusal);
     word(a.drops);
     number(a.slot.0);
-    number(a.phase);
+    number(u32::from(a.phase));
     word(a.start);
     word(a.size);
-    number(a.event);
+    number(u32::from(a.event));
     number(a.address.0);
     number(a.number);
     number(a.length);
@@ -138,14 +138,20 @@ fn answered(text: &[u8], a: Answer) {
     newline();
 }
 
+// The refusal of a call that a stretch reports.
+fn refusal(r: Report) -> u32 {
+    match r {
+        Report::Step { answer, .. } => answer.refusal,
+        Report::Arrival { admitted, .. } => admitted.refusal,
+    }
+}
+
 // A step made in a stretch: its refusal, how many calls were made, and the steps that are left.
 pub fn in_stretch(text: &[u8], s: State) {
     let arrivals = segments::coming(0);
     let d = bus::play(s, arrivals, 1);
-    let r = d.reports[0];
-    let a = r.answer;
     label(text);
-    number(a.refusal);
+    number(refusal(d.reports[0]));
     place(d.made);
     number(d.left);
     newline();
@@ -185,11 +191,7 @@ pub fn lent(text: &[u8], s: State) {
     let y = b.answer;
     number(y.refusal);
     number(c.refusal);
-    let first = d.reports[0];
-    let v = first.admitted;
-    number(v.refusal);
-    let second = d.reports[1];
-    let w = second.answer;
-    number(w.refusal);
+    number(refusal(d.reports[0]));
+    number(refusal(d.reports[1]));
     newline();
 }

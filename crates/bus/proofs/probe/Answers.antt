@@ -6,7 +6,7 @@ use Rattle.bus.specs.Coded.{Answer}
 use Rattle.state.proofs.Places.{queues_arrays}
 use Rattle.state.proofs.Stands.{Lent, lent}
 use Rattle.state.proofs.StandingParts.{state_held}
-use Rattle.bus.proofs.InPlace.{Sound, sound_of, may_probe, none_won, winner_there!, may_send, one_won}
+use Rattle.bus.proofs.InPlace.{Sound, sound_of, may_probe, none_won, winner_there!, may_send, one_won, is_success, none_success}
 use Rattle.bus.proofs.Calls.{probe_away, probe_on, probes_now}
 use Rattle.bus.proofs.probe.Goals as goal
 use Rattle.bus.proofs.probe.Goals.{After-stands-stands, Then-refusal-eq0}
@@ -41,33 +41,33 @@ pub overflow_add-place : goal.overflow_add-place
 overflow_add-place c =
     let r = ready (goal.at.overflow_add-place c).Then-refusal-eq0 in
     let x = s (goal.at.overflow_add-place c).Then-refusal-eq0 in
-    let h = winner_there! x.segment x.queues 0 r.0 r.1 c.heard_in-heard.result c.heard_in-heard.ensures c.if-answer-eq-SUCCESS.true in
+    let h = winner_there! x.segment x.queues 0 r.0 r.1 c.heard_in-heard.result c.heard_in-heard.ensures (is_success _ c.eq.ensures c.if-eq.true) in
     search rules
 
 pub without-s-requires : goal.without-s-requires
 without-s-requires c =
     let r = ready (goal.at.without-s-requires c).Then-refusal-eq0 in
-    let all = may_send (s (goal.at.without-s-requires c).Then-refusal-eq0).segment (s (goal.at.without-s-requires c).Then-refusal-eq0).queues 0 r.0 r.1 c.heard_in-heard.result c.heard_in-heard.ensures c.if-answer-eq-SUCCESS.true in
+    let all = may_send (s (goal.at.without-s-requires c).Then-refusal-eq0).segment (s (goal.at.without-s-requires c).Then-refusal-eq0).queues 0 r.0 r.1 c.heard_in-heard.result c.heard_in-heard.ensures (is_success _ c.eq.ensures c.if-eq.true) in
     record {
       to_bound = all.0;
       padded = all.1.0;
       lengths_bound = all.1.1;
     }
 
-pub returns-then-answer-eq-SUCCESS : goal.returns-then-answer-eq-SUCCESS
-returns-then-answer-eq-SUCCESS c =
-    let x = s (goal.at.returns-then-answer-eq-SUCCESS c).Then-refusal-eq0 in
-    let r = ready (goal.at.returns-then-answer-eq-SUCCESS c).Then-refusal-eq0 in
+pub returns-then-eq : goal.returns-then-eq
+returns-then-eq c =
+    let x = s (goal.at.returns-then-eq c).Then-refusal-eq0 in
+    let r = ready (goal.at.returns-then-eq c).Then-refusal-eq0 in
     let rest = c.without-s.result in
-    one_won x.segment x.queues 0 r.0 r.1 c.heard_in-heard.result c.heard_in-heard.ensures c.if-answer-eq-SUCCESS.true rest c.without-s.ensures
+    one_won x.segment x.queues 0 r.0 r.1 c.heard_in-heard.result c.heard_in-heard.ensures (is_success _ c.eq.ensures c.if-eq.true) rest c.without-s.ensures
     (queues_arrays rest _ c.without-s.type_inv)
     ∙ probes_now x r.0 r.1 r.2
 
-pub returns-else-answer-eq-SUCCESS : goal.returns-else-answer-eq-SUCCESS
-returns-else-answer-eq-SUCCESS c =
-    let x = s (goal.at.returns-else-answer-eq-SUCCESS c).Then-refusal-eq0 in
-    let r = ready (goal.at.returns-else-answer-eq-SUCCESS c).Then-refusal-eq0 in
-    none_won x.segment x.queues 0 r.0 r.1 c.heard_in-heard.result c.heard_in-heard.ensures c.if-answer-eq-SUCCESS.false ∙ probes_now x r.0 r.1 r.2
+pub returns-else-eq : goal.returns-else-eq
+returns-else-eq c =
+    let x = s (goal.at.returns-else-eq c).Then-refusal-eq0 in
+    let r = ready (goal.at.returns-else-eq c).Then-refusal-eq0 in
+    none_won x.segment x.queues 0 r.0 r.1 c.heard_in-heard.result c.heard_in-heard.ensures (none_success _ c.eq.ensures c.if-eq.false) ∙ probes_now x r.0 r.1 r.2
 
 pub returns-else-refusal-eq0 : goal.returns-else-refusal-eq0
 returns-else-refusal-eq0 c =

@@ -10,7 +10,7 @@ use Rattle.state.proofs.Stands.{Lent, lent}
 use Rattle.state.proofs.StandingParts.{state_held}
 use Rattle.bus.proofs.ProbedSlot.{open_of, stepped}
 use Rattle.bus.proofs.Steps.{probes}
-use Rattle.bus.proofs.InPlace.{whole, Sound, sound_of, step_away, step_on, Opened, was_open, opened_as, may_leave, fewer_wait, may_begin, late_gone, may_probe, none_won, winner_there!, may_send, one_won}
+use Rattle.bus.proofs.InPlace.{whole, Sound, sound_of, step_away, step_on, Opened, was_open, opened_as, may_leave, fewer_wait, may_begin, late_gone, may_probe, none_won, winner_there!, may_send, one_won, is_success, none_success}
 use Rattle.bus.proofs.step.Goals as goal
 use Rattle.bus.proofs.step.Goals.{After-stands-stands, After-without-s, Joined-not-under_way, Then-refusal-eq0, else-not-under_way, then-not-under_way}
 
@@ -107,31 +107,31 @@ pub overflow_add-place : goal.overflow_add-place
 overflow_add-place c =
     let at = (goal.at.overflow_add-place c).Joined-not-under_way in
     let o = opened! at in
-    let h = winner_there! (probing at) (queues at) (drops at) o.ready o.begun c.heard_in-heard.result c.heard_in-heard.ensures c.if-answer-eq-SUCCESS.true in
+    let h = winner_there! (probing at) (queues at) (drops at) o.ready o.begun c.heard_in-heard.result c.heard_in-heard.ensures (is_success _ c.eq.ensures c.if-eq.true) in
     search rules
 
-pub without-s-requires-then-answer-eq-SUCCESS : goal.without-s-requires-then-answer-eq-SUCCESS
-without-s-requires-then-answer-eq-SUCCESS c =
-    let o = opened! (goal.at.without-s-requires-then-answer-eq-SUCCESS c).Joined-not-under_way in
-    let all = may_send (probing (goal.at.without-s-requires-then-answer-eq-SUCCESS c).Joined-not-under_way) (queues (goal.at.without-s-requires-then-answer-eq-SUCCESS c).Joined-not-under_way) (drops (goal.at.without-s-requires-then-answer-eq-SUCCESS c).Joined-not-under_way) o.ready o.begun c.heard_in-heard.result c.heard_in-heard.ensures c.if-answer-eq-SUCCESS.true in
+pub without-s-requires-then-eq : goal.without-s-requires-then-eq
+without-s-requires-then-eq c =
+    let o = opened! (goal.at.without-s-requires-then-eq c).Joined-not-under_way in
+    let all = may_send (probing (goal.at.without-s-requires-then-eq c).Joined-not-under_way) (queues (goal.at.without-s-requires-then-eq c).Joined-not-under_way) (drops (goal.at.without-s-requires-then-eq c).Joined-not-under_way) o.ready o.begun c.heard_in-heard.result c.heard_in-heard.ensures (is_success _ c.eq.ensures c.if-eq.true) in
     record {
       to_bound = all.0;
       padded = all.1.0;
       lengths_bound = all.1.1;
     }
 
-pub returns-then-answer-eq-SUCCESS : goal.returns-then-answer-eq-SUCCESS
-returns-then-answer-eq-SUCCESS c =
-    let o = opened! (goal.at.returns-then-answer-eq-SUCCESS c).Joined-not-under_way in
-    let rest = c.without-s-then-answer-eq-SUCCESS.result in
-    one_won (probing (goal.at.returns-then-answer-eq-SUCCESS c).Joined-not-under_way) (queues (goal.at.returns-then-answer-eq-SUCCESS c).Joined-not-under_way) (drops (goal.at.returns-then-answer-eq-SUCCESS c).Joined-not-under_way) o.ready o.begun c.heard_in-heard.result c.heard_in-heard.ensures c.if-answer-eq-SUCCESS.true rest c.without-s-then-answer-eq-SUCCESS.ensures
-    (queues_arrays rest _ c.without-s-then-answer-eq-SUCCESS.type_inv)
-    ∙ of_step (goal.at.returns-then-answer-eq-SUCCESS c).Joined-not-under_way
+pub returns-then-eq : goal.returns-then-eq
+returns-then-eq c =
+    let o = opened! (goal.at.returns-then-eq c).Joined-not-under_way in
+    let rest = c.without-s-then-eq.result in
+    one_won (probing (goal.at.returns-then-eq c).Joined-not-under_way) (queues (goal.at.returns-then-eq c).Joined-not-under_way) (drops (goal.at.returns-then-eq c).Joined-not-under_way) o.ready o.begun c.heard_in-heard.result c.heard_in-heard.ensures (is_success _ c.eq.ensures c.if-eq.true) rest c.without-s-then-eq.ensures
+    (queues_arrays rest _ c.without-s-then-eq.type_inv)
+    ∙ of_step (goal.at.returns-then-eq c).Joined-not-under_way
 
-pub returns-else-answer-eq-SUCCESS : goal.returns-else-answer-eq-SUCCESS
-returns-else-answer-eq-SUCCESS c =
-    let o = opened! (goal.at.returns-else-answer-eq-SUCCESS c).Joined-not-under_way in
-    none_won (probing (goal.at.returns-else-answer-eq-SUCCESS c).Joined-not-under_way) (queues (goal.at.returns-else-answer-eq-SUCCESS c).Joined-not-under_way) (drops (goal.at.returns-else-answer-eq-SUCCESS c).Joined-not-under_way) o.ready o.begun c.heard_in-heard.result c.heard_in-heard.ensures c.if-answer-eq-SUCCESS.false ∙ of_step (goal.at.returns-else-answer-eq-SUCCESS c).Joined-not-under_way
+pub returns-else-eq : goal.returns-else-eq
+returns-else-eq c =
+    let o = opened! (goal.at.returns-else-eq c).Joined-not-under_way in
+    none_won (probing (goal.at.returns-else-eq c).Joined-not-under_way) (queues (goal.at.returns-else-eq c).Joined-not-under_way) (drops (goal.at.returns-else-eq c).Joined-not-under_way) o.ready o.begun c.heard_in-heard.result c.heard_in-heard.ensures (none_success _ c.eq.ensures c.if-eq.false) ∙ of_step (goal.at.returns-else-eq c).Joined-not-under_way
 
 pub returns-else-refusal-eq0 : goal.returns-else-refusal-eq0
 returns-else-refusal-eq0 c =

@@ -4,11 +4,10 @@ use Rattle.word.specs.Word.{count_of}
 use Rattle.rules.specs.Lists.{keep}
 use Rattle.rules.specs.Bus.{last_slot, late}
 use Rattle.rules.specs.Begin.{sits_out}
-use Rattle.rules.specs.Probe.{success}
 use Rattle.rules.proofs.Laws.{or-false}
 use Rattle.bus.specs.Types.{Packet, Segment, Queues, State, Arrival}
 use Rattle.state.specs.State.{Recorded, recorded_in, nobody, no_packet, meaning, queue_at, last_of}
-use Rattle.bus.specs.Coded.{Answer, Admission, Stepped, admission_result, step_result, coded_admit, coded_step, state_turned}
+use Rattle.bus.specs.Coded.{Answer, Success, Admission, Stepped, admission_result, step_result, coded_admit, coded_step, state_turned}
 use Rattle.bus.specs.Stretch.{in_row, may_be_more, Arrivals, Report, no_arrival, asks, due, arrival_report, step_report}
 use Rattle.bus.specs.Parts.{transmitters_in, addresses_of, moved_by, segment_with, stays, Sent, queue_form, progress_of, Sole, sole_of, heard_in}
 use Rattle.state.proofs.Contenders.{zeroed}
@@ -22,11 +21,11 @@ use Rattle.bus.proofs.BeginningLaws.{all_formed}
 use Rattle.bus.proofs.OffersInPlace.{Best, offering_none, in_time_none, offering_same, in_time_same, in_time_offered, best_first, best_better, best_stays, best_offered, looked_some}
 use Rattle.bus.proofs.HeardLaws.{sole_taken, sole_left}
 use Rattle.bus.proofs.Stretched.{on, at_last, arrivals_array, row_few, row_full}
-use Rattle.bus.proofs.InPlace.{whole, Sound, sound_of, Taken, asked_away, asked_in, step_away, step_on, Opened, was_open, opened_as, still_on, ends_unheard, winner_in, ends_won, Going, at_outset, with_one_arrival, with_step}
+use Rattle.bus.proofs.InPlace.{whole, Sound, sound_of, Taken, asked_away, asked_in, step_away, step_on, Opened, was_open, opened_as, still_on, ends_unheard, winner_in, ends_won, success_left, success_denied, Going, at_outset, with_one_arrival, with_step}
 use Rattle.bus.proofs.InTurn.{below, below_length, below_of, slot_in, slot_fits, slot_offset, first_fits, one_more_fits, within_rows, within_offset, one_more, one_fewer, at_end, from_none, one_on, below_filled, row_place, closed_as, spaces, offer_recorded, fewer_left, may_begin_so, late_opened, none_late, heard_word, lowest_placed, clock_in, length_in, sent_in, moved_as}
 use Rattle.bus.proofs.QueueLaws.{with_queue}
 use Rattle.bus.proofs.playing.calls.Goals as goal
-use Rattle.bus.proofs.playing.calls.Goals.{In-loop-arrivals, Else-admitted-ne0, Else-refusal-ne0, After-offers_nothing, Else-offers_nothing, After-without-queues, Joined-not-under_way, After-count-count, After-lowest-place, Joined-count-eq1, After-moved-moved, Else-answer-ne-SUCCESS}
+use Rattle.bus.proofs.playing.calls.Goals.{In-loop-arrivals, Else-admitted-ne0, Else-refusal-ne0, After-offers_nothing, Else-offers_nothing, After-without-queues, Joined-not-under_way, After-count-count, After-lowest-place, Joined-count-eq1, After-moved-moved, Else-ne}
 use Rattle.bus.proofs.playing.calls.Goals.{then-rank-least, else-rank-least, then-not-under_way+else-loop-i-test+then-late, then-not-under_way+else-loop-i-test+else-late, else-not-under_way, then-count-eq1, else-count-eq1, then-answer-p, else-answer-p}
 
 -- ---- in a turn of the loop
@@ -92,8 +91,7 @@ loop-arrivals-preserved-then-admitted-ne0 c =
           (asked_away (s t) (a t).address (a t).value (a t).length c.args.stands (sound! t) c.asked-asked.result c.asked-asked.ensures c.if-admitted-ne0.true
           c.turned_after.result
           c.turned_after.ensures)
-          c.of_arrival.result
-          c.of_arrival.ensures,
+          _ refl,
       c.loop-arrivals.invariant.1,
     )
 
@@ -126,8 +124,7 @@ loop-arrivals-preserved-then-is_due c =
       by_arrival t (sym c.is_due.ensures ∙ c.if-is_due.true)
           (record { answer = o.answer; state = joined_at (s t) o.place o.answer.number (a t).value (a t).length })
           (taken! (goal.at.loop-arrivals-preserved-then-is_due c).Else-admitted-ne0).is
-          c.of_arrival.result
-          c.of_arrival.ensures,
+          _ refl,
       c.loop-arrivals.invariant.1,
     )
 
@@ -139,8 +136,7 @@ loop-arrivals-preserved-then-refusal-ne0 c =
       by_step t (sym c.is_due.ensures ∙ c.if-is_due.false) (record { answer = c.refused-answer.result; state = s t })
           (ap (λ (answer : Answer). record { answer = answer; state = s t }) c.refused-answer.ensures
           ∙ step_away c.args.stands (s t) (sound! t) c.step_refusal-refusal.result c.step_refusal-refusal.ensures c.if-refusal-ne0.true)
-          c.of_step.result
-          c.of_step.ensures,
+          _ refl,
       c.loop-arrivals.invariant.1,
     )
 
@@ -514,14 +510,14 @@ module _ (c : After-moved-moved) where
       winner (sole! c.before) c.moved-moved.result moved!
 
   idle! :
-      c.moved-moved.result.answer.ended ≡ true → ¬ (c.moved-moved.result.answer.event ≡ success)
+      c.moved-moved.result.answer.ended ≡ true → ¬ (c.moved-moved.result.answer.event ≡ Success)
       → probed_as zeroed c.if-not-under_way.queues ≡ step_result (coded_step turn)
   idle! =
       ends_unheard turn (readied opening-now).0 (readied opening-now).1 (probing heard) c.if-not-under_way.queues c.if-not-under_way.drops (now_opened opening-now)
       winner (sole! c.before) c.moved-moved.result moved!
 
   won! :
-      c.moved-moved.result.answer.ended ≡ true → c.moved-moved.result.answer.event ≡ success → (rest : Queues)
+      c.moved-moved.result.answer.ended ≡ true → c.moved-moved.result.answer.event ≡ Success → (rest : Queues)
       → rest
       ≡ with_queue c.if-not-under_way.queues winner.place
       (queue_form (keep (stays (Sent c.moved-moved.result.answer.number)) (queue_at c.if-not-under_way.queues winner.place)))
@@ -530,7 +526,7 @@ module _ (c : After-moved-moved) where
       ends_won turn (readied opening-now).0 (readied opening-now).1 (probing heard) c.if-not-under_way.queues c.if-not-under_way.drops (now_opened opening-now)
       winner (sole! c.before) c.moved-moved.result moved!
 
-  winner! : c.moved-moved.result.answer.event ≡ success → winner.place < 64
+  winner! : c.moved-moved.result.answer.event ≡ Success → winner.place < 64
   winner! =
       winner_in turn (readied opening-now).0 (readied opening-now).1 (probing heard) c.if-not-under_way.queues c.if-not-under_way.drops (now_opened opening-now)
       winner (sole! c.before) c.moved-moved.result moved!
@@ -541,18 +537,16 @@ overflow_sub-left-in-loop-arrivals c = (turned (goal.at.overflow_sub-left-in-loo
 pub loop-arrivals-preserved-then-not-answer : goal.loop-arrivals-preserved-then-not-answer
 loop-arrivals-preserved-then-not-answer c =
     let at = (goal.at.loop-arrivals-preserved-then-not-answer c).After-moved-moved in
-    let told = c.of_step-in-loop-arrivals in
-    reported at (recorded_in (probing (heard at))) c.if-not-under_way.queues (goes-on! at (denied refl c.if-not-answer.true)) told.result told.ensures
+    reported at (recorded_in (probing (heard at))) c.if-not-under_way.queues (goes-on! at c.if-not-answer.true) _ refl
 
-pub loop-arrivals-preserved-then-answer-ne-SUCCESS : goal.loop-arrivals-preserved-then-answer-ne-SUCCESS
-loop-arrivals-preserved-then-answer-ne-SUCCESS c =
-    let at = (goal.at.loop-arrivals-preserved-then-answer-ne-SUCCESS c).After-moved-moved in
-    let told = c.of_step-in-loop-arrivals in
-    reported at zeroed c.if-not-under_way.queues (idle! at (granted refl c.if-not-answer.false) c.if-answer-ne-SUCCESS.true) told.result told.ensures
+pub loop-arrivals-preserved-then-ne : goal.loop-arrivals-preserved-then-ne
+loop-arrivals-preserved-then-ne c =
+    let at = (goal.at.loop-arrivals-preserved-then-ne c).After-moved-moved in
+    reported at zeroed c.if-not-under_way.queues (idle! at c.if-not-answer.false (success_denied _ c.ne.ensures c.if-ne.true)) _ refl
 
 -- ---- the winner's packet leaves its queue
 
-module _ (c : Else-answer-ne-SUCCESS) where
+module _ (c : Else-ne) where
   abbrev probed : After-moved-moved
   probed = c.before.before.before.before.before.before.before.before.before.before
 
@@ -570,68 +564,68 @@ module _ (c : Else-answer-ne-SUCCESS) where
   ready! = (now_opened (opening-now probed)).ready
 
   place! : place < 64
-  place! = winner! probed c.if-answer-ne-SUCCESS.false
+  place! = winner! probed (success_left _ c.ne.ensures c.if-ne.false)
 
   few! : get_or queues.lengths place 0 ≤ 16
   few! = few_packets (whole (probing (heard probed)) queues) ready! place place!
 
 pub offset_bounds-queues-place-in-loop-arrivals : goal.offset_bounds-queues-place-in-loop-arrivals
-offset_bounds-queues-place-in-loop-arrivals c = let h = place! (goal.at.offset_bounds-queues-place-in-loop-arrivals c).Else-answer-ne-SUCCESS in search rules
+offset_bounds-queues-place-in-loop-arrivals c = let h = place! (goal.at.offset_bounds-queues-place-in-loop-arrivals c).Else-ne in search rules
 
 pub bounds-queues-place-in-loop-arrivals : goal.bounds-queues-place-in-loop-arrivals
-bounds-queues-place-in-loop-arrivals c = place! (goal.at.bounds-queues-place-in-loop-arrivals c).Else-answer-ne-SUCCESS
+bounds-queues-place-in-loop-arrivals c = place! (goal.at.bounds-queues-place-in-loop-arrivals c).Else-ne
 
 pub overflow_mul-first-in-loop-arrivals : goal.overflow_mul-first-in-loop-arrivals
-overflow_mul-first-in-loop-arrivals c = first_fits (place (goal.at.overflow_mul-first-in-loop-arrivals c).Else-answer-ne-SUCCESS) (place! (goal.at.overflow_mul-first-in-loop-arrivals c).Else-answer-ne-SUCCESS)
+overflow_mul-first-in-loop-arrivals c = first_fits (place (goal.at.overflow_mul-first-in-loop-arrivals c).Else-ne) (place! (goal.at.overflow_mul-first-in-loop-arrivals c).Else-ne)
 
 pub loop-j-2-init : goal.loop-j-2-init
 loop-j-2-init c =
-    let at = (goal.at.loop-j-2-init c).Else-answer-ne-SUCCESS in
+    let at = (goal.at.loop-j-2-init c).Else-ne in
     (few! at, from_none (get_or (queues at).lengths (place at) 0), from_none 0, refl, closed_none (f at) (queues at).packets (16 * place at))
 
 pub overflow_add-at-in-loop-j-2 : goal.overflow_add-at-in-loop-j-2
 overflow_add-at-in-loop-j-2 c =
-    let at = (goal.at.overflow_add-at-in-loop-j-2 c).Else-answer-ne-SUCCESS in
+    let at = (goal.at.overflow_add-at-in-loop-j-2 c).Else-ne in
     slot_fits (place at) c.loop-j-2.j (place! at) (below_length c.loop-j-2.j (get_or (queues at).lengths (place at) 0) c.loop-j-2-test.true c.loop-j-2.invariant.0)
 
 pub offset_bounds-queues-at-in-loop-j-2 : goal.offset_bounds-queues-at-in-loop-j-2
 offset_bounds-queues-at-in-loop-j-2 c =
-    let at = (goal.at.offset_bounds-queues-at-in-loop-j-2 c).Else-answer-ne-SUCCESS in
+    let at = (goal.at.offset_bounds-queues-at-in-loop-j-2 c).Else-ne in
     slot_offset (place at) c.loop-j-2.j (place! at) (below_length c.loop-j-2.j (get_or (queues at).lengths (place at) 0) c.loop-j-2-test.true c.loop-j-2.invariant.0)
 
 pub bounds-queues-at-in-loop-j-2 : goal.bounds-queues-at-in-loop-j-2
 bounds-queues-at-in-loop-j-2 c =
-    let at = (goal.at.bounds-queues-at-in-loop-j-2 c).Else-answer-ne-SUCCESS in
+    let at = (goal.at.bounds-queues-at-in-loop-j-2 c).Else-ne in
     slot_in (place at) c.loop-j-2.j (place! at) (below_length c.loop-j-2.j (get_or (queues at).lengths (place at) 0) c.loop-j-2-test.true c.loop-j-2.invariant.0)
 
 pub offset_bounds-queues-at-in-loop-j-2-2 : goal.offset_bounds-queues-at-in-loop-j-2-2
 offset_bounds-queues-at-in-loop-j-2-2 c =
-    let at = (goal.at.offset_bounds-queues-at-in-loop-j-2-2 c).Else-answer-ne-SUCCESS in
+    let at = (goal.at.offset_bounds-queues-at-in-loop-j-2-2 c).Else-ne in
     slot_offset (place at) c.loop-j-2.j (place! at) (below_length c.loop-j-2.j (get_or (queues at).lengths (place at) 0) c.loop-j-2-test.true c.loop-j-2.invariant.0)
 
 pub bounds-queues-at-in-loop-j-2-2 : goal.bounds-queues-at-in-loop-j-2-2
 bounds-queues-at-in-loop-j-2-2 c =
-    let at = (goal.at.bounds-queues-at-in-loop-j-2-2 c).Else-answer-ne-SUCCESS in
+    let at = (goal.at.bounds-queues-at-in-loop-j-2-2 c).Else-ne in
     slot_in (place at) c.loop-j-2.j (place! at) (below_length c.loop-j-2.j (get_or (queues at).lengths (place at) 0) c.loop-j-2-test.true c.loop-j-2.invariant.0)
 
 pub overflow_add-free : goal.overflow_add-free
 overflow_add-free c =
-    let at = (goal.at.overflow_add-free c).Else-answer-ne-SUCCESS in
+    let at = (goal.at.overflow_add-free c).Else-ne in
     slot_fits (place at) c.loop-j-2.filled (place! at) (below_filled c.loop-j-2.filled c.loop-j-2.j (get_or (queues at).lengths (place at) 0) c.loop-j-2.invariant.2 c.loop-j-2-test.true c.loop-j-2.invariant.0)
 
 pub offset_bounds-queues-free : goal.offset_bounds-queues-free
 offset_bounds-queues-free c =
-    let at = (goal.at.offset_bounds-queues-free c).Else-answer-ne-SUCCESS in
+    let at = (goal.at.offset_bounds-queues-free c).Else-ne in
     slot_offset (place at) c.loop-j-2.filled (place! at) (below_filled c.loop-j-2.filled c.loop-j-2.j (get_or (queues at).lengths (place at) 0) c.loop-j-2.invariant.2 c.loop-j-2-test.true c.loop-j-2.invariant.0)
 
 pub bounds-queues-free : goal.bounds-queues-free
 bounds-queues-free c =
-    let at = (goal.at.bounds-queues-free c).Else-answer-ne-SUCCESS in
+    let at = (goal.at.bounds-queues-free c).Else-ne in
     slot_in (place at) c.loop-j-2.filled (place! at) (below_filled c.loop-j-2.filled c.loop-j-2.j (get_or (queues at).lengths (place at) 0) c.loop-j-2.invariant.2 c.loop-j-2-test.true c.loop-j-2.invariant.0)
 
 pub loop-j-2-preserved : goal.loop-j-2-preserved
 loop-j-2-preserved c =
-    let at = (goal.at.loop-j-2-preserved c).Else-answer-ne-SUCCESS in
+    let at = (goal.at.loop-j-2-preserved c).Else-ne in
     let turn = c.loop-j-2 in
     let more = c.loop-j-2-test.true in
     let number = c.moved-moved.result.answer.number in
@@ -660,17 +654,16 @@ loop-j-2-preserved c =
     ]
 
 pub offset_bounds-queues-place-in-loop-arrivals-2 : goal.offset_bounds-queues-place-in-loop-arrivals-2
-offset_bounds-queues-place-in-loop-arrivals-2 c = let h = place! (goal.at.offset_bounds-queues-place-in-loop-arrivals-2 c).Else-answer-ne-SUCCESS in search rules
+offset_bounds-queues-place-in-loop-arrivals-2 c = let h = place! (goal.at.offset_bounds-queues-place-in-loop-arrivals-2 c).Else-ne in search rules
 
 pub bounds-queues-place-in-loop-arrivals-2 : goal.bounds-queues-place-in-loop-arrivals-2
-bounds-queues-place-in-loop-arrivals-2 c = place! (goal.at.bounds-queues-place-in-loop-arrivals-2 c).Else-answer-ne-SUCCESS
+bounds-queues-place-in-loop-arrivals-2 c = place! (goal.at.bounds-queues-place-in-loop-arrivals-2 c).Else-ne
 
 pub loop-arrivals-preserved : goal.loop-arrivals-preserved
 loop-arrivals-preserved c =
-    let at = (goal.at.loop-arrivals-preserved c).Else-answer-ne-SUCCESS in
+    let at = (goal.at.loop-arrivals-preserved c).Else-ne in
     let it = probed at in
     let inner = c.loop-j-2 in
-    let told = c.of_step-in-loop-arrivals in
     let k = place at in
     let rest : Queues = record { lengths = set inner.queues.lengths k inner.filled; packets = inner.queues.packets } in
     let all = at_end inner.j (get_or (queues at).lengths k 0) inner.invariant.1 c.loop-j-2-test.false in
@@ -678,9 +671,8 @@ loop-arrivals-preserved c =
     let form = all_formed (whole (probing (heard it)) (queues at)) (ready! at) k (place! at) in
     let rest! = closed_all (f at) (queues at) rest k inner.filled (place! at) (ready! at).held.packets form closed (ap (λ (ls : List ℕ). set ls k inner.filled) inner.invariant.3) in
     reported it zeroed rest
-    (won! it (granted refl c.if-not-answer.false) c.if-answer-ne-SUCCESS.false rest rest!)
-    told.result
-    told.ensures
+    (won! it c.if-not-answer.false (success_left _ c.ne.ensures c.if-ne.false) rest rest!)
+    _ refl
 
 pub returns : goal.returns
 returns c =

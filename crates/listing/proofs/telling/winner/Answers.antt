@@ -1,12 +1,11 @@
 -- `telling::winner` meets its contract: nothing where no one succeeded, and else the fields, one after the other.
-use Rattle.std.proofs.Common.{arith, le-ltb}
+use Rattle.std.proofs.Common.{arith}
 use Rattle.text.proofs.Stores.{told_none, told_then, told_within}
 use Rattle.listing.proofs.telling.winner.Goals as goal
 
 pub returns : goal.returns
 returns c =
-    let event = c.args.answer.event in
-    rw (le-ltb event 2 c.if-answer-lt2.false)
+    rw c.in-Success.is
     (told_within
     (told_then
     c.short_field-address.ensures
