@@ -1,6 +1,6 @@
 -- 'none twice over all queues' (src/numbers.rt): the links along which a number is found among those before it. Assumes nothing.
 use Prim.Native.Nat.{ℕ, zero, suc, ◌+◌, ◌-◌, ◌*◌, ◌/◌, ◌%◌, ◌≤◌, ◌<◌}
-use mathlib.Core.Path.{◌≡◌, refl, sym, ap, ap₂, ◌∙◌, subst}
+use mathlib.Core.Path.{◌≡◌, refl, sym, ap, ◌∙◌, subst}
 use mathlib.Core.Logic.{◌≢◌, ◌⊎◌, inl, inr}
 use mathlib.Core.Bool.{Bool, true, false, not, not-not}
 use mathlib.Core.List.{List, [], ◌∷◌, ◌++◌}
@@ -8,8 +8,8 @@ use native.Mathlib.Nat.{mod-lt}
 use native.Mathlib.Numerals.{add-one}
 use native.Mathlib.Omega.{arith}
 use lib.Dec.{eqb}
-use lib.ListN.{length, get_or, take, drop, set, replicate, length-set}
-use lib.Seq.{length-take-le, take-suc, split_at, take-take, get_or-take, get_or-set_same, get_or-set_other}
+use lib.ListN.{length, get_or, take, set, replicate, length-set}
+use lib.Seq.{take-suc, take_all, split_at, get_or-set_same, get_or-set_other}
 use borrow.Author.Tests.{eqb-true, eqb-false}
 use Rattle.rules.specs.Lists.{distinct, Distinct, Among, at_head, in_tail}
 use Rattle.rules.proofs.Laws.{among_none, among_left, among_right, among_append}
@@ -78,9 +78,10 @@ known_start numbers =
       sound = λ at. let z = zeros 4096 at in (omega arith, λ h. absurd (omega arith));
     }
 
--- all n are known
-pub known_end : {numbers links : List ℕ} {n k : ℕ} → Known numbers links k → k ≡ n → true ≡ distinct (take n numbers)
-known_end {numbers} {n = n} g e = sym (told (none_twice (take n numbers)) (subst (λ k. Distinct (take k numbers)) e g.differ))
+-- all are known
+pub known_end : {numbers links : List ℕ} {k : ℕ} → Known numbers links k → length numbers ≤ k → true ≡ distinct numbers
+known_end {numbers} {k = k} g h =
+    sym (told (none_twice numbers) (subst Distinct (take_all k numbers h) g.differ))
 
 -- The way of number k has come to a link: the number is found from there on if it is known, and from its first link on once it is found
 -- from there: what the loop along the links keeps.
@@ -109,34 +110,44 @@ module _ {numbers links : List ℕ} {k at rest : ℕ} (w : Way numbers links k a
 
   -- the number is known
   pub way_again :
-      {n : ℕ} → k < n → n ≤ length numbers → 0 < get_or links at 0 → get_or numbers (get_or links at 0 - 1) 0 ≡ get_or numbers k 0
-      → false ≡ distinct (take n numbers)
-  way_again {n} l m h e =
-      let split =
-      split_at (take n numbers) k 0 (omega (arith, length-take-le n numbers m))
-      ∙ ap₂ (λ ns y. ns ++ y ∷ drop (suc k) (take n numbers)) (take-take k n numbers (omega arith)) (get_or-take n numbers k 0 l) in
-      let twice = subst (λ ns. ¬ Distinct ns) (sym split) (distinct_not (take k numbers) _ (rw e at ((w.known.sound at).1 h).1)) in
-      sym (ap not (told (negated (none_twice (take n numbers))) twice)) ∙ not-not (distinct (take n numbers))
+      {link : ℕ} → link ≡ get_or links at 0 → k < length numbers → 0 < link → get_or numbers (link - 1) 0 ≡ get_or numbers k 0
+      → false ≡ distinct numbers
+  way_again e l h same =
+      let before = subst (λ link. 0 < link → get_or numbers (link - 1) 0 ≡ x → Among x (take k numbers)) (sym e) among h same in
+      let twice = subst (λ ns. ¬ Distinct ns) (sym (split_at numbers k 0 l)) (distinct_not (take k numbers) _ before) in
+      sym (ap not (told (negated (none_twice numbers)) twice)) ∙ not-not (distinct numbers)
+    where
+      among : 0 < get_or links at 0 → get_or numbers (get_or links at 0 - 1) 0 ≡ x → Among x (take k numbers)
+      among h e = subst (λ y. Among y (take k numbers)) e ((w.known.sound at).1 h).1
 
   -- another number
   pub way_on :
-      0 < get_or links at 0 → get_or numbers (get_or links at 0 - 1) 0 ≢ get_or numbers k 0
-      → Way numbers links k (2046 + 2 * get_or links at 0 + rest % 2) (rest / 2)
-  way_on h other =
-      record {
-        known = w.known;
-        low = omega (arith, w.inside, mod-lt rest {m = 2} (omega arith));
-        inside = (w.known.sound (2046 + 2 * get_or links at 0 + rest % 2)).0;
-        onward = λ i. go (w.onward i);
-        back =
-            λ links' k f.
-            let same = k at h in
-            w.back links' k (on {at = at} (omega arith) (rw same f));
-      }
+      {link : ℕ} → link ≡ get_or links at 0 → 0 < link → get_or numbers (link - 1) 0 ≢ get_or numbers k 0
+      → Way numbers links k (2046 + 2 * link + rest % 2) (rest / 2)
+  way_on e =
+      subst
+      (λ link. 0 < link → get_or numbers (link - 1) 0 ≢ x → Way numbers links k (2046 + 2 * link + rest % 2) (rest / 2))
+      (sym e)
+      on_from
     where
-      go : Found numbers links x at rest → Found numbers links x (2046 + 2 * get_or links at 0 + rest % 2) (rest / 2)
-      go (here h e) = absurd (other e)
-      go (on h f) = f
+      on_from :
+          0 < get_or links at 0 → get_or numbers (get_or links at 0 - 1) 0 ≢ x
+          → Way numbers links k (2046 + 2 * get_or links at 0 + rest % 2) (rest / 2)
+      on_from h other =
+          record {
+            known = w.known;
+            low = omega (arith, w.inside, mod-lt rest {m = 2} (omega arith));
+            inside = (w.known.sound (2046 + 2 * get_or links at 0 + rest % 2)).0;
+            onward = λ i. go (w.onward i);
+            back =
+                λ links' k f.
+                let same = k at h in
+                w.back links' k (on {at = at} (omega arith) (rw same f));
+          }
+        where
+          go : Found numbers links x at rest → Found numbers links x (2046 + 2 * get_or links at 0 + rest % 2) (rest / 2)
+          go (here h e) = absurd (other e)
+          go (on h f) = f
 
   -- the number is hung at a free link
   pub known_more : at < 4096 → k < length numbers → get_or links at 0 ≡ 0 → Known numbers (set links at (k + 1)) (k + 1)

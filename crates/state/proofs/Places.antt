@@ -7,14 +7,13 @@ use native.Mathlib.Omega.{arith}
 use mir.Val.{Val}
 use denote.Laws.{Is}
 use lib.ListN.{length, get_or, take, drop, set, replicate, length-map, length-take, length-drop, get_or-map}
-use lib.Seq.{length-take-le, take_all, take-take, take-append-add, get_or-take, get_or-drop}
+use lib.Seq.{take_all, get_or-take, get_or-drop}
 use lib.Seq.{paste, paste-suc, length-paste, take-paste}
 use Rattle.rules.specs.Bus.{numbers_in}
 use Rattle.state.specs.State.{Queues, Packet, no_packet, places_at}
 use Rattle.state.specs.Parts.{Queue}
 use Rattle.state.specs.contracts.Queues as queues
 use Rattle.state.specs.contracts.Queue as queue
-use Rattle.state.proofs.Rows.{take-map}
 
 -- ---- the arrays of what a function is handed have their lengths
 
@@ -70,32 +69,26 @@ taken_all qs i j here row done e =
 abbrev number_of : Packet → ℕ
 number_of p = p.number
 
--- the numbers of station i's packets written behind others
-module _ (qs : Queues) (i at : ℕ) (before : List ℕ) (here : i < 64) (row : length qs.packets ≡ 1024) (room : at + 16 ≤ length before) where
-  count : length (numbers_in (places_at qs i)) ≡ 16
-  count = length-map (places_at qs i) number_of ∙ places_count qs i here row
-
-  -- one number more
+-- the numbers of packets written behind others
+module _ (packets : List Packet) (at : ℕ) (before : List ℕ) (j : ℕ) where
+  -- one more
   pub written_one :
-      (j : ℕ) {ns : List ℕ} → j < 16 → ns ≡ paste before at (numbers_in (places_at qs i)) j
-      → set ns (at + j) (get_or qs.packets (16 * i + j) no_packet).number ≡ paste before at (numbers_in (places_at qs i)) (j + 1)
-  written_one j h e =
-      let s = numbers_in (places_at qs i) in
-      let number = get_or-map number_of (places_at qs i) j no_packet ∙ ap number_of (place_at qs i j h) in
-      rw (e, ← number, add-one j) (paste-suc before at s j 0 (omega arith) (omega (arith, count)))
+      {ns : List ℕ} {k : ℕ} → k ≡ at + j → at + j < length before → j < length packets → ns ≡ paste before at (numbers_in packets) j
+      → set ns k (get_or packets j no_packet).number ≡ paste before at (numbers_in packets) (j + 1)
+  written_one {ns} {k} same h l e =
+      ap₂ (λ xs m. set xs m (get_or packets j no_packet).number) e same
+      ∙ ap (set (paste before at (numbers_in packets) j) (at + j)) (sym (get_or-map number_of packets j no_packet))
+      ∙ paste-suc before at (numbers_in packets) j 0 h (omega (arith, length-map packets number_of))
+      ∙ ap (paste before at (numbers_in packets)) (sym (add-one j))
 
-  -- all of them: the first k behind the others
+  -- all of them
   pub written_all :
-      (j k : ℕ) {ns : List ℕ} → j ≡ 16 → k ≤ 16 → ns ≡ paste before at (numbers_in (places_at qs i)) j
-      → (length ns ≡ length before) × (take (at + k) ns ≡ take at before ++ numbers_in (take k (places_at qs i)))
-  written_all j k {ns} done few e =
-      let s = numbers_in (places_at qs i) in
-      let all : ns ≡ paste before at s 16 = e ∙ ap (paste before at s) done in
-      let front : take (at + 16) ns ≡ take at before ++ take 16 s =
-      ap (take (at + 16)) all ∙ take-paste before at s 16 (omega arith) (omega (arith, count)) in (
-        ap length all ∙ length-paste before at s 16 room (omega (arith, count)),
-        sym (take-take (at + k) (at + 16) ns (omega arith))
-            ∙ ap₂ (λ m l. take (m + k) l) (sym (length-take-le at before (omega arith))) front
-            ∙ take-append-add (take at before) (take 16 s) k
-            ∙ ap (λ l. take at before ++ l) (take-take k 16 s few ∙ take-map number_of k (places_at qs i)),
+      {ns : List ℕ} → j ≡ length packets → at + length packets ≤ length before → ns ≡ paste before at (numbers_in packets) j
+      → (length ns ≡ length before) × (take (at + j) ns ≡ take at before ++ numbers_in packets)
+  written_all {ns} done room e =
+      let count = length-map packets number_of in (
+        ap length e ∙ length-paste before at (numbers_in packets) j (omega arith) (omega (arith, count)),
+        ap (take (at + j)) e
+            ∙ take-paste before at (numbers_in packets) j (omega arith) (omega (arith, count))
+            ∙ ap (λ s. take at before ++ s) (take_all j (numbers_in packets) (omega (arith, count))),
       )

@@ -1,34 +1,35 @@
 -- The stations of a set-up: the tests of its numbers and of its row in the order in which they are tried, and the state that it gives.
 -- Assumes nothing.
-use Prim.Native.Nat.{ℕ, suc, ◌+◌, ◌/◌, ◌%◌, ◌≤◌, ◌<◌, min}
+use Prim.Native.Nat.{ℕ, suc, ◌+◌, ◌-◌, ◌/◌, ◌%◌, ◌≤◌, ◌<◌, min}
 use mathlib.Core.Path.{◌≡◌, refl, sym, ap, ap₂, ◌∙◌}
 use mathlib.Core.Logic.{inl, inr}
-use mathlib.Core.Bool.{Bool, true, false, not, ◌||◌, cond, or_assoc, or-false}
+use mathlib.Core.Bool.{Bool, true, false, not, ◌&&◌, ◌||◌, cond, or-false}
 use mathlib.Core.List.{List, [], ◌∷◌, ◌++◌, map, map-append}
 use native.Mathlib.Numerals.{add-one}
 use native.Mathlib.Omega.{arith}
-use mir.Val.{Val}
-use denote.Laws.{Is}
-use denote.Array.{Array}
+use native.Mathlib.Nat.{min-eq_left}
 use lib.Dec.{leb, ltb, eqb}
-use lib.ListN.{length, get_or, take, length-map, length-take, get_or-map, get_or-eq_default}
-use lib.Seq.{slice, slice-cons, slice_empty, take-suc, take_all, take-take, get_or-take, length-take-le}
+use lib.ListN.{length, get_or, take, drop, replicate, length-map, length-take, length-drop, length-append, length-replicate, get_or-map, get_or-append, get_or-replicate, get_or-eq_default, drop_of_length-le}
+use lib.Seq.{drop-cons, take-suc, take_all, get_or-take, get_or-drop, get_or-append_right, length-take-le}
 use borrow.Author.Tests.{leb-true, leb-false, ltb-true, ltb-false, eqb-true, le-leb, lt-leb, lt-ltb, le-ltb, ne_eqb}
-use Rattle.rules.specs.Lists.{each_of, outside, first_of, verdict}
+use Rattle.rules.specs.Lists.{each_of, some_of, has, outside, first_of, verdict}
 use Rattle.rules.specs.declared.Verdict.{Verdict}
-use Rattle.rules.specs.declared.Discipline.TheVariants.{RTDG}
+use Rattle.rules.specs.declared.Discipline.TheVariants.{RTDG, RTVC}
 use Rattle.rules.specs.Bus.{most_stations, least_space, most_space, most_step, places, code, Station, Bus, nothing}
-use Rattle.rules.specs.SetUp.{Asked, Request, fault, fine, settings_tests, station_tests, row_tests, set_up_verdict, fresh_station, fresh_bus}
+use Rattle.std.specs.Prelude.{Result, Ok, Err}
+use Rattle.rules.specs.declared.Refusal.{Refusal}
+use Rattle.rules.specs.declared.Refusal.TheVariants.{Standing, Discipline, ParameterSpace, AddressSpace, LaxityStep, StationCount, AddressRange, AddressTaken, CapabilityRange, CapabilityTaken, NoStation, ValueRange, LengthRange, Late, Filled, AllNumbered, ClockEnd, CutShort, UnknownKind, OutOfPlace, TimeBefore, TooLong, UnderWay, NoneUnderWay}
+use Rattle.rules.specs.Refusals.{number_of, answered}
+use Rattle.rules.specs.SetUp.{Asked, Request, fault, fine, capability_outside, settings_tests, station_tests, row_tests, set_up_verdict, fresh_station, fresh_bus}
 use Rattle.rules.specs.Standing.{asked, asked_for}
 use Rattle.rules.specs.Conditions.{settings_conditions}
 use Rattle.rules.proofs.Laws.{and-true}
 use Rattle.rules.proofs.Tests.{below, out_of, by_case, equal, negated, one_of, inside, Tried, done, ◌then◌, NoneHolds, none_held}
 use Rattle.state.specs.State.{Settings, Listed, State, no_packet, no_contender, no_contention, no_round, nobody, row, station_or, listed_form, contender_form, contender_in, recorded, form, station_at, stations_of, meaning}
 use Rattle.state.specs.SetUp.{SetUp, asked_of, request_with, settings_refusal, coded_set_up, set_up_result}
-use Rattle.state.specs.Parts.{Compared, number_of, shared, no_contenders, fresh_state}
+use Rattle.state.specs.Parts.{verdict_at, no_contenders, fresh_state}
 use Rattle.state.proofs.Contenders.{recorded_same}
-use Rattle.state.specs.contracts.Listed.{the_row}
-use Rattle.state.proofs.Rows.{take-map, values_length, values_map, values_take, row_same}
+use Rattle.state.proofs.Rows.{take-map, values_length, values_map, values_take, row_ext, row_same}
 use Rattle.state.proofs.Form.{code_discipline}
 
 -- ---- ranges
@@ -44,40 +45,36 @@ outside_above least most n h = simp (le-leb least n h) (go (leb n most) refl)
     go true e = sym (le-ltb most n (leb-true n most e))
     go false e = sym (lt-ltb most n (leb-false n most e))
 
+-- ---- the verdict as the code has it
+
+-- the number in the answer is the verdict's
+pub answered_verdict : {X : Type 0} (outcome : Result X Refusal) → answered outcome ≡ (verdict_at 0 outcome).refusal
+answered_verdict (Ok x) = refl
+answered_verdict (Err refusal) = refl
+
+-- a refusal is no acceptance
+pub refused : (i : ℕ) (refusal : Refusal) → eqb (fault (number_of refusal) i).refusal 0 ≡ false
+refused i refusal = elim refusal as (λ refusal. eqb (number_of refusal) 0 ≡ false) [ Standing ↦ refl | Discipline ↦ refl | ParameterSpace ↦ refl | AddressSpace ↦ refl | LaxityStep ↦ refl | StationCount ↦ refl | AddressRange ↦ refl | AddressTaken ↦ refl | CapabilityRange ↦ refl | CapabilityTaken ↦ refl | NoStation ↦ refl | ValueRange ↦ refl | LengthRange ↦ refl | Late ↦ refl | Filled ↦ refl | AllNumbered ↦ refl | ClockEnd ↦ refl | CutShort ↦ refl | UnknownKind ↦ refl | OutOfPlace ↦ refl | TimeBefore ↦ refl | TooLong ↦ refl | UnderWay ↦ refl | NoneUnderWay ↦ refl ]
+
 -- ---- the row of stations
 
--- the array of stations that a function is handed has its 64 places
-pub stations_count : (stations : List Listed) (vs : List Val) → Is (Array the_row 64) stations vs → length stations ≡ 64
-stations_count stations vs owned = owned.1.0.1
+-- one of the earlier stations has this number, as asked for
+pub has_asked :
+    (n : ℕ) (f : Asked → ℕ) (earlier : List Listed) → has n (map f (map asked_of earlier)) ≡ some_of (λ e. eqb n (f (asked_of e))) earlier
+has_asked n f [] = refl
+has_asked n f (e ∷ earlier) = ap (λ t. eqb n (f (asked_of e)) || t) (has_asked n f earlier)
 
--- whether one of the stations from e to i has the number of station i
-abbrev pub shared_from : Compared → List Listed → ℕ → ℕ → Bool
-shared_from compared stations i e = shared compared (get_or stations i nobody) (slice e i stations)
+-- ---- the tests of a station, as the code has them
 
--- one turn of the search for it; b is whether one before e has it, t whether one up to e has
-pub earlier_turn :
-    (compared : Compared) (stations : List Listed) (i e : ℕ) (b t : Bool) → length stations ≡ 64 → e < i → i < 64
-    → t ≡ (b || eqb (number_of compared (asked_of (get_or stations i nobody))) (number_of compared (asked_of (get_or stations e nobody))))
-    → shared_from compared stations i 0 ≡ (b || shared_from compared stations i e)
-    → shared_from compared stations i 0 ≡ (t || shared_from compared stations i (e + 1))
-earlier_turn compared stations i e b t count h l same so_far =
-    let has_it = eqb (number_of compared (asked_of (get_or stations i nobody))) (number_of compared (asked_of (get_or stations e nobody))) in
-    so_far
-    ∙ ap (λ xs. b || shared compared (get_or stations i nobody) xs) (slice-cons e i stations nobody h (omega arith))
-    ∙ sym (or_assoc b has_it (shared_from compared stations i (suc e)))
-    ∙ ap₂ (λ x k. x || shared_from compared stations i k) (sym same) (sym (add-one e))
-
--- and its end
-pub earlier_end :
-    (compared : Compared) (stations : List Listed) (i e : ℕ) (b : Bool) → e ≤ i → i ≤ e
-    → shared_from compared stations i 0 ≡ (b || shared_from compared stations i e) → b ≡ shared_from compared stations i 0
-earlier_end compared stations i e b h l so_far =
-    let s : e ≡ i = omega arith in
-    sym
-    (so_far
-    ∙ ap (λ k. b || shared_from compared stations i k) s
-    ∙ ap (λ xs. b || shared compared (get_or stations i nobody) xs) (slice_empty i stations)
-    ∙ or-false b)
+-- the verdict on a station by what its four tests tell
+pub station_told :
+    (g : Settings) (i : ℕ) (earlier : List Listed) (s : Listed) (past taken beyond shared : Bool) → leb g.a s.address.0 ≡ past
+    → some_of (λ l. eqb s.address.0 l.address.0) earlier ≡ taken → capability_outside g.discipline g.d s.capability.0 ≡ beyond
+    → (eqb g.discipline (code RTVC) && some_of (λ l. eqb s.capability.0 l.capability.0) earlier) ≡ shared
+    → first_of fine (station_tests (request_with g []) i (map asked_of earlier) (asked_of s))
+    ≡ verdict past (fault 7 i) (verdict taken (fault 8 i) (verdict beyond (fault 9 i) (verdict shared (fault 10 i) fine)))
+station_told g i earlier s past taken beyond shared p t o h =
+    rw (p, has_asked s.address.0 (λ e. e.address) earlier, t, o, has_asked s.capability.0 (λ e. e.capability) earlier, h)
 
 -- ---- tests in turn
 
@@ -102,26 +99,22 @@ turn_kept (t ∷ ts) us k =
     go true h i = simp (ne_eqb t.0.refusal 0 (λ e. omega arith))
     go false h i = i
 
--- the tests of the stations from i to n
-abbrev tests_from : Request → List Listed → ℕ → ℕ → List (Verdict × Bool)
-tests_from r stations n i = row_tests r i (map asked_of (take i stations)) (map asked_of (slice i n stations))
-
--- the verdict on the stations from i to n
-abbrev pub fault_from : Request → List Listed → ℕ → ℕ → Verdict
-fault_from r stations n i = first_of fine (tests_from r stations n i)
+-- the verdict on the stations from place i on
+abbrev pub fault_from : Request → List Listed → ℕ → Verdict
+fault_from r stations i = first_of fine (row_tests r i (map asked_of (take i stations)) (map asked_of (drop i stations)))
 
 -- one turn of the search for a faulty station; v is the verdict on station i
 pub faulty_turn :
-    (r : Request) (stations : List Listed) (i n : ℕ) (v : Verdict) (t : Bool) → length stations ≡ 64 → i < n → n ≤ 64
+    (r : Request) (stations : List Listed) (i : ℕ) (v : Verdict) (t : Bool) → i < length stations
     → v ≡ first_of fine (station_tests r i (map asked_of (take i stations)) (asked_of (get_or stations i nobody))) → eqb v.refusal 0 ≡ t
-    → fault_from r stations n i ≡ cond t (fault_from r stations n (i + 1)) v
-faulty_turn r stations i n v t count h l e same =
+    → fault_from r stations i ≡ cond t (fault_from r stations (i + 1)) v
+faulty_turn r stations i v t l e same =
     ap
     (λ xs. first_of fine (row_tests r i (map asked_of (take i stations)) (map asked_of xs)))
-    (slice-cons i n stations nobody h (omega arith))
+    (drop-cons stations i nobody l)
     ∙ turn_kept tests (tests_after (map asked_of (take i stations) ++ (asked_of s ∷ []))) refl
     ∙ ap₂ (λ w us. cond (eqb w.refusal 0) (first_of fine us) w) (sym e) next
-    ∙ ap (λ b. cond b (fault_from r stations n (i + 1)) v) same
+    ∙ ap (λ b. cond b (fault_from r stations (i + 1)) v) same
   where
     s : Listed
     s = get_or stations i nobody
@@ -130,31 +123,29 @@ faulty_turn r stations i n v t count h l e same =
     tests = station_tests r i (map asked_of (take i stations)) (asked_of s)
 
     tests_after : List Asked → List (Verdict × Bool)
-    tests_after earlier = row_tests r (suc i) earlier (map asked_of (slice (suc i) n stations))
+    tests_after earlier = row_tests r (suc i) earlier (map asked_of (drop (suc i) stations))
 
-    next : tests_after (map asked_of (take i stations) ++ (asked_of s ∷ [])) ≡ tests_from r stations n (i + 1)
+    next :
+        tests_after (map asked_of (take i stations) ++ (asked_of s ∷ []))
+        ≡ row_tests r (i + 1) (map asked_of (take (i + 1) stations)) (map asked_of (drop (i + 1) stations))
     next =
-        ap tests_after (sym (ap (map asked_of) (take-suc stations i nobody (omega arith)) ∙ map-append asked_of (take i stations) (s ∷ [])))
-        ∙ ap (tests_from r stations n) (sym (add-one i))
+        ap tests_after (sym (ap (map asked_of) (take-suc stations i nobody l) ∙ map-append asked_of (take i stations) (s ∷ [])))
+        ∙ ap (λ k. row_tests r k (map asked_of (take k stations)) (map asked_of (drop k stations))) (sym (add-one i))
 
 -- and its end
-pub faulty_end : (r : Request) (stations : List Listed) (i n : ℕ) → i ≤ n → n ≤ i → fault_from r stations n i ≡ fine
-faulty_end r stations i n h l =
-    let s : i ≡ n = omega arith in
-    ap (fault_from r stations n) s
-    ∙ ap (λ xs. first_of fine (row_tests r n (map asked_of (take n stations)) (map asked_of xs))) (slice_empty n stations)
+pub faulty_end : (r : Request) (stations : List Listed) (i : ℕ) → length stations ≤ i → fault_from r stations i ≡ fine
+faulty_end r stations i h =
+    ap (λ xs. first_of fine (row_tests r i (map asked_of (take i stations)) (map asked_of xs))) (drop_of_length-le stations h)
 
 -- ---- the whole set-up
 
 -- the first n of a row that is asked for
-pub asked_first :
-    (stations : List Listed) (n count : ℕ) → n ≤ count → take n (map asked_of (take count stations)) ≡ map asked_of (take n stations)
-asked_first stations n count h = take-map asked_of n (take count stations) ∙ ap (map asked_of) (take-take n count stations h)
+pub asked_first : (stations : List Listed) (n : ℕ) → take n (map asked_of stations) ≡ map asked_of (take n stations)
+asked_first stations n = take-map asked_of n stations
 
 -- how long it is
-pub asked_count :
-    (stations : List Listed) (count : ℕ) → length stations ≡ 64 → length (map asked_of (take count stations)) ≡ min count most_stations
-asked_count stations count e = length-map (take count stations) asked_of ∙ length-take count stations ∙ ap (min count) e
+pub asked_count : (stations : List Listed) → length stations ≤ 64 → length (map asked_of stations) ≡ min (length stations) most_stations
+asked_count stations h = length-map stations asked_of ∙ sym (min-eq_left h)
 
 -- the stations' tests do not read the row
 unread :
@@ -307,12 +298,46 @@ first_placed stations n i = go (ltb i n) refl
     go true e = get_or-take n stations i nobody (ltb-true i n e)
     go false e = get_or-eq_default (take n stations) nobody (omega (arith, ltb-false i n e, length-take n stations))
 
+-- the places of an array of nobody, of which the first n are those of stations
+pub filled_up :
+    (stations placed : List Listed) (n : ℕ) → n ≤ 64 → n ≤ length stations → placed ≡ take n stations
+    → placed ++ drop n (replicate 64 nobody) ≡ row 64 (λ i. cond (ltb i n) (get_or stations i nobody) nobody)
+filled_up stations placed n h l e =
+    row_ext
+    64
+    (λ i. cond (ltb i n) (get_or stations i nobody) nobody)
+    (placed ++ drop n (replicate 64 nobody))
+    nobody
+    (length-append placed (drop n (replicate 64 nobody)) ∙ omega (arith, count, length-drop n (replicate 64 nobody), length-replicate 64 nobody))
+    (λ i k. go i (ltb i n) refl)
+  where
+    count : length placed ≡ n
+    count = ap length e ∙ length-take-le n stations l
+
+    nowhere : (m j : ℕ) → get_or (replicate m nobody) j nobody ≡ nobody
+    nowhere m j = go (ltb j m) refl
+      where
+        go : (t : Bool) → ltb j m ≡ t → get_or (replicate m nobody) j nobody ≡ nobody
+        go true e = get_or-replicate m j nobody nobody (ltb-true j m e)
+        go false e = get_or-eq_default (replicate m nobody) nobody (omega (arith, ltb-false j m e, length-replicate m nobody))
+
+    go :
+        (i : ℕ) (t : Bool) → ltb i n ≡ t
+        → get_or (placed ++ drop n (replicate 64 nobody)) i nobody ≡ cond t (get_or stations i nobody) nobody
+    go i true k =
+        let within = ltb-true i n k in
+        get_or-append placed _ nobody i (omega (arith, count)) ∙ ap (λ xs. get_or xs i nobody) e ∙ get_or-take n stations i nobody within
+    go i false k =
+        get_or-append_right placed (drop n (replicate 64 nobody)) i nobody (omega (arith, count, ltb-false i n k))
+        ∙ get_or-drop n (replicate 64 nobody) (i - length placed) nobody
+        ∙ nowhere 64 (n + (i - length placed))
+
 -- the fresh bus is held in a fresh state: its stations have no packets and no offers
 pub fresh_form :
-    (g : Settings) (stations : List Listed) (count : ℕ) → SettingsPass g (map asked_of (take count stations))
-    → form (fresh_bus (request_with g (map asked_of (take count stations))))
+    (g : Settings) (stations : List Listed) → SettingsPass g (map asked_of stations)
+    → form (fresh_bus (request_with g (map asked_of stations)))
     ≡ fresh_state g (row 64 (λ i. cond (ltb i g.n) (get_or stations i nobody) nobody))
-fresh_form g stations count pass = λ j.
+fresh_form g stations pass = λ j.
     record {
       segment = record {
         settings =
@@ -351,7 +376,7 @@ fresh_form g stations count pass = λ j.
     }
   where
     rest : List Asked
-    rest = map asked_of (take count stations)
+    rest = map asked_of stations
 
     b : Bus
     b = fresh_bus (request_with g rest)
@@ -359,13 +384,10 @@ fresh_form g stations count pass = λ j.
     long : length (map fresh_station (take g.n rest)) ≡ g.n
     long = length-map (take g.n rest) fresh_station ∙ length-take-le g.n rest pass.filled
 
-    within : g.n ≤ count
-    within = omega (arith, pass.filled, length-map (take count stations) asked_of, length-take count stations)
-
     at : (i : ℕ) → station_or b i ≡ fresh_station (asked_of (get_or (take g.n stations) i nobody))
     at i =
         get_or-map fresh_station (take g.n rest) i (asked_of nobody)
-        ∙ ap (λ asked. fresh_station (get_or asked i (asked_of nobody))) (asked_first stations g.n count within)
+        ∙ ap (λ asked. fresh_station (get_or asked i (asked_of nobody))) (asked_first stations g.n)
         ∙ ap fresh_station (get_or-map asked_of (take g.n stations) i nobody)
 
     nobody_contends : recorded (contender_in b) ≡ no_contenders
@@ -386,10 +408,10 @@ same_read g row row' h h' e =
 many_refused : (g : Settings) (row : List Asked) → most_stations < g.n → eqb (set_up_verdict (request_with g row)).refusal 0 ≡ false
 many_refused g row h = ne_eqb (set_up_verdict (request_with g row)).refusal 0 (λ e. omega (arith, (set_up_pass g row e).few))
 
--- The row of all 64 places passes 2 to 10 exactly when what the meaning would be asked for by does.
+-- The row of all places passes 2 to 10 exactly when what the meaning would be asked for by does.
 pub passes_as_asked :
     (s : State) → length s.segment.listed ≡ 64 → s.segment.settings.discipline ≤ 2
-    → eqb (set_up_verdict (request_with s.segment.settings (map asked_of (take 64 s.segment.listed)))).refusal 0
+    → eqb (set_up_verdict (request_with s.segment.settings (map asked_of s.segment.listed))).refusal 0
     ≡ eqb (set_up_verdict (asked_for (meaning s))).refusal 0
 passes_as_asked s count d = go (leb g.n 64) refl ∙ ap (λ (r : Request). eqb (set_up_verdict r).refusal 0) (sym again)
   where
@@ -400,7 +422,7 @@ passes_as_asked s count d = go (leb g.n 64) refl ∙ ap (λ (r : Request). eqb (
     listed = s.segment.listed
 
     all : List Asked
-    all = map asked_of (take 64 listed)
+    all = map asked_of listed
 
     meant : List Asked
     meant = map asked (stations_of s)
@@ -437,7 +459,7 @@ passes_as_asked s count d = go (leb g.n 64) refl ∙ ap (λ (r : Request). eqb (
         g
         all
         meant
-        (omega (arith, asked_count listed 64 count))
+        (omega (arith, length-map listed asked_of))
         (omega (arith, meant_length))
-        (asked_first listed g.n 64 h ∙ sym (meant_first h) ∙ sym (take_all g.n meant (omega (arith, meant_length)))))
+        (asked_first listed g.n ∙ sym (meant_first h) ∙ sym (take_all g.n meant (omega (arith, meant_length)))))
     go false e = let h = leb-false g.n 64 e in many_refused g all h ∙ sym (many_refused g meant h)

@@ -20,6 +20,9 @@ use Rattle.rules.specs.Bus as Machine
 use Rattle.rules.specs.declared.Discipline.{Discipline}
 use Rattle.rules.specs.declared.Discipline.TheVariants.{PRI, RTDG, RTVC}
 use Rattle.rules.specs.Bus.{places, most_stations, clock_end, most_admitted, most_turned, waiting, numbers, numbers_in}
+use Rattle.std.specs.Prelude.{Result, Ok, Err}
+use Rattle.std.specs.Result.{is_ok}
+use Rattle.rules.specs.Refusals.{number_of}
 use Rattle.rules.specs.SetUp.{Request, discipline_of, set_up_verdict}
 use Rattle.rules.specs.Standing.{packet_fits, rising, same_packet, offer_fits, offer_stands, station_stands, last_stands, contention_stands, stands, asked_for, Standing}
 use Rattle.rules.proofs.Laws.{clash, and-true, true-and}
@@ -27,12 +30,12 @@ use Rattle.rules.proofs.Tests.{Whether, holds, fails}
 use Rattle.rules.proofs.Standing.{stands_exactly}
 use Rattle.state.specs.State.{Contender, Contention, Segment, Queues, State, Held, recorded_at, nobody, places_at, queue_at, station_at, stations_of, values_from, tie_of, meaning, has_no_packet, queue_padded, contender_padded, station_padded, has_no_station, each_place, round_padded, contention_padded, padded, standing, waiting_in}
 use Rattle.state.specs.SetUp.{asked_of, request_with}
-use Rattle.state.specs.Parts.{parameter_fits, contender_sound, station_sound, nobody_at, place_sound, numbers_from, numbers_sound, queues_sound, round_sound, contention_sound}
+use Rattle.state.specs.Parts.{Fault, verdict_of, parameter_fits, contender_sound, station_test, nobody_test, place_sound, numbers_from, numbers_sound, queues_sound, round_sound, contention_sound, parts_sound}
 use Rattle.state.specs.contracts.State as state
 use Rattle.state.proofs.Rows.{rest_suc, rest_none, each_place_turn, each_place_end, values_take}
 use Rattle.state.proofs.Form.{padded_parts, places_length}
 use Rattle.state.proofs.Places.{queues_arrays}
-use Rattle.state.proofs.SettingUp.{set_up_pass, passes_as_asked}
+use Rattle.state.proofs.SettingUp.{refused, set_up_pass, passes_as_asked}
 
 -- ---- tests
 
@@ -99,9 +102,8 @@ fits_same RTVC s i = refl
 contender_same :
     (s : State) (i : ℕ)
     → contender_sound
-    s.segment.settings
-    s.segment.contention.begun
-    (get_or s.segment.listed i nobody)
+    s.segment
+    (get_or s.segment.listed i nobody).capability
     (recorded_at s.segment i)
     (queue_at s.queues i)
     ≡ (contender_padded (recorded_at s.segment i)
@@ -131,7 +133,7 @@ contender_same s i = ap (λ t. contender_padded c && t) (go c.contends s.segment
         (fits_same (discipline_of s.segment.settings.discipline) s i)
 
 -- the parts of a station, in the order of the code and in the order of `station_padded` and `station_stands`
-station_order : (p r e c o : Bool) → (p && r && e && (c && o)) ≡ (p && c && (r && e && o))
+station_order : (p r e c o : Bool) → (p && (r && e && (c && o))) ≡ (p && c && (r && e && o))
 station_order false r e c o = refl
 station_order true r e true o = refl
 station_order true false e false o = refl
@@ -145,10 +147,14 @@ queue_in_places qs i =
     let all-of-them = length-take places (drop (places * i) qs.packets) in
     le-leb (length (queue_at qs i)) places (omega arith)
 
+-- the room of a queue and what is told of its station
 station_same :
-    (s : State) (i : ℕ) → station_sound s.segment s.queues i ≡ (station_padded s i && station_stands (meaning s) (station_at s i))
+    (s : State) (i : ℕ)
+    → (queue_padded (get_or s.queues.lengths i 0) (places_at s.queues i)
+    && station_test s.segment (get_or s.segment.listed i nobody) (recorded_at s.segment i) (queue_at s.queues i))
+    ≡ (station_padded s i && station_stands (meaning s) (station_at s i))
 station_same s i =
-    ap (λ t. queue_padded (get_or s.queues.lengths i 0) (places_at s.queues i) && rises && fits && t) (contender_same s i)
+    ap (λ t. queue_padded (get_or s.queues.lengths i 0) (places_at s.queues i) && (rises && fits && t)) (contender_same s i)
     ∙ station_order
     (queue_padded (get_or s.queues.lengths i 0) (places_at s.queues i))
     rises
@@ -173,41 +179,33 @@ station_same s i =
 
 -- ---- a place past N
 
--- the parts of a place past N, in the order of the code and in the order of `station_padded` and `has_no_station`: a length of 0 is in range
+-- the parts of a place past N, in the order of the code and in the order of `station_padded` and `has_no_station`
 nobody_order :
-    (address capability empty contends parameter packet zeros room : Bool) → (empty ≡ true → room ≡ true)
-    → (address && capability && empty && (not contends && parameter && packet) && zeros)
-    ≡ (room && zeros && (contends || (parameter && packet)) && (address && capability && empty && not contends))
-nobody_order false capability empty contends parameter packet zeros room h =
-    sym (and-false (room && zeros && (contends || (parameter && packet))))
-nobody_order true false empty contends parameter packet zeros room h =
-    sym (and-false (room && zeros && (contends || (parameter && packet))))
-nobody_order true true false contends parameter packet zeros room h =
-    sym (and-false (room && zeros && (contends || (parameter && packet))))
-nobody_order true true true true parameter packet zeros room h = sym (and-false (room && zeros && true))
-nobody_order true true true false parameter packet zeros room h =
-    and_comm (parameter && packet) zeros
-    ∙ sym (and-last-true (zeros && (parameter && packet)))
-    ∙ ap (λ t. t && zeros && (parameter && packet) && true) (sym (h refl))
+    (address capability empty contends parameter packet padded : Bool)
+    → (padded && (address && capability && empty && (not contends && parameter && packet)))
+    ≡ (padded && (contends || (parameter && packet)) && (address && capability && empty && not contends))
+nobody_order address capability empty contends parameter packet false = refl
+nobody_order false capability empty contends parameter packet true = sym (and-false (contends || (parameter && packet)))
+nobody_order true false empty contends parameter packet true = sym (and-false (contends || (parameter && packet)))
+nobody_order true true false contends parameter packet true = sym (and-false (contends || (parameter && packet)))
+nobody_order true true true true parameter packet true = refl
+nobody_order true true true false parameter packet true = sym (and-last-true (parameter && packet))
 
-nobody_same : (s : State) (i : ℕ) → nobody_at s.segment s.queues i ≡ (station_padded s i && has_no_station s i)
+nobody_same :
+    (s : State) (i : ℕ)
+    → (queue_padded (get_or s.queues.lengths i 0) (places_at s.queues i)
+    && nobody_test (get_or s.segment.listed i nobody) (recorded_at s.segment i) (get_or s.queues.lengths i 0))
+    ≡ (station_padded s i && has_no_station s i)
 nobody_same s i =
+    let c = recorded_at s.segment i in
     nobody_order
     (eqb (get_or s.segment.listed i nobody).address.0 0)
     (eqb (get_or s.segment.listed i nobody).capability.0 0)
-    (eqb n 0)
+    (eqb (get_or s.queues.lengths i 0) 0)
     c.contends
     (eqb c.parameter 0)
     (has_no_packet c.packet)
-    (each_of has_no_packet (drop n (places_at s.queues i)))
-    (leb n places)
-    (λ e. let none = eqb-true n 0 e in le-leb n places (omega arith))
-  where
-    n : ℕ
-    n = get_or s.queues.lengths i 0
-
-    c : Contender
-    c = recorded_at s.segment i
+    (queue_padded (get_or s.queues.lengths i 0) (places_at s.queues i))
 
 -- ---- all places
 
@@ -218,9 +216,16 @@ place_same :
     ≡ (station_padded s i && cond (ltb i s.segment.settings.n) (station_stands (meaning s) (station_at s i)) (has_no_station s i))
 place_same s i = go (ltb i s.segment.settings.n)
   where
+    room : Bool
+    room = queue_padded (get_or s.queues.lengths i 0) (places_at s.queues i)
+
     go :
         (t : Bool)
-        → cond t (station_sound s.segment s.queues i) (nobody_at s.segment s.queues i)
+        → (room
+        && cond
+        t
+        (station_test s.segment (get_or s.segment.listed i nobody) (recorded_at s.segment i) (queue_at s.queues i))
+        (nobody_test (get_or s.segment.listed i nobody) (recorded_at s.segment i) (get_or s.queues.lengths i 0)))
         ≡ (station_padded s i && cond t (station_stands (meaning s) (station_at s i)) (has_no_station s i))
     go true = station_same s i
     go false = nobody_same s i
@@ -361,6 +366,24 @@ round_same s h l =
     0
     n))
 
+-- in RTVC, where a circuit has won
+pub round_won :
+    (g : Segment) → g.round.won ≡ true → RTVC ≡ discipline_of g.settings.discipline
+    → round_sound g ≡ some_of (λ l. eqb g.round.last.0 l.capability.0) (take g.settings.n g.listed)
+round_won g won rtvc =
+    let held = some_of (λ l. eqb g.round.last.0 l.capability.0) (take g.settings.n g.listed) in
+    ap₂ (λ w t. (w || eqb g.round.last.0 0) && (not w || (t && held))) won (third g.settings.discipline rtvc)
+  where
+    is_third : Discipline → Bool
+    is_third PRI = false
+    is_third RTDG = false
+    is_third RTVC = true
+
+    third : (d : ℕ) → RTVC ≡ discipline_of d → leb 2 d ≡ true
+    third zero e = clash refl (ap is_third e)
+    third (suc zero) e = clash refl (ap is_third e)
+    third (suc (suc d)) e = le-leb 2 (suc (suc d)) (omega arith)
+
 -- ---- the contention
 
 contention_same :
@@ -386,9 +409,9 @@ contention_same s = ap (λ t. contention_padded c && t) (go c.begun c.tied)
 
 -- ---- the set-up
 
--- the set-up that the code tries again: the settings, and all 64 places as the row
+-- the set-up that the code tries again: the settings, and all places as the row
 abbrev pub tried : State → Request
-tried s = request_with s.segment.settings (map asked_of (take 64 s.segment.listed))
+tried s = request_with s.segment.settings (map asked_of s.segment.listed)
 
 pub few_tried : (s : State) → (set_up_verdict (tried s)).refusal ≡ 0 → s.segment.settings.n ≤ most_stations
 few_tried s e = (set_up_pass s.segment.settings (tried s).row e).few
@@ -493,21 +516,26 @@ module _ (g : Segment) (qs : Queues) where
       k : ℕ
       k = get_or qs.lengths i 0
 
-      go : (t : Bool) → ltb i g.settings.n ≡ t → cond t (station_sound g qs i) (nobody_at g qs i) ≡ true → Next i
+      go :
+          (t : Bool) → ltb i g.settings.n ≡ t
+          → (queue_padded k (places_at qs i)
+          && cond
+          t
+          (station_test g (get_or g.listed i nobody) (recorded_at g i) (queue_at qs i))
+          (nobody_test (get_or g.listed i nobody) (recorded_at g i) k))
+          ≡ true
+          → Next i
       go true e h =
-          let padded = queue_padded k (places_at qs i) in
-          let three = and-true (padded && _ && _) _ h in
-          let two = and-true (padded && _) _ three.0 in
-          let both = and-true padded _ two.0 in (
+          let both = and-true (queue_padded k (places_at qs i)) _ h in (
             leb-true k places (and-true (leb k places) _ both.0).0,
             ap (numbers_from qs i) (rest_suc i _ (ltb-true i _ e)),
           )
       go false e h =
+          let both = and-true (queue_padded k (places_at qs i)) _ h in
           let l = get_or g.listed i nobody in
           let unnamed = eqb l.address.0 0 && eqb l.capability.0 0 in
-          let two = and-true (unnamed && eqb k 0 && _) _ h in
-          let both = and-true (unnamed && eqb k 0) _ two.0 in
-          let none = eqb-true k 0 (and-true unnamed (eqb k 0) both.0).1 in
+          let two = and-true (unnamed && eqb k 0) _ both.1 in
+          let none = eqb-true k 0 (and-true unnamed (eqb k 0) two.0).1 in
           let past = ltb-false i g.settings.n e in
           (omega arith, rw (rest_none i _ past, rest_none (suc i) g.settings.n (omega arith), none))
 
@@ -535,22 +563,27 @@ module _ (g : Segment) (qs : Queues) where
     places-end few h same =
         rw (each_place_end (place_sound g qs) i most_stations h, rest_none i g.settings.n (omega arith), append-nil seen, same)
 
--- the tests of the code after the set-up: from the admitted count on, from that of packets turned away on, from the round on, from the contention on
-abbrev pub from_contention : State → Bool
-from_contention s = contention_sound s.segment.settings s.segment.contention && queues_sound s.segment s.queues
+-- the tests of the code after the set-up: the ranges, and the round, the contention and the queues
+in_two : (clock admitted turned round contention queues : Bool)
+    → (clock && (admitted && (turned && (round && (contention && queues))))) ≡ (clock && admitted && turned && round && contention && queues)
+in_two false admitted turned round contention queues = refl
+in_two true false turned round contention queues = refl
+in_two true true false round contention queues = refl
+in_two true true true false contention queues = refl
+in_two true true true true contention queues = refl
 
-abbrev pub from_round : State → Bool
-from_round s = round_sound s.segment && from_contention s
+-- a set-up that the code accepts is not refused, and one that it does not accept is
+pub accepted : {X : Type 0} (outcome : Result X Fault) → is_ok outcome ≡ true → (verdict_of outcome).refusal ≡ 0
+accepted (Ok x) e = refl
+accepted (Err f) e = clash refl (sym e)
 
-abbrev pub from_turned : State → Bool
-from_turned s = leb s.segment.turned most_turned && from_round s
-
-abbrev pub from_admitted : State → Bool
-from_admitted s = leb s.segment.admitted most_admitted && from_turned s
+pub not_accepted : {X : Type 0} (outcome : Result X Fault) → is_ok outcome ≡ false → ¬ ((verdict_of outcome).refusal ≡ 0)
+not_accepted (Ok x) e = clash refl e
+not_accepted (Err f) e = λ z. clash (eq-eqb (number_of f.refusal) 0 z) (refused 0 f.refusal)
 
 -- a state that a set-up would not refuse stands as the code's other tests tell
 pub standing_parts :
-    (s : State) → Held s → (set_up_verdict (tried s)).refusal ≡ 0 → standing s ≡ (leb s.segment.clock.0 clock_end && from_admitted s)
+    (s : State) → Held s → (set_up_verdict (tried s)).refusal ≡ 0 → standing s ≡ parts_sound s.segment s.queues
 standing_parts s h e =
     let passes = set_up_same s h ∙ eq-eqb (set_up_verdict (tried s)).refusal 0 e in
     let both = and-true (leb s.segment.settings.discipline 2) (eqb (set_up_verdict (asked_for (meaning s))).refusal 0) passes in
@@ -577,3 +610,4 @@ standing_parts s h e =
     ∙ parts_order zeros past round contention clock admitted turned counts stand apart last window sound (places_same s few)
     ∙ ap₂ (λ r c. clock && (admitted && (turned && (r && (c && (sound && (counts && apart))))))) (sym (round_same s h few)) (sym (contention_same s))
     ∙ ap (λ t. clock && (admitted && (turned && (round_sound s.segment && (begun && (sound && t)))))) same
+    ∙ in_two clock admitted turned (round_sound s.segment) begun (queues_sound s.segment s.queues)

@@ -1,17 +1,18 @@
 -- The parts that the code of a state is made of, as functions: what the contracts of the private functions cite. Assumes nothing.
-use Rattle.std.specs.Prelude.{ℕ, zero, suc, ◌+◌, Bool, true, not, ◌&&◌, ◌||◌, cond, List, [], ◌++◌, map, leb, ltb, eqb, length, get_or, take, drop}
+use Rattle.std.specs.Prelude.{ℕ, zero, suc, ◌+◌, Result, Ok, Err, Bool, true, not, ◌&&◌, ◌||◌, cond, List, [], ◌++◌, leb, ltb, eqb, length, get_or, take}
 use Rattle.window.specs.Splitting.{placed}
-use Rattle.rules.specs.Lists.{each_of, some_of, has, distinct}
+use Rattle.rules.specs.Lists.{each_of, some_of, distinct}
 use Rattle.rules.specs.declared.Discipline.{Discipline}
 use Rattle.rules.specs.declared.Discipline.TheVariants.{PRI, RTDG, RTVC}
-use Rattle.rules.specs.Bus.{numbers_in}
-use Rattle.rules.specs.SetUp.{Asked, discipline_of}
+use Rattle.rules.specs.Bus.{clock_end, most_admitted, most_turned, numbers_in}
+use Rattle.rules.specs.declared.Refusal.{Refusal}
+use Rattle.rules.specs.declared.Verdict.{Verdict}
+use Rattle.rules.specs.Refusals.{number_of}
+use Rattle.rules.specs.SetUp.{fine, fault, discipline_of}
 use Rattle.rules.specs.Standing.{packet_fits, rising, same_packet}
-use Rattle.state.specs.State.{Slot, Capability, Settings, Listed, Contender, Recorded, Contention, Segment, Queues, State, Packet, no_packet, no_contender, recorded_at, recorded, no_contention, no_round, nobody, places_at, queue_at, row, has_no_packet, queue_padded, contender_padded, round_padded, contention_padded, each_place}
-use Rattle.state.specs.SetUp.{asked_of}
+use Rattle.state.specs.State.{Capability, Settings, Listed, Contender, Recorded, Contention, Segment, Queues, State, Packet, no_packet, no_contender, recorded_at, recorded, no_contention, no_round, nobody, places_at, queue_at, row, has_no_packet, queue_padded, contender_padded, round_padded, contention_padded, each_place}
 pub use Rattle.state.specs.declared.Queue.{Queue}
-pub use Rattle.state.specs.declared.Compared.{Compared}
-pub use Rattle.state.specs.declared.Compared.TheVariants.{Addresses, Capabilities}
+pub use Rattle.state.specs.declared.Fault.{Fault}
 
 -- ---- a contender
 
@@ -31,16 +32,17 @@ queue_of qs i = record { packets = places_at qs i; length = get_or qs.lengths i 
 abbrev pub packets_of : Queue → List Packet
 packets_of queue = take queue.length queue.packets
 
--- ---- the stations of a set-up
+-- ---- the verdict on a set-up
 
--- the number that stations are compared by
-abbrev pub number_of : Compared → Asked → ℕ
-number_of Addresses s = s.address
-number_of Capabilities s = s.capability
+-- by the refusal that a station at place i is at fault for, or 2 to 6 at place 0
+abbrev pub verdict_at : {X : Type 0} → ℕ → Result X Refusal → Verdict
+verdict_at i (Ok x) = fine
+verdict_at i (Err refusal) = fault (number_of refusal) i
 
--- whether one of these stations has that number of s
-abbrev pub shared : Compared → Listed → List Listed → Bool
-shared compared s stations = has (number_of compared (asked_of s)) (map (number_of compared) (map asked_of stations))
+-- by the fault
+abbrev pub verdict_of : {X : Type 0} → Result X Fault → Verdict
+verdict_of (Ok x) = fine
+verdict_of (Err f) = fault (number_of f.refusal) f.station
 
 -- ---- the state that a set-up gives
 
@@ -78,52 +80,41 @@ fresh_state g listed =
 abbrev pub has_no_contender : Contender → Bool
 has_no_contender c = not c.contends && eqb c.parameter 0 && has_no_packet c.packet
 
--- a station's place among the contenders: zero where it does not contend, and `offer_stands` of the rules where it does
-abbrev pub contender_sound : Settings → Bool → Listed → Contender → List Packet → Bool
-contender_sound g begun l c packets =
-    contender_padded c
-    && (not c.contends
-    || (begun
-    && some_of (same_packet c.packet) packets
-    && ltb c.parameter g.d
-    && parameter_fits (discipline_of g.discipline) l.capability c))
-
--- `station_padded`, and `station_stands` of the rules
-abbrev pub station_test : Settings → Bool → Slot → ℕ → Listed → Contender → Queue → Bool
-station_test g begun clock admitted l c queue =
-    queue_padded queue.length queue.packets
-    && rising 0 admitted (packets_of queue)
-    && each_of (packet_fits (discipline_of g.discipline) g.d clock.0) (packets_of queue)
-    && contender_sound g begun l c (packets_of queue)
-
--- the same, of station i
-abbrev pub station_sound : Segment → Queues → ℕ → Bool
-station_sound g qs i =
-    station_test
-    g.settings
+-- `offer_stands` of the rules
+abbrev pub offer_sound : Segment → Capability → Contender → List Packet → Bool
+offer_sound g capability c packets =
     g.contention.begun
-    g.clock
-    g.admitted
-    (get_or g.listed i nobody)
-    (recorded_at g i)
-    (queue_of qs i)
+    && some_of (same_packet c.packet) packets
+    && ltb c.parameter g.settings.d
+    && parameter_fits (discipline_of g.settings.discipline) capability c
 
--- `station_padded` and `has_no_station`
-abbrev pub nobody_test : Listed → Contender → Queue → Bool
-nobody_test l c queue =
-    eqb l.address.0 0
-    && eqb l.capability.0 0
-    && eqb queue.length 0
-    && has_no_contender c
-    && each_of has_no_packet (drop queue.length queue.packets)
+-- a station's place among the contenders: zero where it does not contend, and `offer_stands` where it does
+abbrev pub contender_sound : Segment → Capability → Contender → List Packet → Bool
+contender_sound g capability c packets = contender_padded c && (not c.contends || offer_sound g capability c packets)
 
--- the same, of place i
-abbrev pub nobody_at : Segment → Queues → ℕ → Bool
-nobody_at g qs i = nobody_test (get_or g.listed i nobody) (recorded_at g i) (queue_of qs i)
+-- `station_stands` of the rules, and `contender_padded`
+abbrev pub station_test : Segment → Listed → Contender → List Packet → Bool
+station_test g l c packets =
+    rising 0 g.admitted packets
+    && each_of (packet_fits (discipline_of g.settings.discipline) g.settings.d g.clock.0) packets
+    && contender_sound g l.capability c packets
 
--- the place of station i: a station's up to N, nobody's past it
+-- `has_no_station`, and `contender_padded`; of a place with n packets
+abbrev pub nobody_test : Listed → Contender → ℕ → Bool
+nobody_test l c n = eqb l.address.0 0 && eqb l.capability.0 0 && eqb n 0 && has_no_contender c
+
+-- the place of station i, which has the first n of these places: a station's up to N, nobody's past it
+abbrev pub place_test : Segment → ℕ → ℕ → List Packet → Bool
+place_test g i n packets =
+    queue_padded n packets
+    && cond
+    (ltb i g.settings.n)
+    (station_test g (get_or g.listed i nobody) (recorded_at g i) (take n packets))
+    (nobody_test (get_or g.listed i nobody) (recorded_at g i) n)
+
+-- the same, of its queue
 abbrev pub place_sound : Segment → Queues → ℕ → Bool
-place_sound g qs i = cond (ltb i g.settings.n) (station_sound g qs i) (nobody_at g qs i)
+place_sound g qs i = place_test g i (get_or qs.lengths i 0) (places_at qs i)
 
 -- the packets' numbers in the k queues from i on
 abbrev pub numbers_from : Queues → ℕ → ℕ → List ℕ
@@ -151,3 +142,11 @@ abbrev pub contention_sound : Settings → Contention → Bool
 contention_sound g c =
     contention_padded c
     && (not c.begun || cond c.tied (ltb c.tie g.d && placed g.a c.window) (placed g.d c.window))
+
+-- 'clock and admitted count within range', and P4's count too
+abbrev pub in_range : Segment → Bool
+in_range g = leb g.clock.0 clock_end && leb g.admitted most_admitted && leb g.turned most_turned
+
+-- the ranges, the round, the contention and the queues
+abbrev pub parts_sound : Segment → Queues → Bool
+parts_sound g qs = in_range g && round_sound g && contention_sound g.settings g.contention && queues_sound g qs

@@ -7,7 +7,7 @@ ghost use Rattle.rules.specs.Bus.{nothing};
 ghost use Rattle.state.specs.State.{form};
 ghost use Rattle.state.specs.SetUp.{settings_refusal, coded_set_up, set_up_result, request_of};
 
-use rules::{Packet, Slot, Verdict};
+use rules::{Packet, Refusal, Slot, Verdict};
 use sorts::{Address, Capability};
 use window::Window;
 
@@ -27,7 +27,7 @@ pub struct Settings {
 }
 
 // A station as it is listed in the set-up.
-#[derive(Clone, Copy)]
+#[derive(Clone, Copy, PartialEq, Eq)]
 pub struct Listed {
     pub address: Address,
     pub capability: Capability,
@@ -41,7 +41,7 @@ pub struct Row {
 }
 
 // A station's place among the contenders: whether it contends, and then its parameter and packet, else zeros.
-#[derive(Clone, Copy)]
+#[derive(Clone, Copy, PartialEq, Eq)]
 pub struct Contender {
     pub contends: bool,
     pub parameter: u64,
@@ -49,7 +49,7 @@ pub struct Contender {
 }
 
 // The contention, if one is under way: its window, and in the tie phase the tie value. What has no meaning is zero.
-#[derive(Clone, Copy)]
+#[derive(Clone, Copy, PartialEq, Eq)]
 pub struct Contention {
     pub begun: bool,
     pub window: Window,
@@ -124,11 +124,22 @@ pub struct Arrival {
     pub length: u32,
 }
 
-// Which of their numbers two stations are compared by.
+// What is at fault in a set-up: the refusal, and for 7 to 10 the place in the row of the station, else 0.
 #[derive(Clone, Copy)]
-enum Compared {
-    Addresses,
-    Capabilities,
+struct Fault {
+    refusal: Refusal,
+    station: usize,
+}
+
+impl From<Refusal> for Fault {
+    ghost from_gives = { λ refusal fault. fault ≡ record { refusal = refusal; station = 0 } };
+
+    fn from(refusal: Refusal) -> Fault {
+        Fault {
+            refusal,
+            station: 0,
+        }
+    }
 }
 
 // No set-up.
@@ -144,31 +155,35 @@ const NO_SETTINGS: Settings = Settings {
 pub fn all_zero() -> State
     ensures { result ≡ form nothing }
 {
-    let nobody = [zeros::NOBODY; 64];
-    stations::fresh(NO_SETTINGS, nobody)
+    stations::fresh(NO_SETTINGS, [zeros::NOBODY; 64])
 }
 
 // 2 to 6 of a set-up's numbers, before its stations are known; 0 for none.
 pub fn settings_refusal(settings: Settings) -> u32
     ensures { result ≡ settings_refusal settings }
 {
-    let verdict = stations::settings_verdict(settings, stations::MOST_STATIONS);
-    verdict.refusal
+    rules::answered(&stations::settings_verdict(&settings, stations::MOST_STATIONS))
 }
 
 // 'Set-up tries 2 to 6, then the stations in turn, each 7 to 10. A refused set-up hands back its number and an all-zero state.'
 pub fn set_up(settings: Settings, row: Row) -> SetUp
     ensures { result ≡ set_up_result (coded_set_up (request_of settings row)) }
 {
-    let stations = row.stations;
-    let length = row.length;
-    let verdict = stations::verdict(settings, stations, length);
-    if verdict.refusal != 0 {
-        let state = all_zero();
-        return SetUp { verdict, state };
+    let filled = &row.stations[..row.length.min(64)];
+    match stations::verdict(&settings, filled) {
+        Ok(()) => SetUp {
+            verdict: Verdict {
+                refusal: 0,
+                station: 0,
+            },
+            state: stations::fresh(settings, stations::up_to(filled, settings.n)),
+        },
+        Err(fault) => SetUp {
+            verdict: Verdict {
+                refusal: u32::from(fault.refusal),
+                station: fault.station,
+            },
+            state: all_zero(),
+        },
     }
-    let n = settings.n;
-    let listed = stations::up_to(stations, n);
-    let state = stations::fresh(settings, listed);
-    SetUp { verdict, state }
 }

@@ -1,15 +1,16 @@
 // The stations of a set-up: refusals 2 to 6 of its numbers, then 7 to 10 of each station in turn; and the state that it gives.
-ghost use Rattle.std.specs.Prelude.{◌≤◌, min, ◌≡◌, ◌||◌, cond, List, [], map, ltb, eqb, length, get_or, take};
-ghost use Rattle.rules.specs.Lists.{outside, first_of};
-ghost use Rattle.rules.specs.Bus.{most_stations, least_space, most_space};
+ghost use Rattle.std.specs.Prelude.{ℕ, ◌≤◌, min, ◌≡◌, ◌&&◌, ◌||◌, cond, List, [], map, ltb, eqb, length, get_or};
+ghost use Rattle.rules.specs.declared.Discipline.TheVariants.{RTVC};
+ghost use Rattle.rules.specs.Lists.{some_of, outside, first_of};
+ghost use Rattle.rules.specs.Bus.{most_stations, least_space, most_space, code};
 ghost use Rattle.rules.specs.SetUp.{Asked, fine, step_outside, capability_outside, settings_tests, station_tests, row_tests, set_up_verdict};
 ghost use Rattle.state.specs.State.{nobody, row};
 ghost use Rattle.state.specs.SetUp.{asked_of, request_with};
-ghost use Rattle.state.specs.Parts.{Addresses, Capabilities, number_of, shared, fresh_state};
+ghost use Rattle.state.specs.Parts.{verdict_at, verdict_of, fresh_state};
 
-use crate::{Compared, Listed, Queues, Segment, Settings, State, zeros};
-use rules::{Slot, Verdict};
-use sorts::{Capability, disciplines};
+use crate::{Fault, Listed, Queues, Segment, Settings, State, zeros};
+use rules::{Refusal, Slot};
+use sorts::{Address, Capability, disciplines};
 
 // 'stations N: 1 to 64'
 pub const MOST_STATIONS: usize = 64;
@@ -26,10 +27,7 @@ const MOST_STEP: u32 = 65_535;
 fn space_outside(space: u32) -> bool
     ensures { result ≡ outside least_space most_space space }
 {
-    if space < LEAST_SPACE {
-        return true;
-    }
-    MOST_SPACE < space
+    !(LEAST_SPACE..=MOST_SPACE).contains(&space)
 }
 
 // 'RTDG: 1 to 65,535; otherwise exactly 1'
@@ -37,74 +35,39 @@ fn step_outside(discipline: u32, q: u32) -> bool
     ensures { result ≡ step_outside discipline q }
 {
     if discipline == disciplines::RTDG {
-        if q < 1 {
-            return true;
-        }
-        return MOST_STEP < q;
+        !(1..=MOST_STEP).contains(&q)
+    } else {
+        q != 1
     }
-    q != 1
 }
 
 // 'stations N: 1 to 64', of a row with this many of its 64 places filled. 'A station row shorter than N gives 6.'
 fn count_outside(n: usize, count: usize) -> bool
     ensures { result ≡ (outside 1 most_stations n || ltb (min count most_stations) n) }
 {
-    if n < 1 {
-        return true;
-    }
-    if MOST_STATIONS < n {
-        return true;
-    }
-    count < n
+    !(1..=MOST_STATIONS).contains(&n) || count < n
 }
 
-// The verdict of a refusal, at a station's place where it is one of 7 to 10; 0 for none.
-fn fault(refusal: u32, station: usize) -> Verdict
-    ensures { result ≡ record { refusal = refusal; station = station } }
-{
-    Verdict { refusal, station }
-}
-
-// 2 to 6, of such a row.
-pub fn settings_verdict(settings: Settings, count: usize) -> Verdict
-    ensures { (row : List Asked) → length row ≡ min count most_stations → result ≡ first_of fine (settings_tests (request_with settings row)) }
+// 2 to 6, of a row with so many of its 64 places filled.
+pub fn settings_verdict(settings: &Settings, count: usize) -> Result<(), Refusal>
+    ensures { (row : List Asked) → length row ≡ min count most_stations → verdict_at 0 result ≡ first_of fine (settings_tests (request_with settings.now row)) }
 {
     if 2 < settings.discipline {
-        return fault(2, 0);
+        return Err(Refusal::Discipline);
     }
     if space_outside(settings.d) {
-        return fault(3, 0);
+        return Err(Refusal::ParameterSpace);
     }
     if space_outside(settings.a) {
-        return fault(4, 0);
+        return Err(Refusal::AddressSpace);
     }
     if step_outside(settings.discipline, settings.q) {
-        return fault(5, 0);
+        return Err(Refusal::LaxityStep);
     }
     if count_outside(settings.n, count) {
-        return fault(6, 0);
+        return Err(Refusal::StationCount);
     }
-    fault(0, 0)
-}
-
-// Whether two stations have one address, or one capability.
-fn same(compared: Compared, s: Listed, t: Listed) -> bool
-    ensures { result ≡ eqb (number_of compared (asked_of s)) (number_of compared (asked_of t)) }
-{
-    match compared {
-        Compared::Addresses => sorts::same_address(s.address, t.address),
-        Compared::Capabilities => sorts::same_capability(s.capability, t.capability),
-    }
-}
-
-// Whether the address of s, or its capability, has been seen already, or t has it.
-fn earlier_same(compared: Compared, already: bool, s: Listed, t: Listed) -> bool
-    ensures { result ≡ (already || eqb (number_of compared (asked_of s)) (number_of compared (asked_of t))) }
-{
-    if already {
-        return true;
-    }
-    same(compared, s, t)
+    Ok(())
 }
 
 // 'RTVC: 0 to D - 1, distinct; otherwise 0'
@@ -112,82 +75,84 @@ fn capability_outside(discipline: u32, d: u32, capability: Capability) -> bool
     ensures { result ≡ capability_outside discipline d capability.0 }
 {
     if discipline == disciplines::RTVC {
-        return sorts::is_past(d, capability);
+        sorts::is_past(d, capability)
+    } else {
+        capability != zeros::NOBODY.capability
     }
-    !sorts::same_capability(capability, Capability(0))
 }
 
-// 7 to 10, of station i; `address` and `capability` tell whether an earlier station has that of s.
-fn station_verdict(
-    settings: Settings,
-    i: usize,
-    s: Listed,
-    address: bool,
-    capability: bool,
-) -> Verdict
-    ensures { (earlier : List Listed) → address ≡ shared Addresses s earlier → capability ≡ shared Capabilities s earlier → result ≡ first_of fine (station_tests (request_with settings []) i (map asked_of earlier) (asked_of s)) }
+// Whether one of these stations has an address.
+fn has_address(stations: &[Listed], address: Address) -> bool
+    ensures { result ≡ some_of (λ l. eqb address.0 l.address.0) stations.now }
+{
+    stations.iter().any(|l| address == l.address)
+}
+
+// Whether one of these stations has a capability.
+pub fn has_capability(stations: &[Listed], capability: Capability) -> bool
+    ensures { result ≡ some_of (λ l. eqb capability.0 l.capability.0) stations.now }
+{
+    stations.iter().any(|l| capability == l.capability)
+}
+
+// 'RTVC: .. distinct': whether one of these stations has a capability that no other may have.
+fn capability_taken(discipline: u32, stations: &[Listed], capability: Capability) -> bool
+    ensures { result ≡ (eqb discipline (code RTVC) && some_of (λ l. eqb capability.0 l.capability.0) stations.now) }
+{
+    discipline == disciplines::RTVC && has_capability(stations, capability)
+}
+
+// 7 to 10, of a station behind these.
+fn station_verdict(settings: &Settings, earlier: &[Listed], s: &Listed) -> Result<(), Refusal>
+    ensures { (i : ℕ) → verdict_at i result ≡ first_of fine (station_tests (request_with settings.now []) i (map asked_of earlier.now) (asked_of s.now)) }
 {
     if sorts::is_past(settings.a, s.address) {
-        return fault(7, i);
+        return Err(Refusal::AddressRange);
     }
-    if address {
-        return fault(8, i);
+    if has_address(earlier, s.address) {
+        return Err(Refusal::AddressTaken);
     }
     if capability_outside(settings.discipline, settings.d, s.capability) {
-        return fault(9, i);
+        return Err(Refusal::CapabilityRange);
     }
-    if settings.discipline != disciplines::RTVC {
-        return fault(0, 0);
+    if capability_taken(settings.discipline, earlier, s.capability) {
+        return Err(Refusal::CapabilityTaken);
     }
-    if capability {
-        return fault(10, i);
-    }
-    fault(0, 0)
+    Ok(())
 }
 
-// 'the first faulty station in the listed order decides'. The earlier stations are gone through in the loop itself: a call copies the row.
-fn first_faulty(settings: Settings, stations: [Listed; 64]) -> Verdict
-    requires { settings.n ≤ 64 }
-    ensures { result ≡ first_of fine (row_tests (request_with settings []) 0 [] (map asked_of (take settings.n stations))) }
+// 'the first faulty station in the listed order decides'
+fn first_faulty(settings: &Settings, stations: &[Listed]) -> Result<(), Fault>
+    ensures { verdict_of result ≡ first_of fine (row_tests (request_with settings.now []) 0 [] (map asked_of stations.now)) }
 {
-    let n = settings.n;
-    for i in 0..n {
-        let s = stations[i];
-        let mut address = false;
-        let mut capability = false;
-        for e in 0..i {
-            let t = stations[e];
-            address = earlier_same(Compared::Addresses, address, s, t);
-            capability = earlier_same(Compared::Capabilities, capability, s, t);
-        }
-        let v = station_verdict(settings, i, s, address, capability);
-        if v.refusal != 0 {
-            return v;
+    for (i, s) in stations.iter().enumerate() {
+        if let Err(refusal) = station_verdict(settings, &stations[..i], s) {
+            return Err(Fault {
+                refusal,
+                station: i,
+            });
         }
     }
-    fault(0, 0)
+    Ok(())
 }
 
-// 'Set-up tries 2 to 6, then the stations in turn, each 7 to 10', of a row of this length.
-pub fn verdict(settings: Settings, stations: [Listed; 64], length: usize) -> Verdict
-    ensures { result ≡ set_up_verdict (request_with settings (map asked_of (take length stations))) }
+// 'Set-up tries 2 to 6, then the stations in turn, each 7 to 10.' A row has no more than 64 places.
+pub fn verdict(settings: &Settings, stations: &[Listed]) -> Result<(), Fault>
+    requires { length stations.now ≤ 64 }
+    ensures { verdict_of result ≡ set_up_verdict (request_with settings.now (map asked_of stations.now)) }
 {
-    let v = settings_verdict(settings, length);
-    if v.refusal != 0 {
-        return v;
-    }
-    first_faulty(settings, stations)
+    settings_verdict(settings, stations.len())?;
+    first_faulty(settings, &stations[..settings.n])
 }
 
-// The first n stations, and nobody past them.
-pub fn up_to(stations: [Listed; 64], n: usize) -> [Listed; 64]
-    requires { n ≤ 64 }
-    ensures { result ≡ row 64 (λ i. cond (ltb i n) (get_or stations i nobody) nobody) }
+// The first n of these stations, and nobody past them.
+pub fn up_to(stations: &[Listed], n: usize) -> [Listed; 64]
+    requires few { n ≤ 64 }
+    requires filled { n ≤ length stations.now }
+    ensures { result ≡ row 64 (λ i. cond (ltb i n) (get_or stations.now i nobody) nobody) }
 {
     let mut listed = [zeros::NOBODY; 64];
-    for i in 0..n {
-        listed[i] = stations[i];
-    }
+    listed[..n].copy_from_slice(&stations[..n]);
     listed
 }
 
@@ -195,28 +160,27 @@ pub fn up_to(stations: [Listed; 64], n: usize) -> [Listed; 64]
 pub fn fresh(settings: Settings, listed: [Listed; 64]) -> State
     ensures { result ≡ fresh_state settings listed }
 {
-    let parameters = [0u64; 64];
-    let none = [0u32; 64];
-    let admissions = [zeros::NO_SLOT; 64];
-    let lengths = [0usize; 64];
-    let packets = [zeros::NO_PACKET; 1024];
-    let segment = Segment {
-        settings,
-        listed,
-        clock: Slot(0),
-        admitted: 0,
-        sent: 0,
-        lost: 0,
-        turned: 0,
-        round: zeros::NO_ROUND,
-        contention: zeros::NO_CONTENTION,
-        contenders: 0,
-        parameters,
-        numbers: none,
-        values: none,
-        lengths: none,
-        admissions,
-    };
-    let queues = Queues { lengths, packets };
-    State { segment, queues }
+    State {
+        segment: Segment {
+            settings,
+            listed,
+            clock: Slot(0),
+            admitted: 0,
+            sent: 0,
+            lost: 0,
+            turned: 0,
+            round: zeros::NO_ROUND,
+            contention: zeros::NO_CONTENTION,
+            contenders: 0,
+            parameters: [0; 64],
+            numbers: [0; 64],
+            values: [0; 64],
+            lengths: [0; 64],
+            admissions: [zeros::NO_SLOT; 64],
+        },
+        queues: Queues {
+            lengths: [0; 64],
+            packets: [zeros::NO_PACKET; 1024],
+        },
+    }
 }

@@ -1,83 +1,124 @@
--- `standing::queues_stand` meets its contract. That of the loop in it: the first j of station i's places are copied, and their numbers.
-use Rattle.std.proofs.Common.{ap, not, ◌≤◌, ◌<◌, ◌+◌, ◌≡◌, refl, sym, ◌∙◌, true, ◌&&◌, arith, rules, eqb, length, take, length-take-le}
+-- `standing::queues_stand` meets its contract.
+use Rattle.std.proofs.Common.{ap, not, ◌≤◌, ◌<◌, ◌+◌, ◌≡◌, refl, sym, ◌∙◌, true, ◌&&◌, ◌++◌, get_or, arith, rules, eqb, length, take, length-take-le}
+use lib.ListN.{length-take}
 use lib.Seq.{paste-zero}
 use Rattle.rules.specs.Lists.{distinct}
 use Rattle.rules.specs.Bus.{numbers_in}
-use Rattle.state.specs.State.{places_at}
-use Rattle.state.specs.Parts.{place_sound, queues_sound}
-use Rattle.state.proofs.Tested.{denied, granted, passed, failed}
-use Rattle.state.proofs.Places.{queues_arrays, taken_one, taken_all, written_one, written_all}
+use Rattle.state.specs.State.{queue_at}
+use Rattle.state.specs.Parts.{place_test, place_sound, queues_sound}
+use Rattle.state.proofs.Tested.{denied, passed, failed}
+use Rattle.state.proofs.Places.{written_one, written_all}
 use Rattle.state.proofs.StandingParts.{next, place_first, place_fails, place_passes, places-end}
 use Rattle.state.proofs.standing.queues_stand.Goals as goal
-use Rattle.state.proofs.standing.queues_stand.Goals.{After-place_stands, Else-not-place_stands, After-loop-i}
+use Rattle.state.proofs.standing.queues_stand.Goals.{Else-not-place_stands, After-loop-i}
 
 pub loop-i-init : goal.loop-i-init
-loop-i-init c = (search rules, search rules, refl, place_first c.args.g c.args.queues)
+loop-i-init c = (search rules, refl, place_first c.args.g.now c.args.queues.now)
 
-pub loop-j-init : goal.loop-j-init
-loop-j-init c = (search rules, refl, paste-zero c.loop-i.numbers c.loop-i.waiting (numbers_in (places_at c.args.queues c.loop-i.i)))
-
-pub loop-j-preserved : goal.loop-j-preserved
-loop-j-preserved c =
-    let i = c.loop-i.i in
-    let j = c.loop-j.j in (
-      search rules,
-      taken_one c.args.queues i j (omega arith) (queues_arrays c.args.queues _ c.well_formed.1.0).1 (omega arith) c.loop-j.invariant.1,
-      written_one c.args.queues i c.loop-i.waiting c.loop-i.numbers (omega arith) (queues_arrays c.args.queues _ c.well_formed.1.0).1 (omega arith) j (omega arith) c.loop-j.invariant.2,
-    )
-
--- what is told of place i
-told : (c : After-place_stands) → c.place_stands.result ≡ place_sound c.args.g c.args.queues c.loop-i.i
-told c =
-    let full = (queues_arrays c.args.queues _ c.well_formed.1.0).1 in
-    rw (taken_all c.args.queues c.loop-i.i c.loop-j.j (omega arith) full (omega arith) c.loop-j.invariant.1, c.test-contends.ensures) at c.place_stands.ensures
-
-sound : (c : Else-not-place_stands) → place_sound c.args.g c.args.queues c.loop-i.i ≡ true
-sound c = granted (told c.before) (ap not c.if-not-place_stands.false)
+sound : (c : Else-not-place_stands) → place_sound c.args.g.now c.args.queues.now c.loop-i.i ≡ true
+sound c =
+    let n = get_or c.args.queues.now.lengths c.loop-i.i 0 in
+    sym (c.place_stands.ensures ∙ ap (place_test c.args.g.now c.loop-i.i n) c.places_at-places.ensures.places) ∙ c.if-not-place_stands.false
 
 pub returns-then-not-place_stands : goal.returns-then-not-place_stands
 returns-then-not-place_stands c =
-    let none = place_fails c.args.g c.args.queues (take c.loop-i.waiting c.loop-i.numbers) c.loop-i.i (omega arith) in
-    sym (c.loop-i.invariant.3 ∙ none (denied (told (goal.at.returns-then-not-place_stands c).After-place_stands) (ap not c.if-not-place_stands.true)))
+    let n = get_or c.args.queues.now.lengths c.loop-i.i 0 in
+    let told = c.place_stands.ensures ∙ ap (place_test c.args.g.now c.loop-i.i n) c.places_at-places.ensures.places in
+    let none = place_fails c.args.g.now c.args.queues.now (take c.loop-i.waiting c.loop-i.numbers) c.loop-i.i c.loop-i-test.true in
+    sym (c.loop-i.invariant.2 ∙ none (denied told (ap not c.if-not-place_stands.true)))
+
+-- the packets of place i have room
+room :
+    (c : Else-not-place_stands)
+    → let n = get_or c.args.queues.now.lengths c.loop-i.i 0 in
+    (n ≤ 16) × (length (take n c.places_at-places.result.now) ≤ 16)
+room c =
+    let few = (next c.args.g.now c.args.queues.now c.loop-i.i (sound c)).0 in
+    (few, omega (arith, few, length-take (get_or c.args.queues.now.lengths c.loop-i.i 0) c.places_at-places.result.now))
+
+pub slice_bounds-p-items-end : goal.slice_bounds-p-items-end
+slice_bounds-p-items-end c =
+    let few = (room (goal.at.slice_bounds-p-items-end c).Else-not-place_stands).0 in
+    sym
+    (length-take-le
+    (get_or c.args.queues.now.lengths c.loop-i.i 0)
+    c.places_at-places.result.now
+    (omega (arith, few, c.places_at-places.ensures.sixteen)))
+
+pub loop-p-init : goal.loop-p-init
+loop-p-init c =
+    let held = take (get_or c.args.queues.now.lengths c.loop-i.i 0) c.places_at-places.result.now in
+    (search rules, paste-zero c.loop-i.numbers c.loop-i.waiting (numbers_in held))
+
+pub offset_bounds-numbers-waiting : goal.offset_bounds-numbers-waiting
+offset_bounds-numbers-waiting c =
+    let few = (room (goal.at.offset_bounds-numbers-waiting c).Else-not-place_stands).1 in
+    omega (arith, c.loop-p.invariant.0, c.loop-i.invariant.0, c.loop-i-test.true, c.loop-p-test.true, few)
+
+pub bounds-numbers-waiting : goal.bounds-numbers-waiting
+bounds-numbers-waiting c =
+    let few = (room (goal.at.bounds-numbers-waiting c).Else-not-place_stands).1 in
+    omega (arith, c.loop-p.invariant.0, c.loop-i.invariant.0, c.loop-i-test.true, c.loop-p-test.true, few)
 
 pub overflow_add-waiting : goal.overflow_add-waiting
-overflow_add-waiting c = omega (arith, (next c.args.g c.args.queues c.loop-i.i (sound (goal.at.overflow_add-waiting c).Else-not-place_stands)).0)
+overflow_add-waiting c =
+    let few = (room (goal.at.overflow_add-waiting c).Else-not-place_stands).1 in
+    omega (arith, c.loop-p.invariant.0, c.loop-i.invariant.0, c.loop-i-test.true, c.loop-p-test.true, few)
+
+pub loop-p-preserved : goal.loop-p-preserved
+loop-p-preserved c =
+    let few = (room (goal.at.loop-p-preserved c).Else-not-place_stands).1 in
+    let held = take (get_or c.args.queues.now.lengths c.loop-i.i 0) c.places_at-places.result.now in
+    let inside : c.loop-i.waiting + c.loop-p.p-index < length c.loop-i.numbers =
+    omega (arith, c.loop-i.invariant.0, c.loop-i.invariant.1, c.loop-i-test.true, c.loop-p-test.true, few) in (
+      omega (arith, c.loop-p.invariant.0),
+      written_one held c.loop-i.waiting c.loop-i.numbers c.loop-p.p-index c.loop-p.invariant.0 inside c.loop-p-test.true c.loop-p.invariant.1,
+    )
 
 pub loop-i-preserved : goal.loop-i-preserved
 loop-i-preserved c =
+    let g = c.args.g.now in
+    let qs = c.args.queues.now in
     let i = c.loop-i.i in
-    let room = (next c.args.g c.args.queues i (sound (goal.at.loop-i-preserved c).Else-not-place_stands)).0 in
-    let here : i < 64 = omega arith in
-    let fits : c.loop-i.waiting + 16 ≤ length c.loop-i.numbers = omega arith in
-    let all : c.loop-j.j ≡ 16 = omega arith in
-    let more = written_all c.args.queues i c.loop-i.waiting c.loop-i.numbers here (queues_arrays c.args.queues _ c.well_formed.1.0).1 fits c.loop-j.j _ all room c.loop-j.invariant.2 in (
-      search rules,
-      omega arith,
-      more.0 ∙ c.loop-i.invariant.2,
-      c.loop-i.invariant.3
-          ∙ place_passes c.args.g c.args.queues (take c.loop-i.waiting c.loop-i.numbers) i here (sound (goal.at.loop-i-preserved c).Else-not-place_stands) more.1,
+    let c' = (goal.at.loop-i-preserved c).Else-not-place_stands in
+    let held = take (get_or qs.lengths i 0) c.places_at-places.result.now in
+    let few = (room c').1 in
+    let same : held ≡ queue_at qs i = ap (take (get_or qs.lengths i 0)) c.places_at-places.ensures.places in
+    let inside : c.loop-i.waiting + length held ≤ length c.loop-i.numbers =
+    omega (arith, few, c.loop-i.invariant.0, c.loop-i.invariant.1, c.loop-i-test.true) in
+    let done : c.loop-p.p-index ≡ length held = omega (arith, c.loop-p.auto.p-index-end, c.loop-p-test.false) in
+    let all = written_all held c.loop-i.waiting c.loop-i.numbers c.loop-p.p-index done inside c.loop-p.invariant.1 in
+    let numbers =
+    ap (λ n. take n c.loop-p.numbers) c.loop-p.invariant.0 ∙ all.1 ∙ ap (λ ps. take c.loop-i.waiting c.loop-i.numbers ++ numbers_in ps) same in (
+      omega (arith, c.loop-p.invariant.0, c.loop-i.invariant.0, done, few),
+      all.0 ∙ c.loop-i.invariant.1,
+      c.loop-i.invariant.2 ∙ place_passes g qs (take c.loop-i.waiting c.loop-i.numbers) i c.loop-i-test.true (sound c') numbers,
     )
 
 -- at the end: the count and the numbers are left
 ended :
     (c : After-loop-i)
-    → let g = c.args.g in
-    queues_sound g c.args.queues ≡ (eqb g.admitted (g.sent + g.lost + c.loop-i.waiting) && distinct (take c.loop-i.waiting c.loop-i.numbers))
+    → let g = c.args.g.now in
+    queues_sound g c.args.queues.now
+    ≡ (eqb g.admitted (g.sent + g.lost + c.loop-i.waiting) && distinct (take c.loop-i.waiting c.loop-i.numbers))
 ended c =
-    let count = length-take-le c.loop-i.waiting c.loop-i.numbers (omega arith) in
-    c.loop-i.invariant.3
-    ∙ places-end c.args.g c.args.queues (take c.loop-i.waiting c.loop-i.numbers) c.loop-i.i c.requires c.loop-i-test.false count
+    let count = length-take-le c.loop-i.waiting c.loop-i.numbers (omega (arith, c.loop-i.invariant.0, c.loop-i.invariant.1)) in
+    c.loop-i.invariant.2
+    ∙ places-end c.args.g.now c.args.queues.now (take c.loop-i.waiting c.loop-i.numbers) c.loop-i.i c.requires c.loop-i-test.false count
 
-pub returns-then-not-counts_stand : goal.returns-then-not-counts_stand
-returns-then-not-counts_stand c = sym (failed _ (ended (goal.at.returns-then-not-counts_stand c).After-loop-i) (denied c.counts_stand.ensures (ap not c.if-not-counts_stand.true)))
+pub slice_bounds-numbers-end : goal.slice_bounds-numbers-end
+slice_bounds-numbers-end c = omega (arith, c.loop-i.invariant.0, c.loop-i.invariant.1, c.loop-i.auto.i-end)
 
-pub none_twice-requires : goal.none_twice-requires
-none_twice-requires c =
-    record {
-      n_bound = omega arith;
-      n_in_bounds = omega arith;
-    }
+pub slice_bounds-none_twice-end : goal.slice_bounds-none_twice-end
+slice_bounds-none_twice-end c =
+    sym (length-take-le c.loop-i.waiting c.loop-i.numbers (omega (arith, c.loop-i.invariant.0, c.loop-i.invariant.1, c.loop-i.auto.i-end)))
 
-pub returns : goal.returns
-returns c =
-    c.none_twice.ensures ∙ sym (passed (ended (goal.at.returns c).After-loop-i) (granted c.counts_stand.ensures (ap not c.if-not-counts_stand.false)))
+pub returns-then-counts_stand : goal.returns-then-counts_stand
+returns-then-counts_stand c =
+    c.none_twice.ensures
+    ∙ sym (passed (ended (goal.at.returns-then-counts_stand c).After-loop-i) (sym c.counts_stand.ensures ∙ c.if-counts_stand.true))
+
+pub returns-else-counts_stand : goal.returns-else-counts_stand
+returns-else-counts_stand c =
+    c.if-counts_stand.false
+    ∙ sym (failed _ (ended (goal.at.returns-else-counts_stand c).After-loop-i) (sym c.counts_stand.ensures ∙ c.if-counts_stand.false))
