@@ -3,64 +3,56 @@
 
 ghost use Rattle.std.specs.Prelude.{◌<◌, ◌≤◌, IfOk};
 
-use sheet::{Run, Sheet};
+use sheet::{Refused, Run, Sheet};
 use std::io::{self, ErrorKind, Read};
 
 // The bytes that there is room for.
 const ROOM: usize = 65_536;
 
-// The byte at an offset; 'Where the input ends early, the bytes that are missing are zero.'
-fn one(input: &[u8], at: usize) -> u64
-    ensures { result < 256 }
-{
-    if at < input.len() {
-        return input[at] as u64;
-    }
-    0
-}
-
 // The number in four bytes from an offset on, little-endian.
-fn four(input: &[u8], at: usize) -> u64
+fn four(input: &[u8; 65536], at: usize) -> u32
     requires { at ≤ 8192 }
-    ensures { result < 4_294_967_296 }
 {
-    one(input, at)
-        + 256 * one(input, at + 1)
-        + 65_536 * one(input, at + 2)
-        + 16_777_216 * one(input, at + 3)
+    u32::from_le_bytes([input[at], input[at + 1], input[at + 2], input[at + 3]])
 }
 
 // 'admitted, sent, lost, waiting, turned away, longest wait, four bytes each', from an offset on
-fn run(input: &[u8], at: usize) -> Run
+fn run(input: &[u8; 65536], at: usize) -> Run
     requires { at ≤ 8000 }
 {
     Run {
-        admitted: four(input, at) as u32,
-        sent: four(input, at + 4) as u32,
-        lost: four(input, at + 8) as u32,
-        waiting: four(input, at + 12) as u32,
-        turned: four(input, at + 16) as u32,
-        wait: four(input, at + 20) as u32,
+        admitted: four(input, at),
+        sent: four(input, at + 4),
+        lost: four(input, at + 8),
+        waiting: four(input, at + 12),
+        turned: four(input, at + 16),
+        wait: four(input, at + 20),
     }
 }
 
 // 'then come the runs, 24 bytes each'; 'Up to 256 runs are read.'
-fn runs(input: &[u8]) -> [Run; 256] {
+fn runs(input: &[u8; 65536]) -> [Run; 256] {
     let mut runs = [sheet::NO_RUN; 256];
-    for i in 0..256 {
-        runs[i] = run(input, 8 + 24 * i);
+    for (i, place) in runs.iter_mut().enumerate() {
+        *place = run(input, 8 + 24 * i);
     }
     runs
 }
 
 // 'The input's first eight bytes are the number of runs'
-fn count(input: &[u8]) -> usize {
-    (four(input, 0) + 4_294_967_296 * four(input, 4)) as usize
+fn count(input: &[u8; 65536]) -> usize {
+    let number = u64::from(four(input, 0)) + 4_294_967_296 * u64::from(four(input, 4));
+    number as usize
 }
 
-// 'REFUSED number place'
-fn refuse(rt: &impl Print, refusal: u32, place: usize) -> io::Result<()> {
-    println!(rt; "REFUSED {refusal} {place}")
+// 'REFUSED number place', the place being that of the run that does not balance
+fn refuse(rt: &impl Print, refused: Refused) -> io::Result<()> {
+    let place = match refused {
+        Refused::TooMany => 0,
+        Refused::Unbalanced(place) => place,
+    };
+    let number = u32::from(refused);
+    println!(rt; "REFUSED {number} {place}")
 }
 
 // Writes the text of a sheet.
@@ -70,16 +62,16 @@ fn write(rt: &impl Print, sheet: Sheet) -> io::Result<()> {
     rt.write_all(&room[..length])
 }
 
-// Draws the batch in the input.
-fn draw(rt: &impl Print, input: &[u8]) -> io::Result<()> {
-    let drawn = sheet::draw(runs(input), count(input));
-    if drawn.refusal != 0 {
-        return refuse(rt, drawn.refusal, drawn.place);
+// Draws the batch in the input. 'Where the input ends early, the bytes that are missing are zero.'
+fn draw(rt: &impl Print, input: &[u8; 65536]) -> io::Result<()> {
+    match sheet::draw(runs(input), count(input)) {
+        Ok(sheet) => write(rt, sheet),
+        Err(refused) => refuse(rt, refused),
     }
-    write(rt, drawn.sheet)
 }
 
-// Reads until the room is full or the input ends, and hands out how many bytes there are. A read that a signal interrupts is made again.
+// Reads until the room is full or the input ends, and hands out how many bytes there are. A read that a signal interrupts is made again, so
+// that what is left of the room is no measure of a `while`.
 fn read_full(input: &mut impl Read, room: &mut [u8; 65536]) -> io::Result<usize>
     ensures { IfOk result (λ n. n ≤ 65_536) }
 {
@@ -104,5 +96,6 @@ fn read_full(input: &mut impl Read, room: &mut [u8; 65536]) -> io::Result<usize>
 fn main(rt: HostRuntime) -> io::Result<()> {
     let mut room = [0u8; 65536];
     let got = read_full(&mut rt.stdin(), &mut room)?;
-    draw(&rt, &room[..got])
+    room[got..].fill(0);
+    draw(&rt, &room)
 }

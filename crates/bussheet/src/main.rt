@@ -6,7 +6,7 @@ ghost use Rattle.std.specs.Prelude.{◌≤◌, ◌≡◌, length};
 ghost use Rattle.sheet.specs.Sheet.{most_runs};
 
 use page::{Entry, Refusal};
-use sheet::{Highest, MOST_RUNS, Run, Sheet, Sums};
+use sheet::{MOST_RUNS, Placed, Run, Sheet, Sums};
 use std::env::{Env, FillError};
 use std::fs;
 use std::io::{ErrorKind, Read};
@@ -242,22 +242,22 @@ fn write_heading(rt: &HostRuntime) -> bool {
 }
 
 // Writes the lines that close the sheet, with the name of the run that comes highest.
-fn write_closing(rt: &HostRuntime, sums: Sums, highest: Highest, name: &[u8]) {
+fn write_closing(rt: &HostRuntime, sums: Sums, highest: Option<Placed>, name: &[u8]) {
     let mut room = io::large_buffer();
     let count = page::closing(sums, highest, name, &mut room);
     write_text(rt, &room[..count]);
 }
 
 // The argument that names the run which comes highest; 0 where none has a figure.
-fn argument_of(highest: Highest) -> usize {
-    let Highest::Run(p) = highest else {
-        return 0;
-    };
-    if p.place < MOST_RUNS { p.place + 1 } else { 0 }
+fn argument_of(highest: Option<Placed>) -> usize {
+    match highest {
+        Some(p) if p.place < MOST_RUNS => p.place + 1,
+        _ => 0,
+    }
 }
 
 // Writes the lines that close the sheet, with the name that the arguments have for the highest.
-fn close(rt: &HostRuntime, sums: Sums, highest: Highest) {
+fn close(rt: &HostRuntime, sums: Sums, highest: Option<Placed>) {
     let mut name = io::buffer();
     let length = argument(rt, argument_of(highest), &mut name);
     write_closing(rt, sums, highest, &name[..length]);
@@ -321,6 +321,8 @@ fn main(rt: HostRuntime) {
         files[i] = file;
         runs[i] = run;
     }
-    let drawn = sheet::draw(runs, count);
-    write(&rt, drawn.sheet, files, count);
+    // Nothing refuses them: they are no more than a sheet has runs, and a measured run balances (`fits` of measure/proofs/Promises).
+    if let Ok(sheet) = sheet::draw(runs, count) {
+        write(&rt, sheet, files, count);
+    }
 }

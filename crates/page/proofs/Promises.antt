@@ -7,7 +7,8 @@ use lib.ListN.{length}
 use Rattle.text.specs.Room.{room_bytes, room_with}
 use Rattle.sheet.specs.Sheet.{drawn}
 use Rattle.page.specs.Page.{sheet_text}
-use Rattle.page.specs.Examples.{page_sheet, page_says, page_bytes, whole_bytes, empty_bytes}
+use Rattle.std.specs.Prelude.{Ok}
+use Rattle.page.specs.Examples.{page_runs, page_sheet, empty_sheet, page_says, page_bytes, whole_bytes, empty_bytes}
 use Rattle.page.proofs.Told as Told
 use Rattle.page.proofs.Examples as Examples
 
@@ -17,6 +18,13 @@ pub text_within :
     → (room_bytes ≡ length b) × (n ≤ length b)
 text_within = Told.text_within
 
+-- the sheets of the examples are what is drawn of two runs, and of none
+pub page_drawn : drawn page_runs 2 ≡ Ok page_sheet
+page_drawn = Examples.page_drawn
+
+pub empty_drawn : drawn [] 0 ≡ Ok empty_sheet
+empty_drawn = Examples.empty_drawn
+
 -- the page of docs/SHEET.md, byte for byte
 pub page_holds : page_says ≡ page_bytes
 page_holds = Examples.page_holds
@@ -25,5 +33,5 @@ page_holds = Examples.page_holds
 pub whole_holds : sheet_text page_sheet ≡ whole_bytes
 whole_holds = Examples.whole_holds
 
-pub empty_holds : sheet_text (drawn [] 0).sheet ≡ empty_bytes
+pub empty_holds : sheet_text empty_sheet ≡ empty_bytes
 empty_holds = Examples.empty_holds

@@ -2,7 +2,7 @@
 use Rattle.std.specs.Prelude.{ℕ, List, [], ◌∷◌, ◌++◌}
 use Rattle.sheet.specs.declared.Run.{Run}
 use Rattle.sheet.specs.declared.Sheet.{Sheet}
-use Rattle.sheet.specs.Sheet.{drawn}
+use Rattle.sheet.specs.Sheet.{sheet_of}
 use Rattle.sheet.specs.Examples.{run}
 use Rattle.page.specs.Page.{heading_text, line_text, closing_text}
 use Rattle.page.specs.declared.Entry.TheVariants as Has
@@ -19,12 +19,15 @@ cut = 99 ∷ 117 ∷ 116 ∷ []
 abbrev missing : List ℕ
 missing = 109 ∷ 105 ∷ 115 ∷ 115 ∷ 105 ∷ 110 ∷ 103 ∷ []
 
--- the runs that are drawn
+-- the runs that are drawn, and their sheet; and that of no run
 abbrev pub page_runs : List Run
 page_runs = run 3 3 0 0 0 14 ∷ run 12 5 7 0 4 9 ∷ []
 
 abbrev pub page_sheet : Sheet
-page_sheet = (drawn page_runs 2).sheet
+page_sheet = sheet_of page_runs
+
+abbrev pub empty_sheet : Sheet
+empty_sheet = sheet_of []
 
 abbrev pub page_says : List ℕ
 page_says =

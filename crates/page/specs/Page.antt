@@ -1,12 +1,11 @@
 -- The text of a sheet, as bytes of ASCII: a heading, a line for each run, the sums and the highest loss (docs/SHEET.md). Assumes nothing.
-use Rattle.std.specs.Prelude.{ℕ, suc, ◌-◌, min, List, [], ◌∷◌, ◌++◌, length, take, replicate}
+use Rattle.std.specs.Prelude.{ℕ, suc, ◌-◌, min, List, [], ◌∷◌, ◌++◌, length, take, replicate, Option, Some, None}
 use Rattle.text.specs.Text.{space, newline, decimal, fields, REFUSED}
 pub use Rattle.page.specs.declared.Entry.{Entry}
 use Rattle.page.specs.declared.Entry.TheVariants as Has
-use Rattle.sheet.specs.declared.Highest.TheVariants as Is
 use Rattle.sheet.specs.declared.Run.{Run}
 use Rattle.sheet.specs.declared.Sums.{Sums}
-use Rattle.sheet.specs.declared.Highest.{Highest}
+use Rattle.sheet.specs.declared.Placed.{Placed}
 use Rattle.sheet.specs.declared.Sheet.{Sheet}
 use Rattle.sheet.specs.Sheet.{most_runs}
 
@@ -131,12 +130,12 @@ abbrev pub loss_text : ℕ → ℕ → List ℕ
 loss_text lost ended = HIGHEST_LOSS ++ (space ∷ (decimal lost ++ (47 ∷ decimal ended)))
 
 -- 'the run with the highest loss', with its name; 'If none has a figure, the sheet says so'
-abbrev pub highest_text : Highest → List ℕ → List ℕ
-highest_text Is.NoFigure name = NO_FIGURE ++ (newline ∷ [])
-highest_text (Is.Run p) name = loss_text p.lost p.ended ++ named name
+abbrev pub highest_text : Option Placed → List ℕ → List ℕ
+highest_text None name = NO_FIGURE ++ (newline ∷ [])
+highest_text (Some p) name = loss_text p.lost p.ended ++ named name
 
 -- the lines that close a sheet
-abbrev pub closing_text : Sums → Highest → List ℕ → List ℕ
+abbrev pub closing_text : Sums → Option Placed → List ℕ → List ℕ
 closing_text s h name = sums_text s ++ highest_text h name
 
 -- ---- the whole, where runs have no names: 'a run's name is its place in the batch, counted from 1, in decimal'
@@ -150,9 +149,9 @@ rows_text place [] = []
 rows_text place (r ∷ runs) = line_text (Has.Run r) (place_text place) ++ rows_text (suc place) runs
 
 -- the name of the run that comes highest
-abbrev pub name_of : Highest → List ℕ
-name_of Is.NoFigure = []
-name_of (Is.Run p) = place_text p.place
+abbrev pub name_of : Option Placed → List ℕ
+name_of None = []
+name_of (Some p) = place_text p.place
 
 abbrev pub sheet_text : Sheet → List ℕ
 sheet_text s = heading_text ++ (rows_text 0 (take s.count s.rows) ++ closing_text s.sums s.highest (name_of s.highest))

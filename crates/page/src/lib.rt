@@ -6,7 +6,8 @@ ghost use Rattle.std.specs.Prelude.{◌≡◌, length, ◌≤◌};
 ghost use Rattle.text.specs.Room.{room_bytes, room_with};
 ghost use Rattle.page.specs.Page.{heading_text, line_text, closing_text, sheet_text};
 
-use sheet::{Highest, Run, Sheet, Sums};
+use sheet::{MOST_RUNS, Placed, Run, Sheet, Sums};
+use text::Writer;
 
 mod lines;
 
@@ -31,7 +32,9 @@ pub fn heading(room: &mut [u8; 65536]) -> usize
     ensures room_after { room.new ≡ room_with heading_text room.old }
     ensures length_bound { result ≤ room_bytes }
 {
-    lines::heading(room, 0)
+    let mut heading = Writer { room, at: 0 };
+    lines::heading(&mut heading);
+    heading.at
 }
 
 // The line of an entry with its name.
@@ -40,18 +43,22 @@ pub fn line(entry: Entry, name: &[u8], room: &mut [u8; 65536]) -> usize
     ensures room_after { room.new ≡ room_with (line_text entry name.now) room.old }
     ensures length_bound { result ≤ room_bytes }
 {
-    let at = lines::cells(room, 0, entry);
-    lines::named(room, at, name)
+    let mut line = Writer { room, at: 0 };
+    lines::cells(&mut line, &entry);
+    lines::named(&mut line, name);
+    line.at
 }
 
 // The lines that close a sheet: the sums, and the highest loss with the run's name.
-pub fn closing(sums: Sums, highest: Highest, name: &[u8], room: &mut [u8; 65536]) -> usize
+pub fn closing(sums: Sums, highest: Option<Placed>, name: &[u8], room: &mut [u8; 65536]) -> usize
     ensures value { result ≡ length (closing_text sums highest name.now) }
     ensures room_after { room.new ≡ room_with (closing_text sums highest name.now) room.old }
     ensures length_bound { result ≤ room_bytes }
 {
-    let at = lines::sums(room, 0, sums);
-    lines::highest(room, at, highest, name)
+    let mut closing = Writer { room, at: 0 };
+    lines::sums(&mut closing, sums);
+    lines::highest(&mut closing, highest, name);
+    closing.at
 }
 
 // The whole text of a sheet, with places for names. A count above 256 counts as 256.
@@ -60,10 +67,10 @@ pub fn write(sheet: Sheet, room: &mut [u8; 65536]) -> usize
     ensures room_after { room.new ≡ room_with (sheet_text sheet) room.old }
     ensures length_bound { result ≤ room_bytes }
 {
-    let rows = sheet.rows;
-    let highest = sheet.highest;
-    let headed = lines::heading(room, 0);
-    let listed = lines::rows(room, headed, rows, lines::at_most(sheet.count));
-    let summed = lines::sums(room, listed, sheet.sums);
-    lines::highest_placed(room, summed, highest)
+    let mut whole = Writer { room, at: 0 };
+    lines::heading(&mut whole);
+    lines::rows(&mut whole, &sheet.rows[..sheet.count.min(MOST_RUNS)]);
+    lines::sums(&mut whole, sheet.sums);
+    lines::highest_placed(&mut whole, sheet.highest);
+    whole.at
 }

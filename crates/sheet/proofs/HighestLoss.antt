@@ -11,8 +11,8 @@ use lib.Dec.{ltb}
 use lib.ListN.{length, get_or, length-append, get_or-append}
 use lib.Seq.{append_snoc, get_or-append_seam}
 use Rattle.sheet.specs.Losses.{Loss, Figure, AtMost, Below, above}
-use Rattle.sheet.specs.Sheet.{Run, Highest, Placed, no_run, loss_of, has_figure, placed, loss_at, further, highest_from, highest_of, IsHighest, Says}
-use Rattle.sheet.specs.declared.Highest.TheVariants as Is
+use Rattle.std.specs.Prelude.{Option, Some, None}
+use Rattle.sheet.specs.Sheet.{Run, Placed, no_run, loss_of, has_figure, placed, loss_at, further, highest_from, highest_of, IsHighest, Says}
 use Rattle.sheet.proofs.Order.{at_most_itself, above_is, above_not, at_most_below, below_at_most_itself, not_both}
 
 -- the loss of the run at a place
@@ -81,14 +81,14 @@ module _ (done : List Run) (r : Run) where
       }
 
   -- what the highest so far says, it says with one run more
-  says_more : (h : Highest) → Says done h → Says more (further h (length done) r)
-  says_more Is.NoFigure none = go (has_figure r) refl
+  says_more : (h : Option Placed) → Says done h → Says more (further h (length done) r)
+  says_more None none = go (has_figure r) refl
     where
-      go : (t : Bool) → has_figure r ≡ t → Says more (cond t (Is.Run (placed (length done) r)) Is.NoFigure)
+      go : (t : Bool) → has_figure r ≡ t → Says more (cond t (Some (placed (length done) r)) None)
       go true e = new_highest (ltb-true 0 (loss_of r).ended e) (λ i l f. absurd (none i l f))
       go false e =
           each (λ x. ¬ Figure (loss_of x)) none (λ f. let l = ltb-false 0 (loss_of r).ended e in omega arith)
-  says_more (Is.Run p) h = go (above (loss_of r) (loss_at p)) refl
+  says_more (Some p) h = go (above (loss_of r) (loss_at p)) refl
     where
       figure : Below (loss_at p) (loss_of r) → Figure (loss_of r)
       figure below = some (loss_of r).lost refl
@@ -99,7 +99,7 @@ module _ (done : List Run) (r : Run) where
               absurd (omega (arith, below, zero-mul p.ended))
           some (suc n) e = omega arith
 
-      go : (t : Bool) → above (loss_of r) (loss_at p) ≡ t → Says more (cond t (Is.Run (placed (length done) r)) (Is.Run p))
+      go : (t : Bool) → above (loss_of r) (loss_at p) ≡ t → Says more (cond t (Some (placed (length done) r)) (Some p))
       go true e =
           let below = above_is (loss_of r) (loss_at p) e in
           new_highest (figure below) (λ i l f. at_most_below (loss_in done i) (loss_at p) (loss_of r) f (h.most i l f) below)
@@ -107,7 +107,7 @@ module _ (done : List Run) (r : Run) where
 
 -- ---- all runs
 
-says_all : (runs done : List Run) (h : Highest) → Says done h → Says (done ++ runs) (highest_from h (length done) runs)
+says_all : (runs done : List Run) (h : Option Placed) → Says done h → Says (done ++ runs) (highest_from h (length done) runs)
 says_all [] done h says = subst (λ (l : List Run). Says l h) (sym (append-nil done)) says
 says_all (r ∷ runs) done h says =
     subst (λ (l : List Run). Says l (highest_from (further h (length done) r) (suc (length done)) runs)) (append_snoc done r runs)
@@ -116,7 +116,7 @@ says_all (r ∷ runs) done h says =
 
 -- The highest of a batch is what its case says.
 pub highest_says : (runs : List Run) → Says runs (highest_of runs)
-highest_says runs = says_all runs [] Is.NoFigure (λ i h f. absurd (omega arith))
+highest_says runs = says_all runs [] None (λ i h f. absurd (omega arith))
 
 -- ---- no other case says the same
 
@@ -133,10 +133,10 @@ not-before runs p q h k l =
     subst (λ (a : Loss). Figure a → AtMost a (loss_at p)) (sym (its_loss runs q k)) (h.most q.place k.there) k.figure in
     not_both (loss_at p) (loss_at q) below under
 
-pub says_only : (runs : List Run) (x y : Highest) → Says runs x → Says runs y → x ≡ y
-says_only runs Is.NoFigure Is.NoFigure h k = refl
-says_only runs Is.NoFigure (Is.Run q) h k = absurd (h q.place k.there (subst Figure (its_loss runs q k) k.figure))
-says_only runs (Is.Run p) Is.NoFigure h k = absurd (k p.place h.there (subst Figure (its_loss runs p h) h.figure))
-says_only runs (Is.Run p) (Is.Run q) h k =
+pub says_only : (runs : List Run) (x y : Option Placed) → Says runs x → Says runs y → x ≡ y
+says_only runs None None h k = refl
+says_only runs None (Some q) h k = absurd (h q.place k.there (subst Figure (its_loss runs q k) k.figure))
+says_only runs (Some p) None h k = absurd (k p.place h.there (subst Figure (its_loss runs p h) h.figure))
+says_only runs (Some p) (Some q) h k =
     let same : p.place ≡ q.place = omega (arith, not-before runs p q h k, not-before runs q p k h) in
-    ap Is.Run (h.its ∙ ap (λ n. placed n (get_or runs n no_run)) same ∙ sym k.its)
+    ap Some (h.its ∙ ap (λ n. placed n (get_or runs n no_run)) same ∙ sym k.its)

@@ -7,7 +7,9 @@ use mathlib.Core.List.{List, map}
 use lib.ListN.{take}
 use Rattle.sheet.specs.Losses.{Loss, Figure, AtMost, Below}
 use Rattle.sheet.specs.Words.{words, number, in_halves}
-use Rattle.sheet.specs.Sheet.{Run, Highest, most_runs, AllBalanced, FirstUnbalanced, highest_of, Says, refused_batch, sheet_drawn, drawn}
+use Rattle.std.specs.Prelude.{Option, Ok, Err}
+use Rattle.sheet.specs.Sheet.{Run, Placed, most_runs, AllBalanced, FirstUnbalanced, highest_of, Says, sheet_of, drawn}
+use Rattle.sheet.specs.declared.Refused.TheVariants.{TooMany, Unbalanced}
 use Rattle.sheet.specs.Examples.{Example, said, table}
 use Rattle.sheet.proofs.Order as Order
 use Rattle.sheet.proofs.Halves as Halves
@@ -54,20 +56,20 @@ pub highest_says : (runs : List Run) → Says runs (highest_of runs)
 highest_says = HighestLoss.highest_says
 
 -- and no other answer is
-pub says_only : (runs : List Run) (x y : Highest) → Says runs x → Says runs y → x ≡ y
+pub says_only : (runs : List Run) (x y : Option Placed) → Says runs x → Says runs y → x ≡ y
 says_only = HighestLoss.says_only
 
 -- ---- what refuses a batch
 
-pub drawn_many : (row : List Run) (count : ℕ) → most_runs < count → drawn row count ≡ refused_batch 23 0
+pub drawn_many : (row : List Run) (count : ℕ) → most_runs < count → drawn row count ≡ Err TooMany
 drawn_many = Refusals.drawn_many
 
 pub drawn_uneven :
     (row : List Run) (count : ℕ) → count ≤ most_runs → (place : ℕ) → FirstUnbalanced (take count row) place
-    → drawn row count ≡ refused_batch 24 place
+    → drawn row count ≡ Err (Unbalanced place)
 drawn_uneven = Refusals.drawn_uneven
 
-pub drawn_whole : (row : List Run) (count : ℕ) → count ≤ most_runs → AllBalanced (take count row) → drawn row count ≡ sheet_drawn (take count row)
+pub drawn_whole : (row : List Run) (count : ℕ) → count ≤ most_runs → AllBalanced (take count row) → drawn row count ≡ Ok (sheet_of (take count row))
 drawn_whole = Refusals.drawn_whole
 
 -- of any batch one of the last two holds

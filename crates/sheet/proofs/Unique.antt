@@ -2,6 +2,10 @@
 use Rattle.window.specs.Determined.{Determines}
 use Rattle.window.proofs.Unique.{unique}
 use Rattle.sheet.proofs.draw.Reads as draw
+use Rattle.sheet.proofs.U32FromRefused.from.Reads as number_from
 
 pub draw_determined : Determines draw.Learnt
 draw_determined κs args r r' end end' = unique
+
+pub number_from_determined : Determines number_from.Learnt
+number_from_determined κs args r r' end end' = unique

@@ -1,7 +1,7 @@
 -- Batches of runs and what their sheets say (change requests P2 and P4), each worked out by hand. Assumes nothing.
-use Rattle.std.specs.Prelude.{ℕ, suc, ◌+◌, List, [], ◌∷◌, ◌++◌, take, replicate}
-use Rattle.sheet.specs.Sheet.{Run, Sums, Highest, Drawn}
-use Rattle.sheet.specs.declared.Highest.TheVariants as Is
+use Rattle.std.specs.Prelude.{ℕ, suc, ◌+◌, List, [], ◌∷◌, ◌++◌, take, replicate, Option, Some, None, Result, Ok, Err}
+use Rattle.sheet.specs.Sheet.{Run, Sums, Placed, Sheet, Refused, number_of}
+use Rattle.sheet.specs.declared.Refused.TheVariants.{TooMany, Unbalanced}
 
 -- a run: packets admitted, sent, lost, waiting, turned away, and the longest wait
 abbrev pub run : ℕ → ℕ → ℕ → ℕ → ℕ → ℕ → Run
@@ -29,9 +29,9 @@ abbrev pub sums_said : Sums → List ℕ
 sums_said s = s.admitted ∷ s.sent ∷ s.lost ∷ s.waiting ∷ s.turned ∷ []
 
 -- the place of the highest, counted from 1, and its loss; or 0
-abbrev pub highest_said : Highest → List ℕ
-highest_said Is.NoFigure = 0 ∷ []
-highest_said (Is.Run p) = suc p.place ∷ p.lost ∷ p.ended ∷ []
+abbrev pub highest_said : Option Placed → List ℕ
+highest_said None = 0 ∷ []
+highest_said (Some p) = suc p.place ∷ p.lost ∷ p.ended ∷ []
 
 -- the refusal number and the place; the rows; the sums; the highest
 pub record Said : Type 0 where
@@ -40,18 +40,24 @@ pub record Said : Type 0 where
   pub sums : List ℕ
   pub highest : List ℕ
 
-abbrev pub said : Drawn → Said
-said d =
-    record {
-      refusal = d.refusal ∷ d.place ∷ [];
-      rows = take d.sheet.count d.sheet.rows;
-      sums = sums_said d.sheet.sums;
-      highest = highest_said d.sheet.highest;
-    }
-
 -- a refused batch says its number and the place, and has no row
 abbrev refuses : ℕ → ℕ → Said
 refuses number place = record { refusal = number ∷ place ∷ []; rows = []; sums = 0 ∷ 0 ∷ 0 ∷ 0 ∷ 0 ∷ []; highest = 0 ∷ [] }
+
+-- the place of the run that does not balance, or 0
+abbrev place_of : Refused → ℕ
+place_of TooMany = 0
+place_of (Unbalanced place) = place
+
+abbrev pub said : Result Sheet Refused → Said
+said (Ok sheet) =
+    record {
+      refusal = 0 ∷ 0 ∷ [];
+      rows = take sheet.count sheet.rows;
+      sums = sums_said sheet.sums;
+      highest = highest_said sheet.highest;
+    }
+said (Err refused) = refuses (number_of refused) (place_of refused)
 
 abbrev says : List Run → List ℕ → List ℕ → Said
 says rows sums highest = record { refusal = 0 ∷ 0 ∷ []; rows = rows; sums = sums; highest = highest }

@@ -1,14 +1,13 @@
 -- The sheet of a batch of finished runs (change request P2): 'for each the admitted, sent, lost and waiting counts and the longest wait (0 if
 -- none was sent); over all, the four counts' sums and the run with the highest loss'; and 'a count of packets turned away' (P4). Assumes
 -- nothing.
-use Rattle.std.specs.Prelude.{ℕ, suc, ◌+◌, ◌-◌, ◌<◌, ◌≡◌, Bool, cond, List, [], ◌∷◌, ◌++◌, map, ltb, eqb, length, get_or, take, replicate}
+use Rattle.std.specs.Prelude.{ℕ, suc, ◌+◌, ◌-◌, ◌<◌, ◌≡◌, Bool, not, cond, List, [], ◌∷◌, ◌++◌, map, ltb, eqb, length, get_or, take, replicate, Option, Some, None, Result, Ok, Err, position, sum_by}
 pub use Rattle.sheet.specs.declared.Run.{Run}
 pub use Rattle.sheet.specs.declared.Sums.{Sums}
 pub use Rattle.sheet.specs.declared.Placed.{Placed}
-pub use Rattle.sheet.specs.declared.Highest.{Highest}
 pub use Rattle.sheet.specs.declared.Sheet.{Sheet}
-pub use Rattle.sheet.specs.declared.Drawn.{Drawn}
-use Rattle.sheet.specs.declared.Highest.TheVariants as Is
+pub use Rattle.sheet.specs.declared.Refused.{Refused}
+use Rattle.sheet.specs.declared.Refused.TheVariants.{TooMany, Unbalanced}
 use Rattle.sheet.specs.Losses.{Loss, Figure, AtMost, Below, above}
 
 -- 'up to 256 finished runs'
@@ -37,10 +36,9 @@ pub record FirstUnbalanced (runs : List Run) (place : ℕ) : Type 0 where
   pub fails : ¬ Balanced (get_or runs place no_run)
   pub before : (i : ℕ) → i < place → Balanced (get_or runs i no_run)
 
--- the place of the first run that does not balance, counted from a place on; or the place past the last
-abbrev pub unbalanced : ℕ → List Run → ℕ
-unbalanced place [] = place
-unbalanced place (r ∷ runs) = cond (balances r) (unbalanced (suc place) runs) place
+-- the place of the first run that does not balance, if there is one
+abbrev pub unbalanced : List Run → Option ℕ
+unbalanced runs = position (λ r. not (balances r)) runs
 
 -- ---- the rows and the sums
 
@@ -57,18 +55,14 @@ row_of r =
     }
 
 -- 'the four counts' sums', and that of the packets turned away
-abbrev pub sum_of : (Run → ℕ) → List Run → ℕ
-sum_of count [] = 0
-sum_of count (r ∷ runs) = count r + sum_of count runs
-
 abbrev pub sums_of : List Run → Sums
 sums_of runs =
     record {
-      admitted = sum_of (λ r. r.admitted) runs;
-      sent = sum_of (λ r. r.sent) runs;
-      lost = sum_of (λ r. r.lost) runs;
-      waiting = sum_of (λ r. r.waiting) runs;
-      turned = sum_of (λ r. r.turned) runs;
+      admitted = sum_by (λ r. r.admitted) runs;
+      sent = sum_by (λ r. r.sent) runs;
+      lost = sum_by (λ r. r.lost) runs;
+      waiting = sum_by (λ r. r.waiting) runs;
+      turned = sum_by (λ r. r.turned) runs;
     }
 
 -- ---- the highest loss
@@ -91,17 +85,17 @@ loss_at p = record { lost = p.lost; ended = p.ended }
 
 -- The highest so far, and one run more: it takes its place where it has a figure and none had one, or where its loss is above. 'Equal ones go
 -- to the earlier run.'
-abbrev pub further : Highest → ℕ → Run → Highest
-further Is.NoFigure place r = cond (has_figure r) (Is.Run (placed place r)) Is.NoFigure
-further (Is.Run p) place r = cond (above (loss_of r) (loss_at p)) (Is.Run (placed place r)) (Is.Run p)
+abbrev pub further : Option Placed → ℕ → Run → Option Placed
+further None place r = cond (has_figure r) (Some (placed place r)) None
+further (Some p) place r = cond (above (loss_of r) (loss_at p)) (Some (placed place r)) (Some p)
 
 -- the runs from a place on
-abbrev pub highest_from : Highest → ℕ → List Run → Highest
+abbrev pub highest_from : Option Placed → ℕ → List Run → Option Placed
 highest_from h place [] = h
 highest_from h place (r ∷ runs) = highest_from (further h place r) (suc place) runs
 
-abbrev pub highest_of : List Run → Highest
-highest_of runs = highest_from Is.NoFigure 0 runs
+abbrev pub highest_of : List Run → Option Placed
+highest_of runs = highest_from None 0 runs
 
 -- What each case of the highest says of a batch: that no run has a figure; or that this run has one, no run's loss is above it, and no earlier
 -- run's equals it.
@@ -112,9 +106,9 @@ pub record IsHighest (runs : List Run) (p : Placed) : Type 0 where
   pub most : (i : ℕ) → i < length runs → Figure (loss_of (get_or runs i no_run)) → AtMost (loss_of (get_or runs i no_run)) (loss_at p)
   pub first : (i : ℕ) → i < p.place → Figure (loss_of (get_or runs i no_run)) → Below (loss_of (get_or runs i no_run)) (loss_at p)
 
-abbrev pub Says : List Run → Highest → Type 0
-Says runs Is.NoFigure = (i : ℕ) → i < length runs → ¬ Figure (loss_of (get_or runs i no_run))
-Says runs (Is.Run p) = IsHighest runs p
+abbrev pub Says : List Run → Option Placed → Type 0
+Says runs None = (i : ℕ) → i < length runs → ¬ Figure (loss_of (get_or runs i no_run))
+Says runs (Some p) = IsHighest runs p
 
 -- ---- the sheet
 
@@ -128,18 +122,19 @@ sheet_of runs =
       highest = highest_of runs;
     }
 
--- a refused batch: its number, the place of the run, and the sheet of no run
-abbrev pub refused_batch : ℕ → ℕ → Drawn
-refused_batch number place = record { refusal = number; place = place; sheet = sheet_of [] }
+-- the number of a refusal
+abbrev pub number_of : Refused → ℕ
+number_of TooMany = 23
+number_of (Unbalanced place) = 24
 
--- a batch that is not refused
-abbrev pub sheet_drawn : List Run → Drawn
-sheet_drawn runs = record { refusal = 0; place = 0; sheet = sheet_of runs }
+-- '24': a batch in which a run does not balance, by the place of the first; or none
+abbrev pub drawn_by : List Run → Option ℕ → Result Sheet Refused
+drawn_by runs (Some place) = Err (Unbalanced place)
+drawn_by runs None = Ok (sheet_of runs)
 
--- '24', of so many runs
-abbrev pub drawn_of : List Run → Drawn
-drawn_of runs = cond (ltb (unbalanced 0 runs) (length runs)) (refused_batch 24 (unbalanced 0 runs)) (sheet_drawn runs)
+abbrev pub drawn_of : List Run → Result Sheet Refused
+drawn_of runs = drawn_by runs (unbalanced runs)
 
 -- 'Refusals: 23, over 256 runs; 24, ..; 23 first': the first so many places of a row
-abbrev pub drawn : List Run → ℕ → Drawn
-drawn row count = cond (ltb most_runs count) (refused_batch 23 0) (drawn_of (take count row))
+abbrev pub drawn : List Run → ℕ → Result Sheet Refused
+drawn row count = cond (ltb most_runs count) (Err TooMany) (drawn_of (take count row))

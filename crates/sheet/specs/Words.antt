@@ -1,11 +1,11 @@
 -- A number as two words, and multiplication in halves (change request P4): 'P2's comparison stays exact and refuses no run, also past 64
 -- bits.' Assumes nothing.
 use Rattle.std.specs.Prelude.{ℕ, ◌+◌, ◌*◌, ◌/◌, ◌%◌}
-pub use Rattle.sheet.specs.declared.products.Words.{Words}
 
--- what a word of 64 bits stays below
-abbrev pub word : ℕ
-word = 18_446_744_073_709_551_616
+-- two words that stay below a size
+pub record Words : Type 0 where
+  pub high : ℕ
+  pub low : ℕ
 
 -- a number as two words that stay below `size`
 abbrev pub words : ℕ → ℕ → Words

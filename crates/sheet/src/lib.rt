@@ -2,10 +2,9 @@
 #![tactic(auto)]
 
 ghost use Rattle.std.specs.Prelude.{◌≡◌};
-ghost use Rattle.sheet.specs.Sheet.{refused_batch, drawn};
+ghost use Rattle.sheet.specs.Sheet.{number_of, drawn};
 
 mod losses;
-mod products;
 mod rows;
 
 // '23, over 256 runs'
@@ -41,28 +40,33 @@ pub struct Placed {
     pub ended: u64,
 }
 
-// 'the run with the highest loss', or that none has a figure
-#[derive(Clone, Copy)]
-pub enum Highest {
-    NoFigure,
-    Run(Placed),
-}
-
-// The rows of the runs, zeros past them; how many there are; what is said over all.
+// The rows of the runs, zeros past them (nothing here allocates, so that the rows stand in a sheet with their count beside them); what is said
+// over all; 'the run with the highest loss', if one has a figure.
 #[derive(Drop)]
 pub struct Sheet {
     pub rows: [Run; 256],
     pub count: usize,
     pub sums: Sums,
-    pub highest: Highest,
+    pub highest: Option<Placed>,
 }
 
-// A sheet, or the number of a refusal, with the place of the run that does not balance for 24, and the sheet of no run.
-#[derive(Drop)]
-pub struct Drawn {
-    pub refusal: u32,
-    pub place: usize,
-    pub sheet: Sheet,
+// What refuses a batch: over 256 runs; the run at this place, the first that does not balance.
+#[derive(Clone, Copy, PartialEq, Eq)]
+pub enum Refused {
+    TooMany,
+    Unbalanced(usize),
+}
+
+// The number of each in the table.
+impl From<Refused> for u32 {
+    ghost from_gives = { λ refused number. number ≡ number_of refused };
+
+    fn from(refused: Refused) -> u32 {
+        match refused {
+            Refused::TooMany => 23,
+            Refused::Unbalanced(_) => 24,
+        }
+    }
 }
 
 // No run.
@@ -75,52 +79,21 @@ pub const NO_RUN: Run = Run {
     wait: 0,
 };
 
-// 'Refusals: .., nothing written': the number, the place of the run, and the sheet of no run.
-fn refused(refusal: u32, place: usize) -> Drawn
-    ensures { result ≡ refused_batch refusal place }
-{
-    let sums = Sums {
-        admitted: 0,
-        sent: 0,
-        lost: 0,
-        waiting: 0,
-        turned: 0,
-    };
-    let rows = [NO_RUN; 256];
-    let sheet = Sheet {
-        rows,
-        count: 0,
-        sums,
-        highest: Highest::NoFigure,
-    };
-    Drawn {
-        refusal,
-        place,
-        sheet,
-    }
-}
-
 // The sheet of the first so many runs of a row. '23, over 256 runs; 24, a run whose admitted count is not sent + lost + waiting; 23 first.'
-pub fn draw(runs: [Run; 256], count: usize) -> Drawn
+pub fn draw(runs: [Run; 256], count: usize) -> Result<Sheet, Refused>
     ensures { result ≡ drawn runs count }
 {
     if MOST_RUNS < count {
-        return refused(23, 0);
+        return Err(Refused::TooMany);
     }
-    let place = rows::unbalanced(runs, count);
-    if place < count {
-        return refused(24, place);
+    let runs = &runs[..count];
+    if let Some(place) = rows::unbalanced(runs) {
+        return Err(Refused::Unbalanced(place));
     }
-    let highest = losses::highest(runs, count);
-    let sheet = Sheet {
-        rows: rows::all(runs, count),
+    Ok(Sheet {
+        rows: rows::all(runs),
         count,
-        sums: rows::sums(runs, count),
-        highest,
-    };
-    Drawn {
-        refusal: 0,
-        place: 0,
-        sheet,
-    }
+        sums: rows::sums(runs),
+        highest: losses::highest(runs),
+    })
 }

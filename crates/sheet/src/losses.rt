@@ -1,50 +1,48 @@
 // The highest loss of a batch: 'Losses are compared exactly by cross products; equal ones go to the earlier run.'
-ghost use Rattle.std.specs.Prelude.{◌≤◌, ◌≡◌, take};
-ghost use Rattle.sheet.specs.Sheet.{highest_of, most_runs};
-ghost use Rattle.sheet.specs.Parts.{loss, takes_place};
+ghost use Rattle.std.specs.Prelude.{◌*◌, ◌≡◌};
+ghost use Rattle.sheet.specs.Sheet.{placed as placedIn, highest_of};
+ghost use Rattle.sheet.specs.Parts.{takes_place};
 
-use crate::{Highest, Placed, Run, products};
+use crate::{Placed, Run};
 
-// Whether a run takes the place of the highest so far, whose loss is `most` over `over`: it has a figure and none had one, or its loss is
-// above.
-fn takes_place(found: bool, most: u64, over: u64, lost: u64, ended: u64) -> bool
-    ensures { result ≡ takes_place found (loss most over) (loss lost ended) }
+// A product of losses, exactly, 'also past 64 bits'.
+fn product(a: u64, b: u64) -> u128
+    ensures { result ≡ a * b }
 {
-    if !found {
-        return 0 < ended;
-    }
-    let held = products::product(most, ended);
-    let its = products::product(lost, over);
-    products::below(held, its)
+    u128::from(a) * u128::from(b)
 }
 
-// 'the run with the highest loss', 'lost + turned away over lost + turned away + sent'
-pub fn highest(runs: [Run; 256], count: usize) -> Highest
-    requires { count ≤ most_runs }
-    ensures { result ≡ highest_of (take count runs) }
+// Whether a run takes the place of the highest so far: it has a figure and none had one, or its loss is above.
+fn takes_place(highest: Option<Placed>, run: &Placed) -> bool
+    ensures { result ≡ takes_place highest run.now }
 {
-    let mut found = false;
-    let mut place = 0;
-    let mut most = 0;
-    let mut over = 0;
-    for i in 0..count {
-        let run = runs[i];
-        let lost = run.lost as u64 + run.turned as u64;
-        let ended = lost + run.sent as u64;
-        if !takes_place(found, most, over, lost, ended) {
-            continue;
+    let Some(highest) = highest else {
+        return 0 < run.ended;
+    };
+    let held = product(highest.lost, run.ended);
+    let its = product(run.lost, highest.ended);
+    held < its
+}
+
+// A run at its place, with its loss: 'lost + turned away over lost + turned away + sent'.
+fn placed(place: usize, run: &Run) -> Placed
+    ensures { result ≡ placedIn place run.now }
+{
+    let lost = u64::from(run.lost) + u64::from(run.turned);
+    let ended = lost + u64::from(run.sent);
+    Placed { place, lost, ended }
+}
+
+// 'the run with the highest loss', if one has a figure
+pub fn highest(runs: &[Run]) -> Option<Placed>
+    ensures { result ≡ highest_of runs.now }
+{
+    let mut highest = None;
+    for (place, run) in runs.iter().enumerate() {
+        let placed = placed(place, run);
+        if takes_place(highest, &placed) {
+            highest = Some(placed);
         }
-        found = true;
-        place = i;
-        most = lost;
-        over = ended;
     }
-    if !found {
-        return Highest::NoFigure;
-    }
-    Highest::Run(Placed {
-        place,
-        lost: most,
-        ended: over,
-    })
+    highest
 }

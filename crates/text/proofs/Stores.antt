@@ -1,7 +1,7 @@
 -- Text stored in room that is lent: a byte before text, text after text, and what the room has then; what a text comes to that fits, and one
 -- that does not. Assumes nothing.
 use Prim.Native.Nat.{ℕ, suc, ◌+◌, ◌≤◌, ◌<◌}
-use mathlib.Core.Path.{◌≡◌, refl, sym, ap, ap₂, subst, ◌∙◌}
+use mathlib.Core.Path.{◌≡◌, refl, sym, ap, ap₂, ◌∙◌}
 use mathlib.Core.Bool.{Bool, true, false, not, cond}
 use mathlib.Core.List.{List, [], ◌∷◌, ◌++◌}
 use Rattle.std.proofs.Common.{append_assoc}
@@ -148,10 +148,20 @@ wrote_then first second = record { told = told_then first.told second.told; same
 pub wrote_within : {a b : Writer} {x : List ℕ} {p q : ℕ} → Wrote a b x p → p ≤ q → Wrote a b x q
 wrote_within said h = record { told = told_within said.told h; same = said.same }
 
--- the same, where the text is known by another form
-pub wrote_join :
-    {a b c : Writer} {x y z : List ℕ} {p q n : ℕ} → Wrote a b x p → Wrote b c y q → x ++ y ≡ z → p + q ≤ n → Wrote a c z n
-wrote_join {a} {b} {c} {n = n} first second e h = subst (λ (l : List ℕ). Wrote a c l n) e (wrote_within (wrote_then first second) h)
+-- a text, and then what has room after it
+pub wrote_on :
+    {a b c : Writer} {x y : List ℕ} (p : ℕ) {q : ℕ} → Stores a b x → roomy a.at (p + q) → length x ≤ p → (roomy b.at q → Wrote b c y q)
+    → Wrote a c (x ++ y) (p + q)
+wrote_on {a} p said h few rest =
+    let first = wrote p said (omega arith) few in
+    wrote_then first (rest (omega (arith, first.told.past)))
+
+-- text from the start of the room on is over its start, and fits it
+pub wrote_start :
+    {a b : Writer} {x : List ℕ} {p : ℕ} → a.at ≡ 0 → p ≤ room_bytes → Wrote a b x p
+    → (b.at ≡ length x) × ((b.room.now ≡ room_with x a.room.now) × (b.at ≤ room_bytes))
+wrote_start {a} {b} {x} e h said =
+    (omega (arith, said.told.past), (said.told.room ∙ ap (λ n. sets a.room.now n x) e ∙ sets_start a.room.now x, omega (arith, said.told.past, said.told.few)))
 
 -- the text stands at the offset, and all else is as it was
 pub stands :

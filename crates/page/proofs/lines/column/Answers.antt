@@ -1,24 +1,20 @@
 -- `lines::column` meets its contract: a space, what is free of the places, and the number.
-use Rattle.std.proofs.Common.{arith, ◌≡◌, ◌-◌, [], ◌∷◌, ap, ◌∙◌, length, replicate, length-append}
+use Rattle.std.proofs.Common.{arith, ◌≡◌, ◌-◌, ap, ◌∙◌, length}
 use lib.ListN.{length-replicate}
 use Rattle.text.specs.Text.{space, decimal}
 use Rattle.text.proofs.Decimals.{decimal_long}
-use Rattle.text.proofs.Stores.{told_then}
-use Rattle.page.proofs.Told.{told_here, told_few}
+use Rattle.text.proofs.Stores.{wrote, wrote_on, wrote_within}
 use Rattle.page.proofs.lines.column.Goals as goal
 
 pub returns : goal.returns
 returns c =
     let args = c.args in
-    let put = c.put-spaced in
-    let spaces = c.spaces-aligned in
-    let number = c.number in
+    let digits = length (decimal args.n) in
     let few = decimal_long args.n (omega arith) in
-    let gap = args.places - length (decimal args.n) in
-    let left : c.free.result ≡ gap = c.free.ensures ∙ ap (λ k. args.places - k) c.digits_of.ensures in
-    let first = told_here args.room.now args.at (space ∷ []) (omega arith) (put.ensures.value, put.ensures.room_after) in
-    let long = length-replicate gap space in
-    let second = told_here put.new.room put.result (replicate gap space) (omega (arith, first.past)) (rw left at spaces.ensures.value, rw left at spaces.ensures.room_after) in
-    let third = told_here spaces.new.room spaces.result (decimal args.n) (omega (arith, first.past, second.past)) (number.ensures.value, number.ensures.room_after) in
-    let all = length-append (replicate gap space) (decimal args.n) in
-    told_few (told_then first (told_then second third)) (omega arith)
+    let gap = args.places - digits in
+    let left : c.saturating_sub.result ≡ gap = c.saturating_sub.ensures ∙ ap (λ k. args.places - k) c.digits_of.ensures in
+    wrote_on 1 {q = 20} c.put.ensures (omega (arith, c.requires.roomy)) (omega arith) (λ h.
+    wrote_within
+    (wrote_on gap {q = digits} (rw left at c.spaces.ensures) (omega (arith, h, c.requires.places_bound)) (omega (arith, length-replicate gap space)) (λ h.
+    wrote digits c.number.ensures h (omega arith)))
+    (omega (arith, few, c.requires.places_bound)))

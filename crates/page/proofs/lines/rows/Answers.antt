@@ -1,15 +1,14 @@
--- `lines::rows` meets its contract: one line more is told.
-use Rattle.std.proofs.Common.{arith, rules, ◌≡◌, length}
-use Rattle.text.proofs.Stores.{told_then, told_within}
+-- `lines::rows` meets its contract: one line more is written.
+use Rattle.std.proofs.Common.{arith}
+use Rattle.text.proofs.Stores.{wrote_then, wrote_within}
 use Rattle.page.proofs.Told.{rows_turn}
 use Rattle.page.proofs.lines.rows.Goals as goal
 
-pub loop-i-preserved : goal.loop-i-preserved
-loop-i-preserved c =
-    let at = c.loop-i in
-    let full : length c.args.runs ≡ 256 = search rules in
+pub loop-place-preserved : goal.loop-place-preserved
+loop-place-preserved c =
+    let at = c.loop-place in
     rw
-    (rows_turn c.args.runs at.i (omega arith))
-    (told_within
-    (told_then at.invariant (told_then c.run_cells-written.ensures (rw c.counted.ensures at c.numbered-next.ensures)))
+    (rows_turn c.args.runs.now at.place (omega arith))
+    (wrote_within
+    (wrote_then at.invariant (wrote_then c.run_cells.ensures (rw c.counted.ensures at c.numbered.ensures)))
     (omega arith))
