@@ -3,7 +3,7 @@
 use Prim.Native.Nat.{ℕ, suc, ◌+◌, ◌-◌, ◌/◌, ◌%◌, ◌≤◌, ◌<◌, min}
 use mathlib.Core.Path.{◌≡◌, refl, sym, ap, ap₂, ◌∙◌}
 use mathlib.Core.Logic.{inl, inr}
-use mathlib.Core.Bool.{Bool, true, false, not, ◌&&◌, ◌||◌, cond, or-false}
+use mathlib.Core.Bool.{Bool, true, false, not, ◌||◌, cond, or-false}
 use mathlib.Core.List.{List, [], ◌∷◌, ◌++◌, map, map-append}
 use native.Mathlib.Numerals.{add-one}
 use native.Mathlib.Omega.{arith}
@@ -14,20 +14,20 @@ use lib.Seq.{drop-cons, take-suc, take_all, get_or-take, get_or-drop, get_or-app
 use borrow.Author.Tests.{leb-true, leb-false, ltb-true, ltb-false, eqb-true, le-leb, lt-leb, lt-ltb, le-ltb, ne_eqb}
 use Rattle.rules.specs.Lists.{each_of, some_of, has, outside, first_of, verdict}
 use Rattle.rules.specs.declared.Verdict.{Verdict}
-use Rattle.rules.specs.declared.Discipline.TheVariants.{RTDG, RTVC}
+use Rattle.rules.specs.declared.Discipline.TheVariants.{RTDG}
 use Rattle.rules.specs.Bus.{most_stations, least_space, most_space, most_step, places, code, Station, Bus, nothing}
 use Rattle.std.specs.Prelude.{Result, Ok, Err}
 use Rattle.rules.specs.declared.Refusal.{Refusal}
 use Rattle.rules.specs.declared.Refusal.TheVariants.{Standing, Discipline, ParameterSpace, AddressSpace, LaxityStep, StationCount, AddressRange, AddressTaken, CapabilityRange, CapabilityTaken, NoStation, ValueRange, LengthRange, Late, Filled, AllNumbered, ClockEnd, CutShort, UnknownKind, OutOfPlace, TimeBefore, TooLong, UnderWay, NoneUnderWay}
 use Rattle.rules.specs.Refusals.{number_of, answered}
-use Rattle.rules.specs.SetUp.{Asked, Request, fault, fine, capability_outside, settings_tests, station_tests, row_tests, set_up_verdict, fresh_station, fresh_bus}
+use Rattle.rules.specs.SetUp.{Asked, Request, fault, fine, settings_tests, station_tests, row_tests, set_up_verdict, fresh_station, fresh_bus}
 use Rattle.rules.specs.Standing.{asked, asked_for}
 use Rattle.rules.specs.Conditions.{settings_conditions}
 use Rattle.rules.proofs.Laws.{and-true}
 use Rattle.rules.proofs.Tests.{below, out_of, by_case, equal, negated, one_of, inside, Tried, done, ◌then◌, NoneHolds, none_held}
 use Rattle.state.specs.State.{Settings, Listed, State, no_packet, no_contender, no_contention, no_round, nobody, row, station_or, listed_form, contender_form, contender_in, recorded, form, station_at, stations_of, meaning}
 use Rattle.state.specs.SetUp.{SetUp, asked_of, request_with, settings_refusal, coded_set_up, set_up_result}
-use Rattle.state.specs.Parts.{verdict_at, no_contenders, fresh_state}
+use Rattle.state.specs.Parts.{verdict_at, address_tests, capability_tests, no_contenders, fresh_state}
 use Rattle.state.proofs.Contenders.{recorded_same}
 use Rattle.state.proofs.Rows.{take-map, values_length, values_map, values_take, row_ext, row_same}
 use Rattle.state.proofs.Form.{code_discipline}
@@ -64,18 +64,6 @@ pub has_asked :
 has_asked n f [] = refl
 has_asked n f (e ∷ earlier) = ap (λ t. eqb n (f (asked_of e)) || t) (has_asked n f earlier)
 
--- ---- the tests of a station, as the code has them
-
--- the verdict on a station by what its four tests tell
-pub station_told :
-    (g : Settings) (i : ℕ) (earlier : List Listed) (s : Listed) (past taken beyond shared : Bool) → leb g.a s.address.0 ≡ past
-    → some_of (λ l. eqb s.address.0 l.address.0) earlier ≡ taken → capability_outside g.discipline g.d s.capability.0 ≡ beyond
-    → (eqb g.discipline (code RTVC) && some_of (λ l. eqb s.capability.0 l.capability.0) earlier) ≡ shared
-    → first_of fine (station_tests (request_with g []) i (map asked_of earlier) (asked_of s))
-    ≡ verdict past (fault 7 i) (verdict taken (fault 8 i) (verdict beyond (fault 9 i) (verdict shared (fault 10 i) fine)))
-station_told g i earlier s past taken beyond shared p t o h =
-    rw (p, has_asked s.address.0 (λ e. e.address) earlier, t, o, has_asked s.capability.0 (λ e. e.capability) earlier, h)
-
 -- ---- tests in turn
 
 -- A test that holds gives its verdict, and one that fails leaves it to the rest; s is what the code answers to the test b.
@@ -98,6 +86,21 @@ turn_kept (t ∷ ts) us k =
         ≡ cond (eqb (verdict b t.0 (first_of fine ts)).refusal 0) (first_of fine us) (verdict b t.0 (first_of fine ts))
     go true h i = simp (ne_eqb t.0.refusal 0 (λ e. omega arith))
     go false h i = i
+
+-- further tests decide where the verdict of the first ones, v, is 0
+pub then_tried :
+    (ts us : List (Verdict × Bool)) {v : Verdict} {t : Bool} → each_of (λ t. ltb 0 t.0.refusal) ts ≡ true → v ≡ first_of fine ts
+    → eqb v.refusal 0 ≡ t
+    → first_of fine (ts ++ us) ≡ cond t (first_of fine us) v
+then_tried ts us {v} k e same =
+    turn_kept ts us k ∙ ap (λ w. cond (eqb w.refusal 0) (first_of fine us) w) (sym e) ∙ ap (λ b. cond b (first_of fine us) v) same
+
+-- the tests of a station in two parts, as the code has them
+pub station_parts :
+    (g : Settings) (i : ℕ) (earlier : List Listed) (s : Listed)
+    → station_tests (request_with g []) i (map asked_of earlier) (asked_of s) ≡ address_tests g i earlier s ++ capability_tests g i earlier s
+station_parts g i earlier s =
+    rw (has_asked s.address.0 (λ e. e.address) earlier, has_asked s.capability.0 (λ e. e.capability) earlier)
 
 -- the verdict on the stations from place i on
 abbrev pub fault_from : Request → List Listed → ℕ → Verdict

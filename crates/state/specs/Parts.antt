@@ -1,14 +1,14 @@
 -- The parts that the code of a state is made of, as functions: what the contracts of the private functions cite. Assumes nothing.
-use Rattle.std.specs.Prelude.{ℕ, zero, suc, ◌+◌, Result, Ok, Err, Bool, true, not, ◌&&◌, ◌||◌, cond, List, [], ◌++◌, leb, ltb, eqb, length, get_or, take}
+use Rattle.std.specs.Prelude.{ℕ, zero, suc, ◌+◌, Result, Ok, Err, Bool, true, not, ◌&&◌, ◌||◌, cond, List, [], ◌∷◌, ◌++◌, leb, ltb, eqb, length, get_or, take}
 use Rattle.window.specs.Splitting.{placed}
 use Rattle.rules.specs.Lists.{each_of, some_of, distinct}
 use Rattle.rules.specs.declared.Discipline.{Discipline}
 use Rattle.rules.specs.declared.Discipline.TheVariants.{PRI, RTDG, RTVC}
-use Rattle.rules.specs.Bus.{clock_end, most_admitted, most_turned, numbers_in}
+use Rattle.rules.specs.Bus.{code, clock_end, most_admitted, most_turned, numbers_in}
 use Rattle.rules.specs.declared.Refusal.{Refusal}
 use Rattle.rules.specs.declared.Verdict.{Verdict}
 use Rattle.rules.specs.Refusals.{number_of}
-use Rattle.rules.specs.SetUp.{fine, fault, discipline_of}
+use Rattle.rules.specs.SetUp.{fine, fault, capability_outside, discipline_of}
 use Rattle.rules.specs.Standing.{packet_fits, rising, same_packet}
 use Rattle.state.specs.State.{Capability, Settings, Listed, Contender, Recorded, Contention, Segment, Queues, State, Packet, no_packet, no_contender, recorded_at, recorded, no_contention, no_round, nobody, places_at, queue_at, row, has_no_packet, queue_padded, contender_padded, round_padded, contention_padded, each_place}
 pub use Rattle.state.specs.declared.Queue.{Queue}
@@ -38,6 +38,17 @@ packets_of queue = take queue.length queue.packets
 abbrev pub verdict_at : {X : Type 0} → ℕ → Result X Refusal → Verdict
 verdict_at i (Ok x) = fine
 verdict_at i (Err refusal) = fault (number_of refusal) i
+
+-- 7 and 8 of a station behind others, and 9 and 10
+abbrev pub address_tests : Settings → ℕ → List Listed → Listed → List (Verdict × Bool)
+address_tests g i earlier s =
+    (fault 7 i, leb g.a s.address.0) ∷ (fault 8 i, some_of (λ l. eqb s.address.0 l.address.0) earlier) ∷ []
+
+abbrev pub capability_tests : Settings → ℕ → List Listed → Listed → List (Verdict × Bool)
+capability_tests g i earlier s =
+    (fault 9 i, capability_outside g.discipline g.d s.capability.0)
+    ∷ (fault 10 i, eqb g.discipline (code RTVC) && some_of (λ l. eqb s.capability.0 l.capability.0) earlier)
+    ∷ []
 
 -- by the fault
 abbrev pub verdict_of : {X : Type 0} → Result X Fault → Verdict

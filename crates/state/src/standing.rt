@@ -1,8 +1,8 @@
 // The standing conditions: what refusal 1 goes by.
 ghost use Rattle.std.specs.Prelude.{◌+◌, ◌<◌, ◌≤◌, ◌≡◌, eqb, length};
-ghost use Rattle.rules.specs.Lists.{each_of};
+ghost use Rattle.rules.specs.Lists.{each_of, some_of};
 ghost use Rattle.rules.specs.SetUp.{discipline_of};
-ghost use Rattle.rules.specs.Standing.{packet_fits, rising};
+ghost use Rattle.rules.specs.Standing.{packet_fits, rising, same_packet};
 ghost use Rattle.state.specs.State.{has_no_packet, recorded_at, places_at, standing, waiting_in};
 ghost use Rattle.state.specs.Parts.{has_no_contender, offer_sound, contender_sound, station_test, nobody_test, place_test, parameter_fits, queues_sound, round_sound, contention_sound, in_range, parts_sound};
 
@@ -61,6 +61,13 @@ fn packet_fits(g: &Segment, p: &Packet) -> bool
         && p.admission <= g.clock
 }
 
+// Whether a packet is one of a queue's.
+fn holds(packets: &[Packet], packet: &Packet) -> bool
+    ensures { result ≡ some_of (same_packet packet.now) packets.now }
+{
+    packets.contains(packet)
+}
+
 // 'in PRI and RTVC equal to priority or capability'
 fn parameter_fits(discipline: Discipline, capability: Capability, c: &Contender) -> bool
     ensures { result ≡ parameter_fits discipline capability c.now }
@@ -78,7 +85,7 @@ fn offer_stands(g: &Segment, capability: Capability, c: &Contender, packets: &[P
     ensures { result ≡ offer_sound g.now capability c.now packets.now }
 {
     g.contention.begun
-        && packets.contains(&c.packet)
+        && holds(packets, &c.packet)
         && c.parameter < u64::from(g.settings.d)
         && parameter_fits(Discipline::from(g.settings.discipline), capability, c)
 }

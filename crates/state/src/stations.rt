@@ -6,7 +6,7 @@ ghost use Rattle.rules.specs.Bus.{most_stations, least_space, most_space, code};
 ghost use Rattle.rules.specs.SetUp.{Asked, fine, step_outside, capability_outside, settings_tests, station_tests, row_tests, set_up_verdict};
 ghost use Rattle.state.specs.State.{nobody, row};
 ghost use Rattle.state.specs.SetUp.{asked_of, request_with};
-ghost use Rattle.state.specs.Parts.{verdict_at, verdict_of, fresh_state};
+ghost use Rattle.state.specs.Parts.{verdict_at, verdict_of, address_tests, capability_tests, fresh_state};
 
 use crate::{Fault, Listed, Queues, Segment, Settings, State, zeros};
 use rules::{Refusal, Slot};
@@ -102,9 +102,9 @@ fn capability_taken(discipline: u32, stations: &[Listed], capability: Capability
     discipline == disciplines::RTVC && has_capability(stations, capability)
 }
 
-// 7 to 10, of a station behind these.
-fn station_verdict(settings: &Settings, earlier: &[Listed], s: &Listed) -> Result<(), Refusal>
-    ensures { (i : ℕ) → verdict_at i result ≡ first_of fine (station_tests (request_with settings.now []) i (map asked_of earlier.now) (asked_of s.now)) }
+// 7 and 8, of a station behind these.
+fn address_verdict(settings: &Settings, earlier: &[Listed], s: &Listed) -> Result<(), Refusal>
+    ensures { (i : ℕ) → verdict_at i result ≡ first_of fine (address_tests settings.now i earlier.now s.now) }
 {
     if sorts::is_past(settings.a, s.address) {
         return Err(Refusal::AddressRange);
@@ -112,6 +112,13 @@ fn station_verdict(settings: &Settings, earlier: &[Listed], s: &Listed) -> Resul
     if has_address(earlier, s.address) {
         return Err(Refusal::AddressTaken);
     }
+    Ok(())
+}
+
+// 9 and 10, of a station behind these.
+fn capability_verdict(settings: &Settings, earlier: &[Listed], s: &Listed) -> Result<(), Refusal>
+    ensures { (i : ℕ) → verdict_at i result ≡ first_of fine (capability_tests settings.now i earlier.now s.now) }
+{
     if capability_outside(settings.discipline, settings.d, s.capability) {
         return Err(Refusal::CapabilityRange);
     }
@@ -119,6 +126,14 @@ fn station_verdict(settings: &Settings, earlier: &[Listed], s: &Listed) -> Resul
         return Err(Refusal::CapabilityTaken);
     }
     Ok(())
+}
+
+// 7 to 10, of a station behind these.
+fn station_verdict(settings: &Settings, earlier: &[Listed], s: &Listed) -> Result<(), Refusal>
+    ensures { (i : ℕ) → verdict_at i result ≡ first_of fine (station_tests (request_with settings.now []) i (map asked_of earlier.now) (asked_of s.now)) }
+{
+    address_verdict(settings, earlier, s)?;
+    capability_verdict(settings, earlier, s)
 }
 
 // 'the first faulty station in the listed order decides'

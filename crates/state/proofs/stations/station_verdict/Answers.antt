@@ -1,72 +1,26 @@
--- `station_verdict` meets its contract: each test in its turn.
-use Rattle.std.proofs.Common.{refl, sym, ◌∙◌}
-use Rattle.state.proofs.SettingUp.{station_told}
+-- `station_verdict` meets its contract: 9 and 10 decide where 7 and 8 do not.
+use Rattle.std.proofs.Common.{◌≡◌, refl, sym, ap, ◌∙◌, Err, rules}
+use Rattle.rules.specs.Lists.{first_of}
+use Rattle.rules.specs.SetUp.{fine}
+use Rattle.state.specs.Parts.{verdict_at, address_tests, capability_tests}
+use Rattle.state.proofs.SettingUp.{refused, then_tried, station_parts}
 use Rattle.state.proofs.stations.station_verdict.Goals as goal
-
-pub returns-then-has_address : goal.returns-then-has_address
-returns-then-has_address c = λ i.
-    sym
-    (station_told
-    c.args.settings.now
-    i
-    c.args.earlier.now
-    c.args.s.now
-    _
-    _
-    _
-    _
-    (sym c.is_past.ensures ∙ c.if-is_past.false)
-    (sym c.has_address.ensures ∙ c.if-has_address.true)
-    refl
-    refl)
-
-pub returns-then-capability_outside : goal.returns-then-capability_outside
-returns-then-capability_outside c = λ i.
-    sym
-    (station_told
-    c.args.settings.now
-    i
-    c.args.earlier.now
-    c.args.s.now
-    _
-    _
-    _
-    _
-    (sym c.is_past.ensures ∙ c.if-is_past.false)
-    (sym c.has_address.ensures ∙ c.if-has_address.false)
-    (sym c.capability_outside.ensures ∙ c.if-capability_outside.true)
-    refl)
-
-pub returns-then-capability_taken : goal.returns-then-capability_taken
-returns-then-capability_taken c = λ i.
-    sym
-    (station_told
-    c.args.settings.now
-    i
-    c.args.earlier.now
-    c.args.s.now
-    _
-    _
-    _
-    _
-    (sym c.is_past.ensures ∙ c.if-is_past.false)
-    (sym c.has_address.ensures ∙ c.if-has_address.false)
-    (sym c.capability_outside.ensures ∙ c.if-capability_outside.false)
-    (sym c.capability_taken.ensures ∙ c.if-capability_taken.true))
 
 pub returns : goal.returns
 returns c = λ i.
-    sym
-    (station_told
-    c.args.settings.now
-    i
-    c.args.earlier.now
-    c.args.s.now
-    _
-    _
-    _
-    _
-    (sym c.is_past.ensures ∙ c.if-is_past.false)
-    (sym c.has_address.ensures ∙ c.if-has_address.false)
-    (sym c.capability_outside.ensures ∙ c.if-capability_outside.false)
-    (sym c.capability_taken.ensures ∙ c.if-capability_taken.false))
+    let g = c.args.settings.now in
+    let earlier = c.args.earlier.now in
+    let s = c.args.s.now in
+    let decided = then_tried (address_tests g i earlier s) (capability_tests g i earlier s) refl (c.in_ok-address_verdict.ensures i) refl in
+    c.capability_verdict.ensures i ∙ sym (ap (first_of fine) (station_parts g i earlier s) ∙ decided)
+
+pub returns-in_err-address_verdict : goal.returns-in_err-address_verdict
+returns-in_err-address_verdict c = λ i.
+    let g = c.args.settings.now in
+    let earlier = c.args.earlier.now in
+    let s = c.args.s.now in
+    let refusal = c.in_err-address_verdict.field-0.0 in
+    let given : c.from_residual.result ≡ Err refusal = search rules in
+    let decided =
+    then_tried (address_tests g i earlier s) (capability_tests g i earlier s) refl (c.in_err-address_verdict.ensures i) (refused i refusal) in
+    ap (verdict_at i) given ∙ sym (ap (first_of fine) (station_parts g i earlier s) ∙ decided)
