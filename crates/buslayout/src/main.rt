@@ -216,12 +216,10 @@ fn say_refused(input: &[u8], number: u32, offset: usize) {
 
 // Writes a scenario as a layout, or says what refuses it.
 fn show_all(rt: &HostRuntime, input: &[u8]) {
-    let s = scenario::read(input);
-    if s.refusal != 0 {
-        say_refused(input, s.refusal, s.offset);
-        return;
+    match scenario::read(input) {
+        Ok(_) => show_records(rt, input),
+        Err(e) => say_refused(input, u32::from(e.refusal), e.offset),
     }
-    show_records(rt, input);
 }
 
 // The layout of the scenario on standard input.

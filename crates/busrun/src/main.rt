@@ -89,10 +89,11 @@ fn say(words: &[u8]) {
 
 // Says what refuses the scenario, and which record.
 fn say_refused(input: &[u8]) {
-    let s = scenario::read(input);
-    let mut room = room();
-    let length = meanings::refused(input, s.refusal, s.offset, &mut room);
-    say(&room[..length]);
+    if let Err(e) = scenario::read(input) {
+        let mut room = room();
+        let length = meanings::refused(input, u32::from(e.refusal), e.offset, &mut room);
+        say(&room[..length]);
+    }
 }
 
 // Says that the text could not be written, unless it was or its reader has closed it.

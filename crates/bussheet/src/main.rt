@@ -116,16 +116,23 @@ fn measured(file: &mut fs::File, name: &[u8]) -> File {
         say_unread(name);
         return UNREAD;
     }
-    let m = measure::measure(&input[..got]);
-    if m.refusal != 0 {
-        say_refused(name, &input[..got], m.refusal, m.offset);
-    }
-    let run = m.run;
-    File {
-        read: true,
-        refusal: m.refusal,
-        offset: m.offset,
-        run,
+    match measure::measure(&input[..got]) {
+        Ok(run) => File {
+            read: true,
+            refusal: 0,
+            offset: 0,
+            run,
+        },
+        Err(e) => {
+            let refusal = u32::from(e.refusal);
+            say_refused(name, &input[..got], refusal, e.offset);
+            File {
+                read: true,
+                refusal,
+                offset: e.offset,
+                run: sheet::NO_RUN,
+            }
+        }
     }
 }
 

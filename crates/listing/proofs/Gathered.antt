@@ -8,16 +8,17 @@ use native.Mathlib.Omega.{arith}
 use lib.Dec.{eqb}
 use lib.ListN.{length, drop, set, replicate, length-append}
 use lib.Seq.{set_at, append_snoc}
-use borrow.Author.Tests.{eqb-true, eqb-false, ne_eqb}
+use borrow.Author.Tests.{eqb-true, eqb-false}
+use Rattle.std.specs.Prelude.{Option, Some, None}
 use Rattle.state.specs.declared.Arrival.{Arrival}
 use Rattle.bus.specs.Stretch.{row_places, no_arrival}
-use Rattle.scenario.specs.declared.Record.TheVariants as Is
-use Rattle.scenario.specs.Format.{Said, read_record, said}
+use Rattle.scenario.specs.Format.{Said, read_record}
 use Rattle.scenario.specs.Reading.{arrival_bytes, arrival_from}
 use Rattle.scenario.specs.Parts.{ArrivalsAt}
 use Rattle.scenario.proofs.Arrivals.{arrivals_here, arrivals_none}
 use Rattle.scenario.proofs.ReadingLaws.{arrival_within}
 use Rattle.listing.specs.Turns.{arrivals_in, next_arrivals, arrivals_form}
+use Rattle.listing.specs.Parts.{arrival_if}
 
 -- the bytes of arrivals that were found are within the input
 pub bytes_within :
@@ -135,18 +136,28 @@ at_first input from = record { first = []; filled = refl; long = refl; goes = re
 
 -- an arrival that was found is the first of them
 one_found :
-    (most : ℕ) (input : List ℕ) (at : ℕ) (a : Arrival) → said (Is.Arrival a) ≡ read_record (drop at input)
+    (most : ℕ) (input : List ℕ) (at : ℕ) (a : Arrival) → Some a ≡ arrival_if (read_record (drop at input))
     → arrivals_in (suc most) input at ≡ a ∷ arrivals_in most input (at + arrival_bytes)
 unfolding arrivals_in
-one_found most input at a e =
-    ap
-    (λ (x : Said). cond (eqb x.kind 3) (arrival_from x.values ∷ arrivals_in most input (at + 16)) [])
-    (sym e)
+one_found most input at a e = go (eqb x.kind 3) e
+  where
+    x : Said
+    x = read_record (drop at input)
+
+    arrival_or : Option Arrival → Arrival
+    arrival_or (Some b) = b
+    arrival_or None = a
+
+    go :
+        (t : Bool) → Some a ≡ cond t (Some (arrival_from x.values)) None
+        → cond t (arrival_from x.values ∷ arrivals_in most input (at + 16)) [] ≡ a ∷ arrivals_in most input (at + 16)
+    go true same = ap (λ (b : Option Arrival). arrival_or b ∷ arrivals_in most input (at + 16)) (sym same)
+    go false same = absurd (cc same)
 
 -- one arrival more
 pub one_more :
     {input : List ℕ} {from at many : ℕ} {row : List Arrival} (a : Arrival) → many < row_places → So-far input from at many row
-    → said (Is.Arrival a) ≡ read_record (drop at input) → So-far input from (at + arrival_bytes) (many + 1) (set row many a)
+    → Some a ≡ arrival_if (read_record (drop at input)) → So-far input from (at + arrival_bytes) (many + 1) (set row many a)
 one_more {input} {from} {at} {many} {row} a h x e =
     let rest = row_places - (many + 1) in
     let free : row_places - many ≡ suc rest = omega arith in
@@ -165,10 +176,19 @@ one_more {input} {from} {at} {many} {row} a h x e =
     }
 
 -- none was found, or the row is full
-pub none_found : (most : ℕ) (input : List ℕ) (at : ℕ) → ¬ ((read_record (drop at input)).kind ≡ 3) → arrivals_in most input at ≡ []
+pub none_found : (most : ℕ) (input : List ℕ) (at : ℕ) → None ≡ arrival_if (read_record (drop at input)) → arrivals_in most input at ≡ []
 unfolding arrivals_in
-none_found zero input at other = refl
-none_found (suc most) input at other = simp (ne_eqb (read_record (drop at input)).kind 3 other) refl
+none_found zero input at e = refl
+none_found (suc most) input at e = go (eqb x.kind 3) e
+  where
+    x : Said
+    x = read_record (drop at input)
+
+    go :
+        (t : Bool) → None ≡ cond t (Some (arrival_from x.values)) None
+        → cond t (arrival_from x.values ∷ arrivals_in most input (at + 16)) [] ≡ []
+    go true same = absurd (cc same)
+    go false same = refl
 
 pub row_full : (input : List ℕ) (at many : ℕ) → row_places ≤ many → arrivals_in (row_places - many) input at ≡ []
 unfolding arrivals_in

@@ -218,15 +218,8 @@ accepted_out input r arrivals steps (suc turns) fine h =
 
 -- of a refused one
 refused_out :
-    (input : List ℕ) (n offset turns : ℕ) → ¬ (n ≡ 0) → handed turns input (opened_by (scenario_form (refused n offset))) ≡ refused_text n offset
-refused_out input n offset turns bears =
-    ap (λ t. handed turns input (cond t first last)) (ne_eqb n 0 bears) ∙ ended turns input last refl
-  where
-    first : Outcome
-    first = says [] (playing nothing 0 0)
-
-    last : Outcome
-    last = says (refused_text n offset) (over (form nothing))
+    (input : List ℕ) (n offset turns : ℕ) → handed turns input (opened_by (scenario_form (refused n offset))) ≡ refused_text n offset
+refused_out input n offset turns = ended turns input (says (refused_text n offset) (over (form nothing))) refl
 
 -- The texts that are handed out, one after the other, are the listing, whatever the input, once there are turns enough.
 pub handed_out :
@@ -236,5 +229,5 @@ handed_out input turns = by_reading (reading input) (sound input)
     by_reading :
         (x : Reading) → Sound input x → turns_left input (opened_by (scenario_form x)).play ≤ turns
         → handed turns input (opened_by (scenario_form x)) ≡ listing_of x
-    by_reading (refused n offset) bears h = refused_out input n offset turns bears
+    by_reading (refused n offset) bears h = refused_out input n offset turns
     by_reading (accepted r arrivals steps) fine h = accepted_out input r arrivals steps turns fine h

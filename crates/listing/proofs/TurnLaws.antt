@@ -2,13 +2,13 @@
 use Prim.Native.Nat.{ℕ, zero, suc, ◌+◌, ◌-◌, ◌*◌, ◌≤◌}
 use mathlib.Core.Path.{◌≡◌, refl, sym, ap, ap₂, ◌∙◌, subst}
 use mathlib.Core.Logic.{◌⊎◌, inl, inr}
-use mathlib.Core.Bool.{Bool, true, false, not, cond}
+use mathlib.Core.Bool.{Bool, true, false, not}
 use mathlib.Core.List.{List, [], ◌∷◌, ◌++◌, append_assoc, append-nil}
 use native.Mathlib.Nat.{zero-add}
 use native.Mathlib.Omega.{arith}
 use mir.Val.{Val}
 use denote.Laws.{Is}
-use lib.Dec.{eqb, leb}
+use lib.Dec.{leb}
 use lib.ListN.{length, take, replicate}
 use lib.Seq.{take-append_seam}
 use borrow.Author.Tests.{eq-eqb, ne_eqb}
@@ -20,13 +20,11 @@ use Rattle.bus.specs.declared.Stretch.{Stretch}
 use Rattle.bus.specs.Coded.{totals_of}
 use Rattle.bus.specs.Stretch.{row_places, most_calls, course, no_report, stretch_of, stretch_form, no_arrival}
 use Rattle.bus.specs.contracts.Stretch as stretch-row
-use Rattle.scenario.specs.declared.Scenario.{Scenario}
 use Rattle.scenario.specs.Reading.{arrival_bytes}
 use Rattle.text.specs.Room.{room_bytes, room_with}
 use Rattle.text.specs.Parts.{Told}
 use Rattle.text.proofs.Stores.{sets_start}
-use Rattle.listing.specs.Text.{refused_text}
-use Rattle.listing.specs.Turns.{Play, Turn, Outcome, says, over, opened_by, next_arrivals, arrivals_form, report_text, reports_text, course_of, stretched}
+use Rattle.listing.specs.Turns.{Play, Turn, Outcome, says, next_arrivals, arrivals_form, report_text, reports_text, course_of, stretched}
 use Rattle.listing.specs.Turns.{closed_by, turn, turn_form}
 use Rattle.listing.specs.Parts.{TurnTold}
 use Rattle.listing.proofs.Gathered.{found_few, bytes_within}
@@ -63,16 +61,6 @@ turn-of {before} {after} {t} {o} {o'} e x =
     )
 
 -- ---- which turn it is
-
--- the play of an accepted scenario
-abbrev pub going_on : Scenario → Play
-going_on x = record { state = x.state; at = x.at; steps = x.steps; going = true }
-
--- the first turn, by whether the scenario is accepted
-pub opened_turn :
-    (x : Scenario) (t : Bool) → eqb x.refusal 0 ≡ t
-    → cond t (says [] (going_on x)) (says (refused_text x.refusal x.offset) (over x.state)) ≡ opened_by x
-opened_turn x t e = simp e refl
 
 -- a run that is over hands out nothing
 pub turn_over : (input : List ℕ) (p : Play) → p.going ≡ false → says [] p ≡ turn input p

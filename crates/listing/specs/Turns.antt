@@ -1,8 +1,10 @@
 -- The run as the code plays it, turn by turn: what `open` and `next` of src/lib.rt hand out. The text stands over the
 -- start of the room then (`room_with` of text/specs/Room.antt). Assumes nothing.
-use Rattle.std.specs.Prelude.{ℕ, zero, suc, ◌+◌, ◌-◌, ◌*◌, true, false, cond, List, [], ◌∷◌, ◌++◌, leb, eqb, length, drop, replicate}
+use Rattle.std.specs.Prelude.{ℕ, zero, suc, ◌+◌, ◌-◌, ◌*◌, true, false, cond, List, [], ◌∷◌, ◌++◌, leb, eqb, length, drop, replicate, Result, Ok, Err}
+use Rattle.rules.specs.Bus.{nothing}
 use Rattle.rules.specs.Probe.{Answer}
 use Rattle.state.specs.declared.State.{State}
+use Rattle.state.specs.State.{form}
 use Rattle.bus.specs.declared.Totals.{Totals}
 use Rattle.state.specs.declared.Arrival.{Arrival}
 use Rattle.bus.specs.declared.Arrivals.{Arrivals}
@@ -11,7 +13,7 @@ use Rattle.bus.specs.Coded.{answer_of, totals_of}
 use Rattle.bus.specs.Stretch.{row_places, Course, most_calls, course, no_arrival}
 use Rattle.scenario.specs.declared.Scenario.{Scenario}
 use Rattle.scenario.specs.Format.{arrival_kind, read_record}
-use Rattle.scenario.specs.Reading.{arrival_bytes, arrival_from, reading, scenario_form}
+use Rattle.scenario.specs.Reading.{Numbered, arrival_bytes, arrival_from, reading, scenario_form}
 pub use Rattle.listing.specs.declared.Play.{Play}
 pub use Rattle.listing.specs.declared.Turn.{Turn}
 use Rattle.listing.specs.Text.{refused_text, refusal_text, end_text, dropped_text, probed_text}
@@ -30,12 +32,9 @@ over s = record { state = s; at = 0; steps = 0; going = false }
 
 -- ---- the first turn: the scenario is read
 
-abbrev pub opened_by : Scenario → Outcome
-opened_by x =
-    cond
-    (eqb x.refusal 0)
-    (says [] (record { state = x.state; at = x.at; steps = x.steps; going = true }))
-    (says (refused_text x.refusal x.offset) (over x.state))
+abbrev pub opened_by : Result Scenario Numbered → Outcome
+opened_by (Ok x) = says [] (record { state = x.state; at = x.at; steps = x.steps; going = true })
+opened_by (Err e) = says (refused_text e.number e.offset) (over (form nothing))
 
 abbrev pub opened : List ℕ → Outcome
 opened input = opened_by (scenario_form (reading input))

@@ -2,12 +2,13 @@
 // any play.
 #![tactic(auto)]
 
-ghost use Rattle.std.specs.Prelude.{◌≤◌, ◌≡◌, false, take};
+ghost use Rattle.std.specs.Prelude.{◌≤◌, ◌≡◌, drop, false, take};
 ghost use Rattle.bus.specs.Coded.{totals_of};
 ghost use Rattle.text.specs.Room.{room_bytes, room_with};
 ghost use Rattle.text.specs.Parts.{Told, roomy};
 ghost use Rattle.listing.specs.Turns.{next_arrivals, arrivals_form, report_text, reports_text, opened, stretched, closed_by, turn, turn_form};
-ghost use Rattle.listing.specs.Parts.{TurnTold};
+ghost use Rattle.scenario.specs.Format.{read_record};
+ghost use Rattle.listing.specs.Parts.{TurnTold, arrival_if};
 
 use bus::{Arrivals, Report, Stretch};
 use rules::Slot;
@@ -62,20 +63,32 @@ pub fn open(input: &[u8], room: &mut [u8; 65536]) -> Turn
     ensures room_after { room.new ≡ room_with (opened input.now).text room.old }
     ensures length_bound { result.length ≤ room_bytes }
 {
-    let s = scenario::read(input);
-    let state = s.state;
-    if s.refusal != 0 {
-        let length = telling::refused(room, 0, s.refusal, s.offset);
-        let play = over(state);
-        return Turn { length, play };
+    match scenario::read(input) {
+        Ok(s) => {
+            let play = Play {
+                state: s.state,
+                at: s.at,
+                steps: s.steps,
+                going: true,
+            };
+            Turn { length: 0, play }
+        }
+        Err(e) => {
+            let length = telling::refused(room, 0, u32::from(e.refusal), e.offset);
+            let play = over(state::all_zero());
+            Turn { length, play }
+        }
     }
-    let play = Play {
-        state,
-        at: s.at,
-        steps: s.steps,
-        going: true,
-    };
-    Turn { length: 0, play }
+}
+
+// The arrival at an offset of the input, if the record there is one.
+fn arrival_at(input: &[u8], at: usize) -> Option<Arrival>
+    ensures { result ≡ arrival_if (read_record (drop at input.now)) }
+{
+    match scenario::record_at(input, at) {
+        Ok(Record::Arrival(arrival)) => Some(arrival),
+        _ => None,
+    }
 }
 
 // The arrivals that come next in the input, from an offset on: up to the first record that is none, 64 at the most.
@@ -86,8 +99,7 @@ pub fn gather(input: &[u8], from: usize) -> Arrivals
     let mut length = 0;
     let mut at = from;
     while length < MOST_ARRIVALS {
-        let found = scenario::record_at(input, at);
-        let Record::Arrival(arrival) = found else {
+        let Some(arrival) = arrival_at(input, at) else {
             return Arrivals { row, length };
         };
         row[length] = arrival;

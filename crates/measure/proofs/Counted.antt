@@ -27,7 +27,7 @@ use Rattle.scenario.proofs.Sound.{Sound, sound}
 use Rattle.listing.specs.Text.{refusal_text}
 use Rattle.listing.specs.Run.{Left, after, admit_due, answers_of, end_of}
 use Rattle.listing.proofs.NeverRefused.{due_stands}
-use Rattle.measure.specs.Measured.{succeeded, wait_in, longest_wait, finished, measured_of, measured, Fits}
+use Rattle.measure.specs.Measured.{succeeded, wait_in, longest_wait, finished, measured_of, measured, run_in, Fits}
 use Rattle.measure.proofs.Waits.{longer_below, none_longer}
 
 -- ---- a step
@@ -165,10 +165,10 @@ fits_of b said h few =
       wait = few;
     }
 
-pub fits : (input : List ℕ) → Fits (measured input).run
+pub fits : (input : List ℕ) → Fits (run_in (measured input))
 fits input = go (reading input) (sound input)
   where
-    go : (y : Reading) → Sound input y → Fits (measured_of y).run
+    go : (y : Reading) → Sound input y → Fits (run_in (measured_of y))
     go (refused number offset) bears =
         record
         { balanced = refl; admitted = omega arith; sent = omega arith; lost = omega arith; waiting = omega arith; turned = omega arith; wait = omega arith }
@@ -183,18 +183,18 @@ fits input = go (reading input) (sound input)
 -- the packets sent are the successes among the answers
 pub sent_are_successes :
     (input : List ℕ) (r : Request) (arrivals : List Arrival) (steps : ℕ) → reading input ≡ accepted r arrivals steps
-    → (measured input).run.sent ≡ count succeeded (answers_of steps (set_up r).1 arrivals)
+    → (run_in (measured input)).sent ≡ count succeeded (answers_of steps (set_up r).1 arrivals)
 sent_are_successes input r arrivals steps e =
     let fine : (set_up r).0.refusal ≡ 0 = (subst (Sound input) e (sound input)).0 in
     let start : (set_up r).1.sent ≡ 0 = ap (λ (b : Bus). b.sent) (accepted_set_up r fine) in
-    ap (λ (y : Reading). (measured_of y).run.sent) e ∙ omega (arith, sent_counted steps (set_up r).1 arrivals, start)
+    ap (λ (y : Reading). (run_in (measured_of y)).sent) e ∙ omega (arith, sent_counted steps (set_up r).1 arrivals, start)
 
 -- a run in which nothing was sent has no wait
-pub nothing_sent : (input : List ℕ) → (measured input).run.sent ≡ 0 → (measured input).run.wait ≡ 0
+pub nothing_sent : (input : List ℕ) → (run_in (measured input)).sent ≡ 0 → (run_in (measured input)).wait ≡ 0
 nothing_sent input = go (reading input) refl
   where
-    go : (y : Reading) → reading input ≡ y → (measured_of y).run.sent ≡ 0 → (measured_of y).run.wait ≡ 0
+    go : (y : Reading) → reading input ≡ y → (run_in (measured_of y)).sent ≡ 0 → (run_in (measured_of y)).wait ≡ 0
     go (refused number offset) is none = refl
     go (accepted r arrivals steps) is none =
         none_waits (answers_of steps (set_up r).1 arrivals)
-        (sym (sent_are_successes input r arrivals steps is) ∙ ap (λ (y : Reading). (measured_of y).run.sent) is ∙ none)
+        (sym (sent_are_successes input r arrivals steps is) ∙ ap (λ (y : Reading). (run_in (measured_of y)).sent) is ∙ none)

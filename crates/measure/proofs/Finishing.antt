@@ -7,6 +7,7 @@ use mathlib.Core.List.{List}
 use native.Mathlib.Omega.{arith}
 use lib.ListN.{length, drop, take, replicate}
 use lib.Seq.{take-append_seam}
+use Rattle.std.specs.Prelude.{Result, Ok, Err}
 use Rattle.rules.specs.Bus.{Bus}
 use Rattle.rules.specs.SetUp.{set_up}
 use Rattle.rules.specs.Standing.{stands}
@@ -22,9 +23,10 @@ use Rattle.bus.specs.declared.Stretch.{Stretch}
 use Rattle.bus.specs.declared.Totals.{Totals}
 use Rattle.bus.specs.Coded.{totals_of}
 use Rattle.bus.specs.Stretch.{Course, most_calls, no_report, stretch_form}
+use Rattle.scenario.specs.declared.Refused.{Refused}
 use Rattle.scenario.specs.declared.Scenario.{Scenario}
-use Rattle.scenario.specs.Reading.{arrival_bytes, Reading, refused, accepted, reading, scenario_form}
-use Rattle.scenario.specs.Parts.{ArrivalsAt}
+use Rattle.scenario.specs.Reading.{arrival_bytes, Numbered, numbered, Reading, refused, accepted, reading, scenario_form}
+use Rattle.scenario.specs.Parts.{refusal_in, ArrivalsAt}
 use Rattle.scenario.proofs.Sound.{Sound, sound}
 use Rattle.listing.specs.Run.{answers_of, end_of}
 use Rattle.listing.specs.declared.Play.{Play}
@@ -32,7 +34,6 @@ use Rattle.listing.specs.Turns.{next_arrivals, answers_in, course_of}
 use Rattle.listing.proofs.Played.{Runs}
 use Rattle.listing.proofs.Handed.{fewer, totals_by, totals_of_form, stretch_runs, stretch_past}
 use Rattle.sheet.specs.declared.Run.{Run}
-use Rattle.sheet.specs.Sheet.{no_run}
 use Rattle.measure.specs.Measured.{longer, longest_wait, run_of, measured_of, measured}
 use Rattle.measure.specs.Parts.{Finishes}
 use Rattle.measure.proofs.Waits.{longer_none, none_longer, longer_of_three, longest_append}
@@ -138,29 +139,33 @@ at_last input s at longest t e b arrivals h is here =
 
 -- ---- the whole
 
-module _ (input : List ℕ) (x : Scenario) (is : x ≡ scenario_form (reading input)) where
+-- the scenario of an answer that is one
+abbrev scenario_in : Result Scenario Numbered → Scenario → Scenario
+scenario_in (Ok s) other = s
+scenario_in (Err e) other = other
+
+module _ (input : List ℕ) where
   -- a scenario that is refused
-  pub refused_measured : ¬ (x.refusal ≡ 0) → record { refusal = x.refusal; offset = x.offset; run = no_run } ≡ measured input
-  refused_measured bears = go (reading input) is
+  pub refused_measured : (e : Refused) → Err (numbered e) ≡ scenario_form (reading input) → Err (numbered e) ≡ measured input
+  refused_measured e is = go (reading input) is
     where
-      go : (y : Reading) → x ≡ scenario_form y → record { refusal = x.refusal; offset = x.offset; run = no_run } ≡ measured_of y
-      go (refused number offset) e = ap (λ (s : Scenario). record { refusal = s.refusal; offset = s.offset; run = no_run }) e
-      go (accepted r arrivals steps) e = absurd (bears (ap (λ (s : Scenario). s.refusal) e))
+      go : (y : Reading) → Err (numbered e) ≡ scenario_form y → Err (numbered e) ≡ measured_of y
+      go (refused number offset) same = ap (λ (r : Result Scenario Numbered). Err (refusal_in r (numbered e))) same
+      go (accepted r arrivals steps) same = absurd (cc same)
 
   -- one that is accepted, with the run that finishes it from its set-up on
   pub accepted_measured :
-      (run : Run) → x.refusal ≡ 0 → Finishes input x.state x.at x.steps 0 run
-      → record { refusal = 0; offset = 0; run = run } ≡ measured input
-  accepted_measured run fine finishes = go (reading input) (sound input) is
+      (x : Scenario) (run : Run) → Ok x ≡ scenario_form (reading input) → Finishes input x.state x.at x.steps 0 run → Ok run ≡ measured input
+  accepted_measured x run is finishes = go (reading input) (sound input) is
     where
-      go : (y : Reading) → Sound input y → x ≡ scenario_form y → record { refusal = 0; offset = 0; run = run } ≡ measured_of y
-      go (refused number offset) bears e = absurd (bears (sym (ap (λ (s : Scenario). s.refusal) e) ∙ fine))
-      go (accepted r arrivals steps) ok e =
+      go : (y : Reading) → Sound input y → Ok x ≡ scenario_form y → Ok run ≡ measured_of y
+      go (refused number offset) bears same = absurd (cc same)
+      go (accepted r arrivals steps) ok same =
           ap
-          (λ (y : Run). record { refusal = 0; offset = 0; run = y })
+          Ok
           (subst
           (λ (s : Scenario). Finishes input s.state s.at s.steps 0 run)
-          e
+          (ap (λ (r : Result Scenario Numbered). scenario_in r x) same)
           finishes
           (set_up r).1
           arrivals

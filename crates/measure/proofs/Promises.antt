@@ -11,23 +11,23 @@ use Rattle.state.specs.declared.Arrival.{Arrival}
 use Rattle.scenario.specs.Reading.{accepted, reading}
 use Rattle.listing.specs.Run.{answers_of}
 use Rattle.listing.specs.Worked.{worked_input, turned_input}
-use Rattle.measure.specs.Measured.{succeeded, measured, Fits}
+use Rattle.measure.specs.Measured.{succeeded, measured, run_in, Fits}
 use Rattle.measure.specs.Examples.{finished_with, refused_with, later_input}
 use Rattle.measure.proofs.Counted as Counted
 use Rattle.measure.proofs.Examples as Examples
 
 -- a measured run balances, so that no sheet refuses it with 24, and its six numbers are below 2 ^ 32, whatever the input
-pub fits : (input : List ℕ) → Fits (measured input).run
+pub fits : (input : List ℕ) → Fits (run_in (measured input))
 fits = Counted.fits
 
 -- the packets sent are the successes among the answers, over which the longest wait is taken
 pub sent_are_successes :
     (input : List ℕ) (r : Request) (arrivals : List Arrival) (steps : ℕ) → reading input ≡ accepted r arrivals steps
-    → (measured input).run.sent ≡ count succeeded (answers_of steps (set_up r).1 arrivals)
+    → (run_in (measured input)).sent ≡ count succeeded (answers_of steps (set_up r).1 arrivals)
 sent_are_successes = Counted.sent_are_successes
 
 -- a run in which nothing was sent has no wait
-pub nothing_sent : (input : List ℕ) → (measured input).run.sent ≡ 0 → (measured input).run.wait ≡ 0
+pub nothing_sent : (input : List ℕ) → (run_in (measured input)).sent ≡ 0 → (run_in (measured input)).wait ≡ 0
 nothing_sent = Counted.nothing_sent
 
 -- the worked example of paper 01

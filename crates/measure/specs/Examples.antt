@@ -1,22 +1,18 @@
 -- Scenarios, measured: the worked example of paper 01, the same cut short, one whose longest wait is not that of its last success, and one in which
 -- a packet is turned away.
 -- Assumes nothing.
-use Rattle.std.specs.Prelude.{ℕ, List, [], ◌∷◌}
-use Rattle.measure.specs.Measured.{Measured}
+use Rattle.std.specs.Prelude.{ℕ, List, [], ◌∷◌, Result, Ok, Err}
+use Rattle.scenario.specs.Reading.{Numbered}
+use Rattle.sheet.specs.declared.Run.{Run}
 
 -- a scenario that is accepted, with the packets admitted, sent, lost, waiting and turned away, and the longest wait
-abbrev pub finished_with : ℕ → ℕ → ℕ → ℕ → ℕ → ℕ → Measured
+abbrev pub finished_with : ℕ → ℕ → ℕ → ℕ → ℕ → ℕ → Result Run Numbered
 finished_with admitted sent lost waiting turned wait =
-    record {
-      refusal = 0;
-      offset = 0;
-      run = record { admitted = admitted; sent = sent; lost = lost; waiting = waiting; turned = turned; wait = wait };
-    }
+    Ok (record { admitted = admitted; sent = sent; lost = lost; waiting = waiting; turned = turned; wait = wait })
 
--- a scenario that is refused: its number, the offset of what is refused, and no run
-abbrev pub refused_with : ℕ → ℕ → Measured
-refused_with number offset =
-    record { refusal = number; offset = offset; run = record { admitted = 0; sent = 0; lost = 0; waiting = 0; turned = 0; wait = 0 } }
+-- a scenario that is refused: its number, and the offset of what is refused
+abbrev pub refused_with : ℕ → ℕ → Result Run Numbered
+refused_with number offset = Err (record { number = number; offset = offset })
 
 -- Its successes wait 1, 2 and 1 slots:
 --     0 P 0 2 C

@@ -1,14 +1,13 @@
 -- A run measured (P2): from the bytes of a scenario to its finished run, or to the number and the offset of what refuses it. The counts are those
 -- of the rules' machine at the run's end, and the longest wait is over its answers. Assumes nothing.
-use Rattle.std.specs.Prelude.{ℕ, ◌<◌, max, Bool, cond, List, [], ◌∷◌, eqb}
+use Rattle.std.specs.Prelude.{ℕ, ◌<◌, max, Bool, cond, List, [], ◌∷◌, eqb, Result, Ok, Err}
 use Rattle.rules.specs.Bus.{Bus, waiting}
 use Rattle.rules.specs.SetUp.{set_up}
 use Rattle.rules.specs.Probe.{Answer, success}
-use Rattle.scenario.specs.Reading.{Reading, refused, accepted, reading}
+use Rattle.scenario.specs.Reading.{Numbered, Reading, refused, accepted, reading}
 use Rattle.listing.specs.Run.{answers_of, end_of}
 use Rattle.sheet.specs.declared.Run.{Run}
 use Rattle.sheet.specs.Sheet.{no_run, Balanced}
-pub use Rattle.measure.specs.declared.Measured.{Measured}
 
 -- whether an answer tells of a success
 abbrev pub succeeded : Answer → Bool
@@ -37,14 +36,18 @@ abbrev pub finished : Bus → List Answer → Run
 finished b answers = run_of b (longest_wait answers)
 
 -- 'A refused scenario': its number and offset, and no run
-abbrev pub measured_of : Reading → Measured
-measured_of (refused number offset) = record { refusal = number; offset = offset; run = no_run }
-measured_of (accepted r arrivals steps) =
-    record { refusal = 0; offset = 0; run = finished (end_of steps (set_up r).1 arrivals) (answers_of steps (set_up r).1 arrivals) }
+abbrev pub measured_of : Reading → Result Run Numbered
+measured_of (refused number offset) = Err (record { number = number; offset = offset })
+measured_of (accepted r arrivals steps) = Ok (finished (end_of steps (set_up r).1 arrivals) (answers_of steps (set_up r).1 arrivals))
 
 -- a scenario measured
-abbrev pub measured : List ℕ → Measured
+abbrev pub measured : List ℕ → Result Run Numbered
 measured input = measured_of (reading input)
+
+-- its run; of a refused scenario, no run
+abbrev pub run_in : Result Run Numbered → Run
+run_in (Ok x) = x
+run_in (Err e) = no_run
 
 -- a run that a sheet can have: it balances, and each of its numbers has 32 bits
 pub record Fits (x : Run) : Type 0 where

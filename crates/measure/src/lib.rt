@@ -3,22 +3,15 @@
 #![tactic(auto)]
 
 ghost use Rattle.std.specs.Prelude.{◌≤◌, ◌≡◌, take};
+ghost use Rattle.scenario.specs.Reading.{by_number};
 ghost use Rattle.listing.specs.Turns.{answers_in};
 ghost use Rattle.measure.specs.Measured.{longer, longest_wait, measured};
 ghost use Rattle.measure.specs.Parts.{wait_told, Finishes};
 
 use bus::{Event, Report, Stretch};
-use scenario::ARRIVAL_BYTES;
+use scenario::{ARRIVAL_BYTES, Refused};
 use sheet::Run;
 use state::State;
-
-// A run measured: the number of the refusal and the offset of what is refused, and no run; or 0 and 0, and the finished run.
-#[derive(Clone, Copy)]
-pub struct Measured {
-    pub refusal: u32,
-    pub offset: usize,
-    pub run: Run,
-}
 
 // The wait that a report tells: that of a success, and 0 of anything else.
 fn wait_told(report: Report) -> u32
@@ -87,22 +80,9 @@ fn played(input: &[u8], from: State, first: usize, most: u32) -> Run
 }
 
 // The finished run of a scenario, or what refuses it.
-pub fn measure(input: &[u8]) -> Measured
-    ensures { result ≡ measured input.now }
+pub fn measure(input: &[u8]) -> Result<Run, Refused>
+    ensures { by_number result ≡ measured input.now }
 {
-    let s = scenario::read(input);
-    if s.refusal != 0 {
-        return Measured {
-            refusal: s.refusal,
-            offset: s.offset,
-            run: sheet::NO_RUN,
-        };
-    }
-    let state = s.state;
-    let run = played(input, state, s.at, s.steps);
-    Measured {
-        refusal: 0,
-        offset: 0,
-        run,
-    }
+    let s = scenario::read(input)?;
+    Ok(played(input, s.state, s.at, s.steps))
 }

@@ -7,6 +7,8 @@ use mathlib.Core.List.{List}
 use mathlib.Core.Option.{none}
 use Rattle.rules.specs.SetUp.{Request}
 use Rattle.state.specs.declared.Arrival.{Arrival}
+use Rattle.std.specs.Prelude.{Result}
+use Rattle.rules.specs.declared.Refusal.{Refusal}
 use Rattle.scenario.specs.declared.Record.{Record}
 use Rattle.scenario.specs.Format.{said}
 use Rattle.scenario.specs.Reading.{accepted, reading}
@@ -29,7 +31,7 @@ pub accepted_only :
 accepted_only = Written.accepted_only
 
 -- no two answers to a record read say the same
-pub said_injective : (r r' : Record) → said r ≡ said r' → r ≡ r'
+pub said_injective : (r r' : Result Record Refusal) → said r ≡ said r' → r ≡ r'
 said_injective = Unique.said_injective
 
 -- which number at which offset: the table of refused scenarios holds

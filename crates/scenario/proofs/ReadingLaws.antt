@@ -2,7 +2,7 @@
 -- the run, what settings that pass tell, and what refuses. Assumes nothing.
 use Prim.Native.Nat.{ℕ, zero, suc, ◌+◌, ◌-◌, ◌≤◌, ◌<◌}
 use mathlib.Core.Path.{◌≡◌, refl, sym, ap, ap₂, subst, ◌∙◌}
-use mathlib.Core.Logic.{inl, inr}
+use Rattle.std.specs.Prelude.{Result, Ok, Err}
 use mathlib.Core.Bool.{Bool, true, false, not, ◌&&◌, cond}
 use mathlib.Core.Option.{some}
 use mathlib.Core.List.{List, [], ◌∷◌, ◌++◌, map, map-append, append-nil}
@@ -11,11 +11,10 @@ use native.Mathlib.Omega.{arith}
 use lib.Dec.{ltb, eqb}
 use lib.ListN.{length, take, drop, set, replicate, length-take, length-drop}
 use lib.Seq.{drop-drop, append_snoc, take-suc-set}
-use denote.Enum.Declared.{tag_of}
-use types.Run.{OneOf}
-use borrow.Author.Tests.{eqb-true, eqb-false, ltb-true, ltb-false, eq-eqb, ne_eqb}
-use Rattle.rules.specs.Lists.{each_of, has, verdict, first_of}
-use Rattle.rules.proofs.Laws.{and-true, or-false}
+use Rattle.std.proofs.lemmas.List.{take-append-le}
+use borrow.Author.Tests.{eqb-true, ltb-true, ltb-false, eq-eqb, ne_eqb}
+use Rattle.rules.specs.Lists.{each_of, verdict, first_of}
+use Rattle.rules.proofs.Laws.{and-true}
 use Rattle.rules.specs.declared.Verdict.{Verdict}
 use Rattle.rules.specs.Bus.{most_stations}
 use Rattle.rules.specs.SetUp.{Asked, Request, fine, settings_tests, station_tests, row_tests, set_up_verdict}
@@ -26,13 +25,14 @@ use Rattle.state.specs.State.{nobody}
 use Rattle.state.specs.SetUp.{asked_of, settings_refusal}
 use Rattle.state.proofs.SettingUp.{settings_pass}
 use Rattle.scenario.specs.declared.Record.TheVariants as Is
-use Rattle.scenario.specs.Format.{Record, said, out_of_place}
+use Rattle.scenario.specs.Format.{said, out_of_place}
 use Rattle.scenario.specs.Format.{Kind, arrival_kind, Said, kinds, row_of, refused_record, length_in, kind_in, said_by, body_in, read_body, read_record}
 use Rattle.scenario.specs.Reading.{EndingRead, set_up_bytes, station_bytes, arrival_bytes, run_bytes}
-use Rattle.scenario.specs.Reading.{asked_from, StationsRead, with_station, stations_from, station_offset, Reading, refused}
+use Rattle.scenario.specs.Reading.{asked_from, StationsRead, with_station, stations_from, station_offset}
 use Rattle.scenario.specs.Reading.{arrival_from, refused_ending, with_arrival, run_from, arrivals_from}
-use Rattle.scenario.specs.Parts.{run_at}
-use Rattle.scenario.specs.contracts.Record.{the_type}
+use Rattle.scenario.specs.Reading.{Refused, Numbered, numbered}
+use Rattle.scenario.specs.Parts.{refusal_in, station_from, stations_form, run_at}
+use Rattle.scenario.proofs.Refusals.{numbered_above}
 
 -- ---- the bytes of a record
 
@@ -87,71 +87,22 @@ record_within input at k e some! =
     let h : size_of k ≤ length (drop at input) = subst (λ n. size_of n ≤ length (drop at input)) e (record_fits (drop at input)) in
     omega (arith, length-drop at input)
 
--- ---- the variants of a record
+-- ---- refusals
 
--- the place of a variant among the others is the kind of what it says
-kind_tag : (found : Record) → (said found).kind ≡ tag_of the_type found
-kind_tag (Is.Refused n) = refl
-kind_tag (Is.SetUp g) = refl
-kind_tag (Is.Station s) = refl
-kind_tag (Is.Arrival a) = refl
-kind_tag (Is.Run steps) = refl
+-- what refuses has a number that is not 0
+refuses : (e : Refused) (n offset : ℕ) → ◌≡◌ {A = Numbered} (numbered e) (record { number = n; offset = offset }) → eqb n 0 ≡ false
+refuses e n offset same = ne_eqb n 0 (λ z. numbered_above e.refusal (ap (λ (x : Numbered). x.number) same ∙ z))
 
--- the places of the other variants, where a record is no set-up
-pub not_set_up : (found : Record) → ((x : Settings) → found ≡ Is.SetUp x → ⊥) → OneOf (0 ∷ 2 ∷ 3 ∷ 4 ∷ []) (tag_of the_type found)
-not_set_up (Is.Refused n) other = inl refl
-not_set_up (Is.SetUp g) other = absurd (other g refl)
-not_set_up (Is.Station s) other = inr (inl refl)
-not_set_up (Is.Arrival a) other = inr (inr (inl refl))
-not_set_up (Is.Run steps) other = inr (inr (inr refl))
-
--- where it is no station
-pub not_station : (found : Record) → ((x : Listed) → found ≡ Is.Station x → ⊥) → OneOf (0 ∷ 1 ∷ 3 ∷ 4 ∷ []) (tag_of the_type found)
-not_station (Is.Refused n) other = inl refl
-not_station (Is.SetUp g) other = inr (inl refl)
-not_station (Is.Station s) other = absurd (other s refl)
-not_station (Is.Arrival a) other = inr (inr (inl refl))
-not_station (Is.Run steps) other = inr (inr (inr refl))
-
--- where it is no arrival
-pub not_arrival : (found : Record) → ((x : Arrival) → found ≡ Is.Arrival x → ⊥) → OneOf (0 ∷ 1 ∷ 2 ∷ 4 ∷ []) (tag_of the_type found)
-not_arrival (Is.Refused n) other = inl refl
-not_arrival (Is.SetUp g) other = inr (inl refl)
-not_arrival (Is.Station s) other = inr (inr (inl refl))
-not_arrival (Is.Arrival a) other = absurd (other a refl)
-not_arrival (Is.Run steps) other = inr (inr (inr refl))
-
--- where it is no run
-pub not_run : (found : Record) → ((x : ℕ) → found ≡ Is.Run x → ⊥) → OneOf (0 ∷ 1 ∷ 2 ∷ 3 ∷ []) (tag_of the_type found)
-not_run (Is.Refused n) other = inl refl
-not_run (Is.SetUp g) other = inr (inl refl)
-not_run (Is.Station s) other = inr (inr (inl refl))
-not_run (Is.Arrival a) other = inr (inr (inr refl))
-not_run (Is.Run steps) other = absurd (other steps refl)
-
--- a record that is one of the other variants is not of the kind
-pub other_kind :
-    (k : ℕ) (others : List ℕ) (found : Record) (x : Said) → said found ≡ x → has k others ≡ false → OneOf others (tag_of the_type found)
-    → ¬ (x.kind ≡ k)
-other_kind k others found x e none one s =
-    let tag : k ≡ tag_of the_type found = sym s ∙ ap (λ (y : Said). y.kind) (sym e) ∙ kind_tag found in
-    go others none one tag
-  where
-    go : (ks : List ℕ) → has k ks ≡ false → OneOf ks (tag_of the_type found) → k ≡ tag_of the_type found → ⊥
-    go [] none one tag = one
-    go (j ∷ []) none one tag = eqb-false k j (or-false (eqb k j) false none).0 (tag ∙ one)
-    go (j ∷ j' ∷ ks) none (inl s) tag = eqb-false k j (or-false (eqb k j) (has k (j' ∷ ks)) none).0 (tag ∙ s)
-    go (j ∷ j' ∷ ks) none (inr later) tag = go (j' ∷ ks) (or-false (eqb k j) (has k (j' ∷ ks)) none).1 later tag
+-- an answer that is a refusal, where one that goes by a number is either
+pub refused_by :
+    {X Y : Type 0} (e : Refused) (n offset : ℕ) (y : Result Y Numbered)
+    → ◌≡◌ {A = Result X Numbered} (Err (numbered e)) (Err (record { number = n; offset = offset }))
+    → ◌≡◌ {A = Result Y Numbered} (Err (numbered e)) (cond (eqb n 0) y (Err (record { number = n; offset = offset })))
+refused_by e n offset y same =
+    let told = ap (λ r. refusal_in r (numbered e)) same in
+    ap Err told ∙ ap (λ t. cond t y (Err (record { number = n; offset = offset }))) (sym (refuses e n offset told))
 
 -- ---- the stations
-
--- one turn of the stations, by what the record says
-abbrev stations_by : Said → ℕ → ℕ → List ℕ → StationsRead
-stations_by x n offset rest =
-    cond
-    (eqb x.kind 2)
-    (with_station (asked_from x.values) (stations_from n (offset + station_bytes) (drop station_bytes rest)))
-    (record { refusal = out_of_place x; offset = offset; asked = [] })
 
 -- stations taken in front of those that are read after them
 abbrev pub with_stations : List Asked → StationsRead → StationsRead
@@ -165,11 +116,11 @@ stations_after input stations n i =
 -- one turn where the next record is a station, which is put into the array
 pub station_turn :
     (input : List ℕ) (stations : List Listed) (n i : ℕ) (s : Listed) → i < n → i < length stations
-    → said (Is.Station s) ≡ read_record (drop (station_offset i) input)
+    → Ok (asked_of s) ≡ station_from (read_record (drop (station_offset i) input)) (station_offset i)
     → stations_after input stations n i ≡ stations_after input (set stations i s) n (i + 1)
 station_turn input stations n i s h l e =
     ap (λ k. with_stations before (stations_from k (station_offset i) rest)) more
-    ∙ ap (λ x. with_stations before (stations_by x m (station_offset i) rest)) (sym e)
+    ∙ ap (with_stations before) (here (eqb x.kind 2) e)
     ∙ ap₂
     (λ o r. with_stations before (with_station (asked_of s) (stations_from m o r)))
     next
@@ -184,11 +135,29 @@ station_turn input stations n i s h l e =
     rest : List ℕ
     rest = drop (station_offset i) input
 
+    x : Said
+    x = read_record rest
+
     m : ℕ
     m = n - (i + 1)
 
     later : StationsRead
     later = stations_from m (station_offset (i + 1)) (drop (station_offset (i + 1)) input)
+
+    after : StationsRead
+    after = stations_from m (station_offset i + station_bytes) (drop station_bytes rest)
+
+    asked_in : Result Asked Numbered → Asked
+    asked_in (Ok a) = a
+    asked_in (Err r) = asked_of s
+
+    here :
+        (t : Bool)
+        → ◌≡◌ {A = Result Asked Numbered} (Ok (asked_of s)) (cond t (Ok (asked_from x.values)) (Err (record { number = out_of_place x; offset = station_offset i })))
+        → cond t (with_station (asked_from x.values) after) (record { refusal = out_of_place x; offset = station_offset i; asked = [] })
+        ≡ with_station (asked_of s) after
+    here true same = ap (λ a. with_station (asked_in a) after) (sym same)
+    here false same = absurd (cc same)
 
     more : n - i ≡ suc m
     more = omega arith
@@ -204,24 +173,37 @@ station_turn input stations n i s h l e =
 
 -- where it is none
 pub station_other :
-    (input : List ℕ) (stations : List Listed) (n i : ℕ) → i < n → ¬ ((read_record (drop (station_offset i) input)).kind ≡ 2)
-    → stations_after input stations n i
-    ≡ record {
-      refusal = out_of_place (read_record (drop (station_offset i) input));
-      offset = station_offset i;
-      asked = map asked_of (take i stations);
-    }
-station_other input stations n i h e =
+    (input : List ℕ) (stations : List Listed) (n i : ℕ) (e : Refused) → i < n
+    → Err (numbered e) ≡ station_from (read_record (drop (station_offset i) input)) (station_offset i)
+    → Err (numbered e) ≡ stations_form (stations_after input stations n i)
+station_other input stations n i e h same =
     let more : n - i ≡ suc (n - (i + 1)) = omega arith in
-    ap (λ k. with_stations before (stations_from k (station_offset i) (drop (station_offset i) input))) more
-    ∙ simp (ne_eqb x.kind 2 e)
-    (ap (λ asked. record { refusal = out_of_place x; offset = station_offset i; asked = asked }) (append-nil before))
+    here (eqb x.kind 2) same
+    ∙ ap (λ k. stations_form (with_stations before (stations_from k (station_offset i) (drop (station_offset i) input)))) (sym more)
   where
     x : Said
     x = read_record (drop (station_offset i) input)
 
     before : List Asked
     before = map asked_of (take i stations)
+
+    after : StationsRead
+    after =
+        with_station
+        (asked_from x.values)
+        (stations_from (n - (i + 1)) (station_offset i + station_bytes) (drop station_bytes (drop (station_offset i) input)))
+
+    here :
+        (t : Bool)
+        → ◌≡◌
+        {A = Result Asked Numbered}
+        (Err (numbered e))
+        (cond t (Ok (asked_from x.values)) (Err (record { number = out_of_place x; offset = station_offset i })))
+        → Err (numbered e)
+        ≡ stations_form
+        (with_stations before (cond t after (record { refusal = out_of_place x; offset = station_offset i; asked = [] })))
+    here true same = absurd (cc same)
+    here false same = refused_by e (out_of_place x) (station_offset i) (Ok (before ++ [])) same
 
 -- and where all are read
 pub stations_end :
@@ -234,6 +216,14 @@ stations_end input stations n i h l =
     ∙ ap
     (λ asked. record { refusal = 0; offset = 0; asked = asked })
     (append-nil (map asked_of (take i stations)) ∙ ap (λ k. map asked_of (take k stations)) same)
+
+-- the array then has them, whatever stands past them
+pub stations_all :
+    (input : List ℕ) (stations others : List Listed) (n i : ℕ) → i ≤ n → n ≤ i → n ≤ length stations
+    → Ok (map asked_of (take n (stations ++ others))) ≡ stations_form (stations_after input stations n i)
+stations_all input stations others n i h l long =
+    ap (λ s. Ok (map asked_of s)) (take-append-le n stations others long)
+    ∙ ap stations_form (sym (stations_end input stations n i h l))
 
 -- ---- the arrivals
 
@@ -291,7 +281,7 @@ arrival_within input at e = record_within input at 3 e (omega arith)
 
 -- one turn where the record is an arrival; t is whether its time is below the previous one's
 pub arrival_turn :
-    (input : List ℕ) (at previous : ℕ) (a : Arrival) (t : Bool) → said (Is.Arrival a) ≡ read_record (drop at input)
+    (input : List ℕ) (at previous : ℕ) (a : Arrival) (t : Bool) → said (Ok (Is.Arrival a)) ≡ read_record (drop at input)
     → t ≡ ltb a.time.0 previous
     → arrivals_from (suc (length input)) previous at (drop at input)
     ≡ cond
@@ -326,7 +316,7 @@ run_other input at e = rw (ne_eqb (read_record (drop at input)).kind 4 e)
 
 -- where it is one; t is whether bytes come after it
 pub run_here :
-    (input : List ℕ) (at steps : ℕ) (t : Bool) → said (Is.Run steps) ≡ read_record (drop at input)
+    (input : List ℕ) (at steps : ℕ) (t : Bool) → said (Ok (Is.Run steps)) ≡ read_record (drop at input)
     → t ≡ ltb (at + run_bytes) (length input)
     → run_at input at
     ≡ cond t (refused_ending 20 (at + run_bytes)) (record { refusal = 0; offset = 0; arrivals = []; steps = steps })
@@ -357,56 +347,42 @@ run_here input at steps t e more =
 pub few_stations : (g : Settings) → settings_refusal g ≡ 0 → g.n ≤ 64
 few_stations g e = (settings_pass g (replicate most_stations (asked_of nobody)) e).few
 
--- each of these tests is about the station at place i
-abbrev About : ℕ → List (Verdict × Bool) → Type 0
-About i [] = Unit {0}
-About i (t ∷ ts) = (t.0.station ≡ i) × About i ts
+-- a verdict on a set-up: one of the numbers to 10, about one of m stations
+abbrev Fits : ℕ → Verdict → Type 0
+Fits m v = (v.refusal ≤ 10) × (v.station ≤ m)
 
--- the verdict is about one of m stations where the first tests are about such a one, and the others' verdict is
-tests_about :
-    (m i : ℕ) (ts us : List (Verdict × Bool)) → About i ts → i ≤ m → (first_of fine us).station ≤ m → (first_of fine (ts ++ us)).station ≤ m
-tests_about m i [] us a h l = l
-tests_about m i (t ∷ ts) us a h l = go t.1 (tests_about m i ts us a.1 h l)
+-- each of these tests has such a verdict
+abbrev Each : ℕ → List (Verdict × Bool) → Type 0
+Each m [] = Unit {0}
+Each m (t ∷ ts) = Fits m t.0 × Each m ts
+
+-- where the first tests have, and the others' verdict is one, so is the verdict of all
+tests_fit : (m : ℕ) (ts us : List (Verdict × Bool)) → Each m ts → Fits m (first_of fine us) → Fits m (first_of fine (ts ++ us))
+tests_fit m [] us a l = l
+tests_fit m (t ∷ ts) us a l = go t.1 (tests_fit m ts us a.1 l)
   where
-    go : (b : Bool) → (first_of fine (ts ++ us)).station ≤ m → (verdict b t.0 (first_of fine (ts ++ us))).station ≤ m
-    go true k = let e = a.0 in omega arith
+    go : (b : Bool) → Fits m (first_of fine (ts ++ us)) → Fits m (verdict b t.0 (first_of fine (ts ++ us)))
+    go true k = a.0
     go false k = k
 
 -- the verdict on the stations from place i on is about one of m, if these are that many at most
-row_about :
-    (r : Request) (m i : ℕ) (earlier later : List Asked) → i + length later ≤ m
-    → (first_of fine (row_tests r i earlier later)).station ≤ m
-row_about r m i earlier [] h = omega arith
-row_about r m i earlier (s ∷ later) h =
-    tests_about
+row_fits :
+    (r : Request) (m i : ℕ) (earlier later : List Asked) → i + length later ≤ m → Fits m (first_of fine (row_tests r i earlier later))
+row_fits r m i earlier [] h = (omega arith, omega arith)
+row_fits r m i earlier (s ∷ later) h =
+    tests_fit
     m
-    i
     (station_tests r i earlier s)
     (row_tests r (suc i) (earlier ++ (s ∷ [])) later)
-    (refl, (refl, (refl, (refl, tt))))
-    (omega arith)
-    (row_about r m (suc i) (earlier ++ (s ∷ [])) later (omega arith))
+    ((omega arith, omega arith), ((omega arith, omega arith), ((omega arith, omega arith), ((omega arith, omega arith), tt))))
+    (row_fits r m (suc i) (earlier ++ (s ∷ [])) later (omega arith))
 
--- the verdict on a set-up is about one of its stations
-pub verdict_about : (r : Request) → (set_up_verdict r).station ≤ r.N
-verdict_about r =
-    tests_about
+-- the verdict on a set-up has one of the numbers to 10, and is about one of its stations
+pub verdict_fits : (r : Request) → ((set_up_verdict r).refusal ≤ 10) × ((set_up_verdict r).station ≤ r.N)
+verdict_fits r =
+    tests_fit
     r.N
-    0
     (settings_tests r)
     (row_tests r 0 [] (take r.N r.row))
-    (refl, (refl, (refl, (refl, (refl, tt)))))
-    (omega arith)
-    (row_about r r.N 0 [] (take r.N r.row) (omega (arith, length-take r.N r.row)))
-
--- ---- refusals
-
--- a number that is not 0 refuses
-pub refused_by :
-    (n m offset at : ℕ) (x : Reading) → m ≡ n → at ≡ offset → ¬ (m ≡ 0) → refused m at ≡ cond (eqb n 0) x (refused n offset)
-refused_by n m offset at x e f h =
-    ap₂ refused e f ∙ ap (λ t. cond t x (refused n offset)) (sym (ne_eqb n 0 (λ z. h (e ∙ z))))
-
--- and 0 does not
-pub not_refused : (n m offset : ℕ) (x : Reading) → m ≡ n → m ≡ 0 → cond (eqb n 0) x (refused n offset) ≡ x
-not_refused n m offset x e z = ap (λ t. cond t x (refused n offset)) (eq-eqb n 0 (sym e ∙ z))
+    ((omega arith, omega arith), ((omega arith, omega arith), ((omega arith, omega arith), ((omega arith, omega arith), ((omega arith, omega arith), tt)))))
+    (row_fits r r.N 0 [] (take r.N r.row) (omega (arith, length-take r.N r.row)))

@@ -8,7 +8,7 @@ use native.Mathlib.Omega.{arith}
 use lib.Dec.{ltb, eqb}
 use lib.ListN.{length, take, drop, length-append}
 use lib.Seq.{take_all, drop_at, drop-drop}
-use borrow.Author.Tests.{le-ltb, ltb-false, eqb-true}
+use borrow.Author.Tests.{eq-eqb, le-ltb, ltb-false, eqb-true}
 use Rattle.rules.specs.Lists.{outside, at_head, in_tail, All, first_of}
 use Rattle.rules.specs.declared.Verdict.{Verdict}
 use Rattle.rules.specs.declared.Discipline.TheVariants.{RTDG, RTVC}
@@ -30,7 +30,7 @@ use Rattle.scenario.specs.Reading.{Reading, refused, accepted, station_offset, r
 use Rattle.scenario.specs.Reading.{read_settings, read_set_up, reading}
 use Rattle.scenario.specs.Writing.{Bytes, record_bytes, set_up_values, station_values, arrival_values, run_values}
 use Rattle.scenario.specs.Writing.{stations_bytes, ending_bytes, written, ArrivalFits, InOrder, Good}
-use Rattle.scenario.proofs.ReadingLaws.{arrivals_by, not_refused}
+use Rattle.scenario.proofs.ReadingLaws.{arrivals_by}
 use Rattle.scenario.proofs.WrittenRecords.{bytes_drop, Fit, set_up_row, station_row, arrival_row, run_row}
 use Rattle.scenario.proofs.WrittenRecords.{past_record, record_read, told, place_refused, record_written}
 
@@ -204,6 +204,10 @@ ending_long : (arrivals : List Arrival) (steps : ℕ) → length arrivals ≤ le
 ending_long [] steps = omega arith
 ending_long (a ∷ later) steps = omega (arith, ending_long later steps)
 
+-- what the number 0 does not refuse
+not_refused : (n offset : ℕ) (x : Reading) → n ≡ 0 → cond (eqb n 0) x (refused n offset) ≡ x
+not_refused n offset x z = ap (λ t. cond t x (refused n offset)) (eq-eqb n 0 z)
+
 -- No good scenario is refused: its bytes are accepted, as what they were written from.
 pub accepted_if :
     (r : Request) (arrivals : List Arrival) (steps : ℕ) → Good r arrivals steps
@@ -211,9 +215,9 @@ pub accepted_if :
 accepted_if r arrivals steps good =
     ap (λ t. cond t (refused 22 0) (read_set_up (read_record input) input)) (le-ltb most_bytes (length input) good.short)
     ∙ ap (λ x. read_set_up x input) (record_read set_up_kind (set_up_values r) behind set_up_row fits)
-    ∙ not_refused (settings_refusal g) (settings_refusal g) 0 (read_stations g stations input) refl (settings_fine r good.set_up_call)
+    ∙ not_refused (settings_refusal g) 0 (read_stations g stations input) (settings_fine r good.set_up_call)
     ∙ ap (λ x. read_stations g x input) stations_are
-    ∙ not_refused (set_up_verdict r).refusal (set_up_verdict r).refusal _ _ refl good.set_up_call
+    ∙ not_refused (set_up_verdict r).refusal _ _ good.set_up_call
     ∙ ap (read_ending r) ending_is
   where
     input : List ℕ

@@ -1,7 +1,9 @@
 -- The records of a scenario (paper 01, 'The scenario and its listing'): 'a two-byte length (of what follows it), a two-byte kind, a body, all
 -- little-endian'. What a record says is its kind and its values, or the number that refuses it. Assumes nothing.
-use Rattle.std.specs.Prelude.{ℕ, ◌+◌, ◌-◌, ◌*◌, ◌&&◌, cond, List, [], ◌∷◌, ltb, eqb, length, take, drop}
+use Rattle.std.specs.Prelude.{ℕ, ◌+◌, ◌-◌, ◌*◌, ◌&&◌, cond, List, [], ◌∷◌, ltb, eqb, length, take, drop, Result, Ok, Err}
 use Rattle.std.proofs.Math.Option.{Option, none, some}
+use Rattle.rules.specs.declared.Refusal.{Refusal}
+use Rattle.rules.specs.Refusals.{number_of}
 pub use Rattle.scenario.specs.declared.Record.{Record}
 use Rattle.scenario.specs.declared.Record.TheVariants as Is
 
@@ -84,12 +86,12 @@ abbrev pub read_record : List ℕ → Said
 read_record rest = cond (ltb (length rest) 4) (refused_record 18) (read_body (row_of (kind_in rest) (length_in rest) kinds) rest)
 
 -- What the code's answer to a record read says: for each of its cases the kind and the values, or the number.
-abbrev pub said : Record → Said
-said (Is.Refused n) = refused_record n
-said (Is.SetUp g) = record { refusal = 0; kind = set_up_kind.kind; values = g.discipline ∷ g.d ∷ g.a ∷ g.q ∷ g.n ∷ [] }
-said (Is.Station s) = record { refusal = 0; kind = station_kind.kind; values = s.address.0 ∷ s.capability.0 ∷ [] }
-said (Is.Arrival a) = record { refusal = 0; kind = arrival_kind.kind; values = a.time.0 ∷ a.address.0 ∷ a.value ∷ a.length ∷ [] }
-said (Is.Run steps) = record { refusal = 0; kind = run_kind.kind; values = steps ∷ [] }
+abbrev pub said : Result Record Refusal → Said
+said (Err refusal) = refused_record (number_of refusal)
+said (Ok (Is.SetUp g)) = record { refusal = 0; kind = set_up_kind.kind; values = g.discipline ∷ g.d ∷ g.a ∷ g.q ∷ g.n ∷ [] }
+said (Ok (Is.Station s)) = record { refusal = 0; kind = station_kind.kind; values = s.address.0 ∷ s.capability.0 ∷ [] }
+said (Ok (Is.Arrival a)) = record { refusal = 0; kind = arrival_kind.kind; values = a.time.0 ∷ a.address.0 ∷ a.value ∷ a.length ∷ [] }
+said (Ok (Is.Run steps)) = record { refusal = 0; kind = run_kind.kind; values = steps ∷ [] }
 
 -- what refuses a record that is not of the kind that has its place here: its own refusal, or '20: record out of place'
 abbrev pub out_of_place : Said → ℕ

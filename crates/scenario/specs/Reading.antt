@@ -1,13 +1,13 @@
 -- A whole scenario: 'Order: one set-up, N stations, any arrivals, one run', and what refuses it. 'Checks: 22 first; per record 20 if the
 -- run record has gone by, 18 if under four bytes remain, 19, 18 for a short body, 20, 21. Refusals 2 to 6 come as the set-up is read, 7 to 10
 -- once the last station is read.' Assumes nothing.
-use Rattle.std.specs.Prelude.{ℕ, zero, suc, ◌+◌, ◌*◌, cond, List, [], ◌∷◌, ltb, eqb, length, get_or, drop}
-use Rattle.rules.specs.Bus.{nothing}
+use Rattle.std.specs.Prelude.{ℕ, zero, suc, ◌+◌, ◌*◌, cond, List, [], ◌∷◌, ltb, eqb, length, get_or, drop, Result, Ok, Err}
+use Rattle.rules.specs.Refusals.{number_of}
 use Rattle.rules.specs.SetUp.{Asked, Request, set_up_verdict}
 use Rattle.state.specs.declared.Arrival.{Arrival}
 use Rattle.state.specs.declared.Settings.{Settings}
-use Rattle.state.specs.State.{form}
 use Rattle.state.specs.SetUp.{request_with, settings_refusal, coded_set_up}
+pub use Rattle.scenario.specs.declared.Refused.{Refused}
 pub use Rattle.scenario.specs.declared.Scenario.{Scenario}
 use Rattle.scenario.specs.Format.{set_up_kind, station_kind, arrival_kind, run_kind, Said, read_record, out_of_place}
 
@@ -144,9 +144,21 @@ read_set_up x input = cond (eqb x.kind set_up_kind.kind) (read_settings (setting
 abbrev pub reading : List ℕ → Reading
 reading input = cond (ltb most_bytes (length input)) (refused 22 0) (read_set_up (read_record input) input)
 
+-- 'REFUSED number offset', as the code says it
+pub record Numbered : Type 0 where
+  pub number : ℕ
+  pub offset : ℕ
+
+abbrev pub numbered : Refused → Numbered
+numbered e = record { number = number_of e.refusal; offset = e.offset }
+
+-- an answer of the code, with its refusal so
+abbrev pub by_number : {X : Type 0} → Result X Refused → Result X Numbered
+by_number (Ok x) = Ok x
+by_number (Err e) = Err (numbered e)
+
 -- What the code's answer says. 'A refused scenario' leaves nothing behind but its number and offset. An accepted one is set up; its arrivals
 -- stand in the input from an offset on.
-abbrev pub scenario_form : Reading → Scenario
-scenario_form (refused n offset) = record { refusal = n; offset = offset; state = form nothing; at = 0; steps = 0 }
-scenario_form (accepted r arrivals steps) =
-    record { refusal = 0; offset = 0; state = (coded_set_up r).1; at = station_offset r.N; steps = steps }
+abbrev pub scenario_form : Reading → Result Scenario Numbered
+scenario_form (refused n offset) = Err (record { number = n; offset = offset })
+scenario_form (accepted r arrivals steps) = Ok (record { state = (coded_set_up r).1; at = station_offset r.N; steps = steps })

@@ -3,20 +3,26 @@ ghost use Rattle.std.specs.Prelude.{◌<◌, ◌≤◌, ◌≡◌, get_or, take,
 ghost use Rattle.scenario.specs.Format.{number};
 
 // The byte at an offset.
-pub fn one(s: &[u8], at: usize) -> u32
-    ensures upper_bound { result < 256 }
-    ensures value { result ≡ get_or s.now at 0 }
+fn byte(s: &[u8], at: usize) -> u8
+    ensures { result ≡ get_or s.now at 0 }
 {
-    if at < s.len() { s[at] as u32 } else { 0 }
+    s.get(at).copied().unwrap_or(0)
+}
+
+// The one-byte number at an offset.
+pub fn one(s: &[u8], at: usize) -> u32
+    ensures { result ≡ number (take 1 (drop at s.now)) }
+{
+    u32::from(byte(s, at))
 }
 
 // The two-byte number at an offset.
 pub fn two(s: &[u8], at: usize) -> u32
     requires { at ≤ 16 }
-    ensures upper_bound { result < 65_536 }
-    ensures value { result ≡ number (take 2 (drop at s.now)) }
+    ensures { result ≡ number (take 2 (drop at s.now)) }
 {
-    one(s, at) + 256 * one(s, at + 1)
+    let bytes = [byte(s, at), byte(s, at + 1)];
+    u32::from(u16::from_le_bytes(bytes))
 }
 
 // The four-byte number at an offset.
@@ -24,5 +30,11 @@ pub fn four(s: &[u8], at: usize) -> u32
     requires { at ≤ 14 }
     ensures { result ≡ number (take 4 (drop at s.now)) }
 {
-    two(s, at) + 65_536 * two(s, at + 2)
+    let bytes = [
+        byte(s, at),
+        byte(s, at + 1),
+        byte(s, at + 2),
+        byte(s, at + 3),
+    ];
+    u32::from_le_bytes(bytes)
 }

@@ -8,6 +8,7 @@ use native.Mathlib.Omega.{arith}
 use lib.Dec.{eqb}
 use lib.ListN.{length, drop}
 use borrow.Author.Tests.{ne_eqb}
+use Rattle.std.specs.Prelude.{Ok}
 use Rattle.state.specs.declared.Settings.{Settings}
 use Rattle.scenario.specs.declared.Record.TheVariants as Is
 use Rattle.scenario.specs.Format.{set_up_kind, Said, said, read_record}
@@ -49,7 +50,7 @@ pub first_other :
 first_other input room at other = rw (ne_eqb (read_record input).kind 1 other) (record { next = refl; told = told_none room 0 most_line })
 
 pub first_set_up :
-    {before after : List ℕ} {s : Shown} (input : List ℕ) (at : ℕ) (g : Settings) → said (Is.SetUp g) ≡ read_record input
+    {before after : List ℕ} {s : Shown} (input : List ℕ) (at : ℕ) (g : Settings) → said (Ok (Is.SetUp g)) ≡ read_record input
     → LineTold before after s (line_of g at (read_record (drop at input))) → LineTold before after s (shown_at input at)
 first_set_up {before} {after} {s} input at g e line = subst (λ (x : Said). LineTold before after s (shown_by x input at)) e line
 

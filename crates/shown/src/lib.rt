@@ -29,9 +29,10 @@ pub struct Shown {
 fn line(input: &[u8], at: usize, settings: Settings, room: &mut [u8; 65536]) -> Shown
     ensures { LineTold room.old room.new result (line_of settings at (read_record (drop at input.now))) }
 {
-    let found = scenario::record_at(input, at);
+    let Ok(found) = scenario::record_at(input, at) else {
+        return Shown { length: 0, next: 0 };
+    };
     match found {
-        Record::Refused(_) => Shown { length: 0, next: 0 },
         Record::SetUp(own) => Shown {
             length: lines::bus(room, own),
             next: at + SET_UP_BYTES,
@@ -58,8 +59,7 @@ pub fn show(input: &[u8], at: usize, room: &mut [u8; 65536]) -> Shown
     ensures room_after { room.new ≡ room_with (shown_at input.now at).text room.old }
     ensures length_le_room_bytes { result.length ≤ room_bytes }
 {
-    let first = scenario::record_at(input, 0);
-    let Record::SetUp(settings) = first else {
+    let Ok(Record::SetUp(settings)) = scenario::record_at(input, 0) else {
         return Shown { length: 0, next: 0 };
     };
     line(input, at, settings, room)

@@ -1,5 +1,5 @@
 -- `show` meets its contract: by whether the first record is a set-up.
-use Rattle.std.proofs.Common.{sym, ap, ◌∙◌}
+use Rattle.std.proofs.Common.{sym, ap, ◌∙◌, Ok}
 use Rattle.scenario.specs.Format.{said}
 use Rattle.shown.proofs.Storing.{first_set_up, line_shown}
 use Rattle.shown.proofs.show.Goals as goal
@@ -8,7 +8,7 @@ pub returns : goal.returns
 returns c =
     let args = c.args in
     let all = line_shown
-    (first_set_up args.input.now args.at c.in-SetUp.settings (ap said (sym c.in-SetUp.is) ∙ c.record_at-first.ensures)
+    (first_set_up args.input.now args.at c.in-Ok-SetUp.settings (ap (λ r. said (Ok r)) (sym c.in-Ok-SetUp.field-0-is) ∙ c.in-Ok-SetUp.ensures)
     c.line.ensures) in
     record {
       value = all.0;
