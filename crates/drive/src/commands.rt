@@ -1,73 +1,131 @@
-// A command of a script: its letter and its numbers.
-ghost use Rattle.std.specs.Prelude.{◌≤◌};
+// The commands of a script.
+ghost use Rattle.std.specs.Prelude.{◌<◌, ◌≤◌, length};
+ghost use Rattle.std.specs.Option.{IsSome};
 
-use crate::words;
+use crate::script::Script;
+use bus::Arrivals;
+use rules::Slot;
+use sorts::{Address, Capability};
+use state::{Arrival, Listed, Row, Settings, zeros};
 
-// A letter, its numbers in their order, those of pairs and fours after the others, and the place after them. What a command does not have is
-// zero.
+// A command, by its letter, with its numbers.
 #[derive(Clone, Copy)]
-pub struct Command {
-    pub letter: u8,
-    pub numbers: [u64; 259],
-    pub at: usize,
+pub enum Command {
+    SetUp {
+        settings: Settings,
+        row: Row,
+    },
+    Admit {
+        address: Address,
+        value: u32,
+        length: u32,
+    },
+    Begin,
+    Probe,
+    Step,
+    Play {
+        arrivals: Arrivals,
+        steps: u32,
+    },
+    Totals,
+    Edit {
+        field: u64,
+        index: u64,
+        value: u64,
+    },
+    Show,
 }
 
-// How many numbers come after a letter: 'discipline* D* A* q* n length k', before the pairs; 'address* value* length*'; 'steps* length k',
-// before the fours; 'field index value'.
-fn count_of(letter: u8) -> usize
-    ensures { result ≤ 7 }
-{
-    match letter {
-        b'U' => 7,
-        b'A' | b'R' | b'E' => 3,
-        _ => 0,
-    }
-}
+// No arrival.
+const NONE: Arrival = Arrival {
+    time: Slot(0),
+    address: Address(0),
+    value: 0,
+    length: 0,
+};
 
-// 'k above 64 counts as 64'
-fn at_most_64(n: u64) -> usize
+// How many of the 64 places are named: 'k above 64 counts as 64'.
+fn places(k: u64) -> usize
     ensures { result ≤ 64 }
 {
-    if 64 < n {
-        return 64;
-    }
-    n as usize
+    k.min(64) as usize
 }
 
-// How many numbers a command has whose last one before the pairs or fours is k: 'then k pairs', 'then k fours'. Any other that has numbers
-// has three.
-fn count_with(letter: u8, k: u64) -> usize
-    ensures { result ≤ 259 }
+// 'discipline* D* A* q* n length k, then k pairs': 'the pairs stand in its first places, the others are zero'. A length above 64 is lent as
+// it is.
+fn set_up(script: &mut Script) -> Command
+    ensures { length script.new.rest.now ≤ length script.old.rest.now }
 {
-    let many = at_most_64(k);
-    match letter {
-        b'U' => 7 + 2 * many,
-        b'R' => 3 + 4 * many,
-        _ => 3,
+    let settings = Settings {
+        discipline: script.low(),
+        d: script.low(),
+        a: script.low(),
+        q: script.low(),
+        n: script.number() as usize,
+    };
+    let length = script.number() as usize;
+    let named = places(script.number());
+    let mut stations = [zeros::NOBODY; 64];
+    for station in &mut stations[..named] {
+        *station = Listed {
+            address: Address(script.low()),
+            capability: Capability(script.low()),
+        };
     }
+    let row = Row { stations, length };
+    Command::SetUp { settings, row }
 }
 
-// The command with this letter, whose numbers start from a place: 'After a letter come that command's numbers'.
-pub fn read(script: &[u8], letter: u8, from: usize) -> Command
-    ensures { from ≤ result.at }
+// 'steps* length k, then k fours': 'the fours stand in its first places, the others are zero'. A length above 64 is lent as it is.
+fn play(script: &mut Script) -> Command
+    ensures { length script.new.rest.now ≤ length script.old.rest.now }
 {
-    let first = count_of(letter);
-    let mut count = first;
-    let mut numbers = [0; 259];
-    let mut at = from;
-    let mut i = 0;
-    while i < count {
-        let n = words::number(script, at);
-        numbers[i] = n.value;
-        at = n.at;
-        i += 1;
-        if i == first {
-            count = count_with(letter, n.value);
+    let steps = script.low();
+    let length = script.number() as usize;
+    let named = places(script.number());
+    let mut row = [NONE; 64];
+    for arrival in &mut row[..named] {
+        *arrival = Arrival {
+            time: Slot(script.low()),
+            address: Address(script.low()),
+            value: script.low(),
+            length: script.low(),
+        };
+    }
+    let arrivals = Arrivals { row, length };
+    Command::Play { arrivals, steps }
+}
+
+// The next command: 'Between commands every byte is passed over until a command's letter', and 'after a letter come that command's numbers'.
+pub fn next(script: &mut Script) -> Option<Command>
+    ensures { IsSome result → length script.new.rest.now < length script.old.rest.now }
+{
+    while let Some(letter) = script.byte() {
+        match letter {
+            b'U' => return Some(set_up(script)),
+            b'A' => {
+                return Some(Command::Admit {
+                    address: Address(script.low()),
+                    value: script.low(),
+                    length: script.low(),
+                });
+            }
+            b'B' => return Some(Command::Begin),
+            b'O' => return Some(Command::Probe),
+            b'S' => return Some(Command::Step),
+            b'R' => return Some(play(script)),
+            b'T' => return Some(Command::Totals),
+            b'E' => {
+                return Some(Command::Edit {
+                    field: script.number(),
+                    index: script.number(),
+                    value: script.number(),
+                });
+            }
+            b'P' => return Some(Command::Show),
+            b'#' => script.pass_line(),
+            _ => {}
         }
     }
-    Command {
-        letter,
-        numbers,
-        at,
-    }
+    None
 }

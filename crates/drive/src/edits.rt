@@ -1,42 +1,30 @@
 // `E`: a state with one field changed.
-use crate::words;
-use state::{Contention, State};
-use window::{Side, Window};
+use crate::script::low;
+use rules::Slot;
+use sorts::{Address, Capability};
+use state::State;
+use window::Side;
 
-// Field 17, 'a side (0 left, 1 right)'.
-fn on_side(c: Contention, right: bool) -> Contention {
-    let w = c.window;
-    let mut side = Side::Left;
-    if right {
-        side = Side::Right;
-    }
-    let window = Window {
-        start: w.start,
-        size: w.size,
-        side,
-    };
-    Contention {
-        begun: c.begun,
-        window,
-        tied: c.tied,
-        tie: c.tie,
-    }
+// 'a side (0 left, 1 right)'
+fn side_of(right: bool) -> Side {
+    if right { Side::Right } else { Side::Left }
 }
 
 // Field 20, 'bit i of the word of contenders'.
 fn with_bit(contenders: u64, i: usize, contends: bool) -> u64 {
     if contends {
-        return word::set(contenders, i);
+        word::set(contenders, i)
+    } else {
+        word::clear(contenders, i)
     }
-    word::clear(contenders, i)
 }
 
-// 'the state with one field changed'
+// 'the state with one field changed', the field by its number in the script; 'modulo 2 where it is a yes or no (1 is yes)'
 pub fn edited(s: State, field: u64, index: u64, value: u64) -> State {
     let i = (index % 64) as usize;
     let j = (index % 1024) as usize;
-    let half = words::low(value);
-    let flag = words::yes(value);
+    let half = low(value);
+    let flag = value % 2 == 1;
     let mut g = s.segment;
     let mut q = s.queues;
     match field {
@@ -45,21 +33,18 @@ pub fn edited(s: State, field: u64, index: u64, value: u64) -> State {
         3 => g.settings.a = half,
         4 => g.settings.q = half,
         5 => g.settings.n = value as usize,
-        6 => g.listed[i].address.0 = half,
-        7 => g.listed[i].capability.0 = half,
-        8 => g.clock.0 = half,
+        6 => g.listed[i].address = Address(half),
+        7 => g.listed[i].capability = Capability(half),
+        8 => g.clock = Slot(half),
         9 => g.admitted = value,
         10 => g.sent = value,
         11 => g.lost = value,
         12 => g.round.won = flag,
-        13 => g.round.last.0 = half,
+        13 => g.round.last = Capability(half),
         14 => g.contention.begun = flag,
         15 => g.contention.window.start = value,
         16 => g.contention.window.size = value,
-        17 => {
-            let c = on_side(g.contention, flag);
-            g.contention = c;
-        }
+        17 => g.contention.window.side = side_of(flag),
         18 => g.contention.tied = flag,
         19 => g.contention.tie = value,
         20 => g.contenders = with_bit(g.contenders, i, flag),
@@ -71,8 +56,8 @@ pub fn edited(s: State, field: u64, index: u64, value: u64) -> State {
         26 => q.packets[j].number = half,
         27 => q.packets[j].value = half,
         28 => q.packets[j].length = half,
-        29 => g.admissions[i].0 = half,
-        30 => q.packets[j].admission.0 = half,
+        29 => g.admissions[i] = Slot(half),
+        30 => q.packets[j].admission = Slot(half),
         31 => g.contenders = value,
         32 => g.turned = value,
         _ => {}

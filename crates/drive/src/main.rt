@@ -1,25 +1,24 @@
 // A script of calls, read from standard input, played on one state of the engine; each answer and the state are written.
 #![tactic(auto)]
 
+use crate::script::Script;
+
 mod calls;
 mod commands;
 mod edits;
 mod lines;
-mod rows;
+mod script;
 mod show;
 mod stretch;
-mod words;
 
 // 'The state is all-zero before the first command'; 'At the script's end the state is written once more'.
 fn play(script: &[u8]) {
     let mut s = state::all_zero();
-    let mut at = words::letter_from(script, 0);
-    while at < script.len() {
-        let c = commands::read(script, script[at], at + 1);
-        s = calls::obey(s, c);
-        at = words::letter_from(script, c.at);
+    let mut script = Script { rest: script };
+    while let Some(command) = commands::next(&mut script) {
+        s = calls::obey(s, command);
     }
-    show::state(s);
+    show::state(&s);
 }
 
 // 'its first 65,536 bytes are read'
