@@ -1,12 +1,12 @@
 -- Storing a text part by part: what is left of it, and that storing the rest comes to storing the whole. Assumes nothing.
 use Prim.Native.Nat.{ℕ, ◌+◌, ◌<◌}
-use mathlib.Core.Path.{◌≡◌, refl, sym, ap₂, ◌∙◌}
+use mathlib.Core.Path.{◌≡◌, refl, sym, ap, ap₂, ◌∙◌}
 use mathlib.Core.List.{List, [], ◌∷◌, ◌++◌}
-use native.Mathlib.Nat.{add-zero, min-le_left}
+use native.Mathlib.Nat.{add-zero}
 use native.Mathlib.Numerals.{add-one}
 use native.Mathlib.Omega.{arith}
-use lib.ListN.{length, get_or, take, drop, length-take, length-append}
-use lib.Seq.{drop-cons, get_or-take}
+use lib.ListN.{length, get_or, drop, length-append}
+use lib.Seq.{drop-cons}
 use Rattle.text.specs.Room.{room_bytes, stored, past}
 use Rattle.text.specs.Parts.{roomy}
 use Rattle.text.proofs.Stores.{past_fits, stored_fits, past_not, stored_not, past_then, stored_then}
@@ -57,15 +57,9 @@ pub left_none :
 left_none {now = now} {next = next} left =
     left_last left (sym (past_fits next [] left.fits ∙ add-zero next), sym (stored_fits now next [] left.fits))
 
--- what is left of the first so many elements from a place on: the element there, and what is left from the next place on
-pub next-left :
-    {A : Type 0} (row : List A) (n i : ℕ) (d : A) → i < length (take n row) → drop i (take n row) ≡ get_or row i d ∷ drop (i + 1) (take n row)
-next-left row n i d h =
-    drop-cons (take n row) i d h
-    ∙ ap₂
-    (λ x k. x ∷ drop k (take n row))
-    (get_or-take n row i d (omega (arith, length-take n row, min-le_left n (length row))))
-    (sym (add-one i))
+-- what is left of a row from a place on: the element there, and what is left from the next place on
+pub next_left : {A : Type 0} (row : List A) (i : ℕ) (d : A) → i < length row → drop i row ≡ get_or row i d ∷ drop (i + 1) row
+next_left row i d h = drop-cons row i d h ∙ ap (λ k. get_or row i d ∷ drop k row) (sym (add-one i))
 
 -- ---- a whole scenario
 

@@ -3,9 +3,8 @@
 // as it was. A number above what its field holds is cut to its low bytes. Every function takes any input.
 #![tactic(auto)]
 
-ghost use Rattle.std.specs.Prelude.{min, ◌≡◌, map, take};
+ghost use Rattle.std.specs.Prelude.{◌≤◌, ◌≡◌, ◌++◌, length, map, take};
 ghost use Rattle.text.specs.Room.{stored, past};
-ghost use Rattle.rules.specs.Bus.{most_stations};
 ghost use Rattle.state.specs.SetUp.{asked_of};
 ghost use Rattle.scenario.specs.Format.{set_up_kind, station_kind, arrival_kind, run_kind};
 ghost use Rattle.scenario.specs.Writing.{record_bytes, arrival_values, run_values, stations_bytes, ending_bytes};
@@ -16,58 +15,45 @@ use state::{Arrival, Listed, Settings};
 
 const ROOM_BYTES: usize = 65_536;
 
-// The kinds.
-const SET_UP: u8 = 1;
+// What a record of each kind begins with: the length of what follows it, and the kind.
+const SET_UP: [u8; 4] = [14, 0, 1, 0];
 
-const STATION: u8 = 2;
+const STATION: [u8; 4] = [6, 0, 2, 0];
 
-const ARRIVAL: u8 = 3;
+const ARRIVAL: [u8; 4] = [14, 0, 3, 0];
 
-const RUN: u8 = 4;
-
-// The length of what follows in a record of each kind: the two bytes of the kind, and the body.
-const SET_UP_LENGTH: u8 = 14;
-
-const STATION_LENGTH: u8 = 6;
-
-const ARRIVAL_LENGTH: u8 = 14;
-
-const RUN_LENGTH: u8 = 4;
+const RUN: [u8; 4] = [4, 0, 4, 0];
 
 // The bytes that a record takes: the two of its length, and what follows them.
 const STATION_BYTES: usize = 8;
 
 const RUN_BYTES: usize = 6;
 
-// The places of a row of stations, and of arrivals.
-const MOST_STATIONS: usize = 64;
-
-const MOST_ARRIVALS: usize = 4096;
+// A record: what it begins with, and its body. It is stored whole or not at all, where a writer would store what fits of it.
+fn record(room: &mut [u8; 65536], at: usize, beginning: [u8; 4], body: &[u8]) -> usize
+    requires { length body.now ≤ 12 }
+    ensures value { result ≡ past at (beginning ++ body.now) }
+    ensures room_after { room.new ≡ stored room.old at (beginning ++ body.now) }
+{
+    if at > ROOM_BYTES - (beginning.len() + body.len()) {
+        return at;
+    }
+    let next = text::letters(room, at, &beginning);
+    text::letters(room, next, body)
+}
 
 // 'discipline 1, D 4, A 4, q 2, N 1'
 pub fn set_up(room: &mut [u8; 65536], at: usize, settings: Settings) -> usize
     ensures value { result ≡ past at (record_bytes set_up_kind (settings_values settings)) }
     ensures room_after { room.new ≡ stored room.old at (record_bytes set_up_kind (settings_values settings)) }
 {
-    let bytes = [
-        SET_UP_LENGTH,
-        0,
-        SET_UP,
-        0,
-        (settings.discipline % 256) as u8,
-        (settings.d % 256) as u8,
-        (settings.d / 256 % 256) as u8,
-        (settings.d / 256 / 256 % 256) as u8,
-        (settings.d / 256 / 256 / 256 % 256) as u8,
-        (settings.a % 256) as u8,
-        (settings.a / 256 % 256) as u8,
-        (settings.a / 256 / 256 % 256) as u8,
-        (settings.a / 256 / 256 / 256 % 256) as u8,
-        (settings.q % 256) as u8,
-        (settings.q / 256 % 256) as u8,
-        (settings.n % 256) as u8,
-    ];
-    text::letters(room, at, &bytes)
+    let [discipline, ..] = settings.discipline.to_le_bytes();
+    let [d0, d1, d2, d3] = settings.d.to_le_bytes();
+    let [a0, a1, a2, a3] = settings.a.to_le_bytes();
+    let [q0, q1, ..] = settings.q.to_le_bytes();
+    let [n, ..] = settings.n.to_le_bytes();
+    let body = [discipline, d0, d1, d2, d3, a0, a1, a2, a3, q0, q1, n];
+    record(room, at, SET_UP, &body)
 }
 
 // 'address 2, capability 2'
@@ -75,17 +61,10 @@ pub fn station(room: &mut [u8; 65536], at: usize, listed: Listed) -> usize
     ensures value { result ≡ past at (record_bytes station_kind (listed_values listed)) }
     ensures room_after { room.new ≡ stored room.old at (record_bytes station_kind (listed_values listed)) }
 {
-    let bytes = [
-        STATION_LENGTH,
-        0,
-        STATION,
-        0,
-        (listed.address.0 % 256) as u8,
-        (listed.address.0 / 256 % 256) as u8,
-        (listed.capability.0 % 256) as u8,
-        (listed.capability.0 / 256 % 256) as u8,
-    ];
-    text::letters(room, at, &bytes)
+    let [address0, address1, ..] = listed.address.0.to_le_bytes();
+    let [capability0, capability1, ..] = listed.capability.0.to_le_bytes();
+    let body = [address0, address1, capability0, capability1];
+    record(room, at, STATION, &body)
 }
 
 // 'time 4, address 2, value 4, packet length 2'
@@ -93,25 +72,14 @@ pub fn arrival(room: &mut [u8; 65536], at: usize, arrival: Arrival) -> usize
     ensures value { result ≡ past at (record_bytes arrival_kind (arrival_values arrival)) }
     ensures room_after { room.new ≡ stored room.old at (record_bytes arrival_kind (arrival_values arrival)) }
 {
-    let bytes = [
-        ARRIVAL_LENGTH,
-        0,
-        ARRIVAL,
-        0,
-        (arrival.time.0 % 256) as u8,
-        (arrival.time.0 / 256 % 256) as u8,
-        (arrival.time.0 / 256 / 256 % 256) as u8,
-        (arrival.time.0 / 256 / 256 / 256 % 256) as u8,
-        (arrival.address.0 % 256) as u8,
-        (arrival.address.0 / 256 % 256) as u8,
-        (arrival.value % 256) as u8,
-        (arrival.value / 256 % 256) as u8,
-        (arrival.value / 256 / 256 % 256) as u8,
-        (arrival.value / 256 / 256 / 256 % 256) as u8,
-        (arrival.length % 256) as u8,
-        (arrival.length / 256 % 256) as u8,
+    let [t0, t1, t2, t3] = arrival.time.0.to_le_bytes();
+    let [address0, address1, ..] = arrival.address.0.to_le_bytes();
+    let [v0, v1, v2, v3] = arrival.value.to_le_bytes();
+    let [length0, length1, ..] = arrival.length.to_le_bytes();
+    let body = [
+        t0, t1, t2, t3, address0, address1, v0, v1, v2, v3, length0, length1,
     ];
-    text::letters(room, at, &bytes)
+    record(room, at, ARRIVAL, &body)
 }
 
 // 'steps 2'
@@ -119,25 +87,8 @@ pub fn run(room: &mut [u8; 65536], at: usize, steps: u32) -> usize
     ensures value { result ≡ past at (record_bytes run_kind (run_values steps)) }
     ensures room_after { room.new ≡ stored room.old at (record_bytes run_kind (run_values steps)) }
 {
-    let bytes = [
-        RUN_LENGTH,
-        0,
-        RUN,
-        0,
-        (steps % 256) as u8,
-        (steps / 256 % 256) as u8,
-    ];
-    text::letters(room, at, &bytes)
-}
-
-// A count of stations above 64 means 64.
-fn at_most(n: usize) -> usize
-    ensures { result ≡ min n most_stations }
-{
-    if MOST_STATIONS < n {
-        return MOST_STATIONS;
-    }
-    n
+    let [low, high, ..] = steps.to_le_bytes();
+    record(room, at, RUN, &[low, high])
 }
 
 // The records of the first n stations, in order; n above 64 means 64.
@@ -145,13 +96,13 @@ pub fn stations(room: &mut [u8; 65536], at: usize, stations: [Listed; 64], n: us
     ensures value { result ≡ past at (stations_bytes (map asked_of (take n stations))) }
     ensures room_after { room.new ≡ stored room.old at (stations_bytes (map asked_of (take n stations))) }
 {
-    let listed = at_most(n);
-    if at > ROOM_BYTES - STATION_BYTES * listed {
+    let listed = &stations[..n.min(stations.len())];
+    if at > ROOM_BYTES - STATION_BYTES * listed.len() {
         return at;
     }
     let mut next = at;
-    for i in 0..listed {
-        next = station(room, next, stations[i]);
+    for place in listed {
+        next = station(room, next, *place);
     }
     next
 }
@@ -167,15 +118,16 @@ pub fn ending(
     ensures value { result ≡ past at (ending_bytes (take count arrivals) steps) }
     ensures room_after { room.new ≡ stored room.old at (ending_bytes (take count arrivals) steps) }
 {
-    if count >= MOST_ARRIVALS {
+    if count >= arrivals.len() {
         return at;
     }
-    if at > ROOM_BYTES - (ARRIVAL_BYTES * count + RUN_BYTES) {
+    let due = &arrivals[..count];
+    if at > ROOM_BYTES - (ARRIVAL_BYTES * due.len() + RUN_BYTES) {
         return at;
     }
     let mut next = at;
-    for i in 0..count {
-        next = arrival(room, next, arrivals[i]);
+    for a in due {
+        next = arrival(room, next, *a);
     }
     run(room, next, steps)
 }
