@@ -1,5 +1,5 @@
 -- The turns of a run as the code makes them: the text in the room and the play, put together from what the calls answer. Assumes nothing.
-use Prim.Native.Nat.{ℕ, zero, suc, ◌+◌, ◌-◌, ◌*◌, ◌≤◌}
+use Prim.Native.Nat.{ℕ, zero, suc, ◌+◌, ◌-◌, ◌*◌, ◌≤◌, ◌<◌}
 use mathlib.Core.Path.{◌≡◌, refl, sym, ap, ap₂, ◌∙◌, subst}
 use mathlib.Core.Logic.{◌⊎◌, inl, inr}
 use mathlib.Core.Bool.{Bool, true, false, not}
@@ -9,8 +9,9 @@ use native.Mathlib.Omega.{arith}
 use mir.Val.{Val}
 use denote.Laws.{Is}
 use lib.Dec.{leb}
-use lib.ListN.{length, take, replicate}
-use lib.Seq.{take-append_seam}
+use native.Mathlib.Numerals.{add-one}
+use lib.ListN.{length, get_or, take, replicate}
+use lib.Seq.{take-suc, take-append_seam}
 use borrow.Author.Tests.{eq-eqb, ne_eqb}
 use Rattle.state.specs.declared.State.{State}
 use Rattle.state.specs.declared.Arrival.{Arrival}
@@ -21,6 +22,7 @@ use Rattle.bus.specs.Coded.{totals_of}
 use Rattle.bus.specs.Stretch.{row_places, most_calls, course, no_report, stretch_of, stretch_form, no_arrival}
 use Rattle.bus.specs.contracts.Stretch as stretch-row
 use Rattle.scenario.specs.Reading.{arrival_bytes}
+use Rattle.text.specs.Text.{space, decimal, fields}
 use Rattle.text.specs.Room.{room_bytes, room_with}
 use Rattle.text.specs.Parts.{Told}
 use Rattle.text.proofs.Stores.{sets_start}
@@ -42,6 +44,25 @@ pub one_report : (reports : List Report) (r : Report) → reports_text (reports 
 one_report [] r = append-nil (report_text r)
 one_report (x ∷ reports) r =
     ap (λ (text : List ℕ). report_text x ++ text) (one_report reports r) ∙ sym (append_assoc (report_text x) (reports_text reports) (report_text r))
+
+pub reports_turn :
+    (reports : List Report) (i : ℕ) → i < length reports
+    → reports_text (take (i + 1) reports) ≡ reports_text (take i reports) ++ report_text (get_or reports i no_report)
+reports_turn reports i h =
+    ap (λ k. reports_text (take k reports)) (add-one i)
+    ∙ ap reports_text (take-suc reports i no_report h)
+    ∙ one_report (take i reports) (get_or reports i no_report)
+
+-- numbers after a space each, with one number more
+one_field : (ns : List ℕ) (n : ℕ) → fields (ns ++ (n ∷ [])) ≡ fields ns ++ (space ∷ decimal n)
+one_field [] n = append-nil (space ∷ decimal n)
+one_field (x ∷ ns) n =
+    ap (λ (text : List ℕ). (space ∷ decimal x) ++ text) (one_field ns n) ∙ sym (append_assoc (space ∷ decimal x) (fields ns) (space ∷ decimal n))
+
+pub fields_turn :
+    (ns : List ℕ) (i : ℕ) → i < length ns → fields (take (i + 1) ns) ≡ fields (take i ns) ++ (space ∷ decimal (get_or ns i 0))
+fields_turn ns i h =
+    ap (λ k. fields (take k ns)) (add-one i) ∙ ap fields (take-suc ns i 0 h) ∙ one_field (take i ns) (get_or ns i 0)
 
 -- the array of reports in the code has as many places as a stretch has calls
 pub reports_array : (x : Stretch) (vs : List Val) → Is stretch-row.the_row x vs → length x.reports ≡ 512

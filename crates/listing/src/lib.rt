@@ -2,19 +2,20 @@
 // any play.
 #![tactic(auto)]
 
-ghost use Rattle.std.specs.Prelude.{◌≤◌, ◌≡◌, drop, false, take};
+ghost use Rattle.std.specs.Prelude.{◌*◌, ◌≤◌, ◌≡◌, drop, false, length};
 ghost use Rattle.bus.specs.Coded.{totals_of};
 ghost use Rattle.text.specs.Room.{room_bytes, room_with};
-ghost use Rattle.text.specs.Parts.{Told, roomy};
+ghost use Rattle.text.specs.Parts.{Wrote, roomy};
 ghost use Rattle.listing.specs.Turns.{next_arrivals, arrivals_form, report_text, reports_text, opened, stretched, closed_by, turn, turn_form};
 ghost use Rattle.scenario.specs.Format.{read_record};
 ghost use Rattle.listing.specs.Parts.{TurnTold, arrival_if};
 
-use bus::{Arrivals, Report, Stretch};
+use bus::{Arrivals, Report};
 use rules::Slot;
 use scenario::{ARRIVAL_BYTES, Record};
 use sorts::Address;
 use state::{Arrival, State};
+use text::Writer;
 
 mod telling;
 
@@ -74,9 +75,12 @@ pub fn open(input: &[u8], room: &mut [u8; 65536]) -> Turn
             Turn { length: 0, play }
         }
         Err(e) => {
-            let length = telling::refused(room, 0, u32::from(e.refusal), e.offset);
-            let play = over(state::all_zero());
-            Turn { length, play }
+            let mut out = Writer { room, at: 0 };
+            telling::refused(&mut out, u32::from(e.refusal), e.offset);
+            Turn {
+                length: out.at,
+                play: over(state::all_zero()),
+            }
         }
     }
 }
@@ -91,60 +95,53 @@ fn arrival_at(input: &[u8], at: usize) -> Option<Arrival>
     }
 }
 
-// The arrivals that come next in the input, from an offset on: up to the first record that is none, 64 at the most.
+// The arrivals that come next in the input, from an offset on: up to the first record that is none, 64 at the most. The place that is filled is
+// the length where the row ends.
 pub fn gather(input: &[u8], from: usize) -> Arrivals
     ensures { result ≡ arrivals_form (next_arrivals input.now from) }
 {
     let mut row = [NO_ARRIVAL; 64];
-    let mut length = 0;
     let mut at = from;
-    while length < MOST_ARRIVALS {
+    for length in 0..MOST_ARRIVALS {
         let Some(arrival) = arrival_at(input, at) else {
             return Arrivals { row, length };
         };
         row[length] = arrival;
-        length += 1;
         at += ARRIVAL_BYTES;
     }
-    Arrivals { row, length }
+    Arrivals {
+        row,
+        length: MOST_ARRIVALS,
+    }
 }
 
-// The text of a report, from an offset of the room on; the offset past it.
-fn tell(room: &mut [u8; 65536], at: usize, report: Report) -> usize
-    requires { roomy at 128 }
-    ensures { Told room.old room.new at result (report_text report) 128 }
+// The text of a report.
+fn tell(out: &mut Writer, report: &Report)
+    requires { roomy out.old.at 128 }
+    ensures { Wrote out.old out.new (report_text report.now) 128 }
 {
     match report {
-        Report::Step { answer, .. } => telling::answer(room, at, answer),
+        Report::Step { answer, .. } => telling::answer(out, answer),
         Report::Arrival {
             clock,
             address,
             admitted,
         } => {
-            if admitted.refusal == 0 {
-                return at;
+            if admitted.refusal != 0 {
+                telling::arrival(out, *clock, *address, admitted.refusal);
             }
-            telling::arrival(room, at, clock, address, admitted.refusal)
         }
     }
 }
 
-// The text of all reports of a stretch; how many bytes it has. The reports are taken out once: to read one of them in the stretch would copy
-// the whole stretch.
-fn tell_all(room: &mut [u8; 65536], stretch: Stretch) -> usize
-    requires { stretch.made ≤ 512 }
-    ensures { Told room.old room.new 0 result (reports_text (take stretch.made stretch.reports)) room_bytes }
+// The text of reports, one after the other.
+fn tell_all(out: &mut Writer, reports: &[Report])
+    requires { roomy out.old.at (128 * length reports.now) }
+    ensures { Wrote out.old out.new (reports_text reports.now) (128 * length reports.now) }
 {
-    let made = stretch.made;
-    let reports = stretch.reports;
-    let mut at = 0;
-    let mut i = 0;
-    while i < made {
-        let report = reports[i];
-        at = tell(room, at, report);
-        i += 1;
+    for report in reports {
+        tell(out, report);
     }
-    at
 }
 
 // The run ends with its last line.
@@ -152,9 +149,12 @@ fn close(state: State, room: &mut [u8; 65536]) -> Turn
     ensures { TurnTold room.old room.new result (closed_by state (totals_of state)) }
 {
     let totals = bus::closing(state);
-    let length = telling::ending(room, 0, totals);
-    let play = over(state);
-    Turn { length, play }
+    let mut out = Writer { room, at: 0 };
+    telling::ending(&mut out, &totals);
+    Turn {
+        length: out.at,
+        play: over(state),
+    }
 }
 
 // A stretch of the run.
@@ -165,7 +165,8 @@ fn go_on(input: &[u8], play: Play, room: &mut [u8; 65536]) -> Turn
     let arrivals = gather(input, at);
     let state = play.state;
     let stretch = bus::play(state, arrivals, play.steps);
-    let length = tell_all(room, stretch);
+    let mut out = Writer { room, at: 0 };
+    tell_all(&mut out, &stretch.reports[..stretch.made]);
     let reached = stretch.state;
     let next = Play {
         state: reached,
@@ -173,7 +174,10 @@ fn go_on(input: &[u8], play: Play, room: &mut [u8; 65536]) -> Turn
         steps: stretch.left,
         going: true,
     };
-    Turn { length, play: next }
+    Turn {
+        length: out.at,
+        play: next,
+    }
 }
 
 // Any other turn: 'Before each step it admits, in file order, the arrivals whose time is not above the clock', up to 512 calls to a turn;

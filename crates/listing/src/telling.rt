@@ -1,57 +1,69 @@
-// The lines of a listing, written straight into room that the caller lends, from an offset on. A function that writes hands out the offset
-// after its text.
-ghost use Rattle.std.specs.Prelude.{◌≡◌, [], ◌∷◌, ◌++◌};
+// The lines of a listing, each stored by a writer that has room for it: each function asks for the room of its own text.
+ghost use Rattle.std.specs.Prelude.{◌+◌, ◌*◌, ◌≡◌, [], ◌∷◌, ◌++◌, length};
 ghost use Rattle.bus.specs.Coded.{phase_number, event_number, answer_of};
-ghost use Rattle.text.specs.Text.{decimal, space, newline as newlineByte};
-ghost use Rattle.text.specs.Parts.{Told, roomy};
+ghost use Rattle.text.specs.Text.{decimal, space, fields as fieldsText, word_line};
+ghost use Rattle.text.specs.Parts.{Wrote, roomy};
 ghost use Rattle.listing.specs.Text.{phase_letter, event_letter, refused_text, arrival_text, end_text, dropped_text, probed_text};
 ghost use Rattle.listing.specs.Parts.{opening_text, winner_text};
 
 use bus::{Answer, Event, Phase, Totals};
 use rules::Slot;
 use sorts::Address;
+use text::Writer;
 
 // A space and a number.
-fn field(room: &mut [u8; 65536], at: usize, n: u64) -> usize
-    requires { roomy at 21 }
-    ensures { Told room.old room.new at result (space ∷ decimal n) 21 }
+fn field(out: &mut Writer, n: u64)
+    requires { roomy out.old.at 21 }
+    ensures { Wrote out.old out.new (space ∷ decimal n) 21 }
 {
-    let spaced = text::put(room, at, b' ');
-    text::number(room, spaced, n)
+    out.put(b' ');
+    out.number(n);
 }
 
-// A number of 32 bits in decimal.
-fn short_number(room: &mut [u8; 65536], at: usize, n: u32) -> usize
-    requires { roomy at 10 }
-    ensures { Told room.old room.new at result (decimal n) 10 }
+// 'Fields are decimal, one space apart': numbers, each after a space.
+fn fields(out: &mut Writer, numbers: &[u64])
+    requires { roomy out.old.at (21 * length numbers.now) }
+    ensures { Wrote out.old out.new (fieldsText numbers.now) (21 * length numbers.now) }
 {
-    text::number(room, at, n as u64)
+    for n in numbers {
+        field(out, *n);
+    }
+}
+
+// A line that opens with a word: 'each line closed by one newline'.
+fn line(out: &mut Writer, word: &[u8], numbers: &[u64])
+    requires { roomy out.old.at (length word.now + (21 * length numbers.now + 1)) }
+    ensures { Wrote out.old out.new (word_line word.now numbers.now) (length word.now + (21 * length numbers.now + 1)) }
+{
+    out.letters(word);
+    fields(out, numbers);
+    out.put(b'\n');
+}
+
+// A number of 32 bits in decimal, which has no more than ten digits: `tell` has no room for ten more of each.
+fn short_number(out: &mut Writer, n: u32)
+    requires { roomy out.old.at 10 }
+    ensures { Wrote out.old out.new (decimal n) 10 }
+{
+    out.number(u64::from(n));
 }
 
 // A space and a number of 32 bits.
-fn short_field(room: &mut [u8; 65536], at: usize, n: u32) -> usize
-    requires { roomy at 11 }
-    ensures { Told room.old room.new at result (space ∷ decimal n) 11 }
+fn short_field(out: &mut Writer, n: u32)
+    requires { roomy out.old.at 11 }
+    ensures { Wrote out.old out.new (space ∷ decimal n) 11 }
 {
-    let spaced = text::put(room, at, b' ');
-    short_number(room, spaced, n)
+    out.put(b' ');
+    short_number(out, n);
 }
 
 // A space and a letter.
-fn letter(room: &mut [u8; 65536], at: usize, byte: u8) -> usize
-    requires { roomy at 2 }
-    ensures { Told room.old room.new at result (space ∷ byte ∷ []) 2 }
+fn letter(out: &mut Writer, byte: u8)
+    requires { roomy out.old.at 2 }
+    ensures { Wrote out.old out.new (space ∷ byte ∷ []) 2 }
 {
-    let spaced = text::put(room, at, b' ');
-    text::put(room, spaced, byte)
-}
-
-// 'each line closed by one newline'
-fn newline(room: &mut [u8; 65536], at: usize) -> usize
-    requires { roomy at 1 }
-    ensures { Told room.old room.new at result (newlineByte ∷ []) 1 }
-{
-    text::put(room, at, b'\n')
+    out.put(b' ');
+    out.put(byte);
 }
 
 // 'phase P or T'
@@ -76,106 +88,96 @@ fn event_letter(event: Event) -> u8
 }
 
 // 'REFUSED number offset'
-pub fn refused(room: &mut [u8; 65536], at: usize, number: u32, offset: usize) -> usize
-    requires { roomy at 128 }
-    ensures { Told room.old room.new at result (refused_text number offset) 128 }
+pub fn refused(out: &mut Writer, number: u32, offset: usize)
+    requires { roomy out.old.at 128 }
+    ensures { Wrote out.old out.new (refused_text number offset) 128 }
 {
-    let word = text::letters(room, at, b"REFUSED");
-    let first = short_field(room, word, number);
-    let second = field(room, first, offset as u64);
-    newline(room, second)
+    line(out, b"REFUSED", &[u64::from(number), offset as u64]);
 }
 
 // 'R slot address number'
-pub fn arrival(
-    room: &mut [u8; 65536],
-    at: usize,
-    slot: Slot,
-    address: Address,
-    number: u32,
-) -> usize
-    requires { roomy at 128 }
-    ensures { Told room.old room.new at result (arrival_text slot.0 address.0 number) 128 }
+pub fn arrival(out: &mut Writer, slot: Slot, address: Address, number: u32)
+    requires { roomy out.old.at 128 }
+    ensures { Wrote out.old out.new (arrival_text slot.0 address.0 number) 128 }
 {
-    let word = text::put(room, at, b'R');
-    let first = short_field(room, word, slot.0);
-    let second = short_field(room, first, address.0);
-    let third = short_field(room, second, number);
-    newline(room, third)
+    line(
+        out,
+        b"R",
+        &[u64::from(slot.0), u64::from(address.0), u64::from(number)],
+    );
 }
 
 // 'D count', if packets were dropped
-fn dropped(room: &mut [u8; 65536], at: usize, answer: Answer) -> usize
-    requires { roomy at 23 }
-    ensures { Told room.old room.new at result (dropped_text (answer_of answer)) 23 }
+fn dropped(out: &mut Writer, answer: &Answer)
+    requires { roomy out.old.at 23 }
+    ensures { Wrote out.old out.new (dropped_text (answer_of answer.now)) 23 }
 {
-    if answer.drops == 0 {
-        return at;
+    if answer.drops != 0 {
+        line(out, b"D", &[answer.drops]);
     }
-    let word = text::put(room, at, b'D');
-    let count = field(room, word, answer.drops);
-    newline(room, count)
 }
 
 // 'slot phase start size event'
-fn opening(room: &mut [u8; 65536], at: usize, answer: Answer) -> usize
-    requires { roomy at 56 }
-    ensures { Told room.old room.new at result (opening_text (answer_of answer)) 56 }
+fn opening(out: &mut Writer, answer: &Answer)
+    requires { roomy out.old.at 56 }
+    ensures { Wrote out.old out.new (opening_text (answer_of answer.now)) 56 }
 {
-    let slot = short_number(room, at, answer.slot.0);
-    let phase = letter(room, slot, phase_letter(answer.phase));
-    let start = field(room, phase, answer.start);
-    let size = field(room, start, answer.size);
-    letter(room, size, event_letter(answer.event))
+    short_number(out, answer.slot.0);
+    letter(out, phase_letter(answer.phase));
+    fields(out, &[answer.start, answer.size]);
+    letter(out, event_letter(answer.event));
 }
 
 // 'S with address, packet number, length', and the wait 'as a fourth number after S'
-fn winner(room: &mut [u8; 65536], at: usize, answer: Answer) -> usize
-    requires { roomy at 44 }
-    ensures { Told room.old room.new at result (winner_text (answer_of answer)) 44 }
+fn winner(out: &mut Writer, answer: &Answer)
+    requires { roomy out.old.at 44 }
+    ensures { Wrote out.old out.new (winner_text (answer_of answer.now)) 44 }
 {
-    let Event::Success = answer.event else {
-        return at;
-    };
-    let address = short_field(room, at, answer.address.0);
-    let number = short_field(room, address, answer.number);
-    let length = short_field(room, number, answer.length);
-    short_field(room, length, answer.wait)
+    if let Event::Success = answer.event {
+        short_field(out, answer.address.0);
+        short_field(out, answer.number);
+        short_field(out, answer.length);
+        short_field(out, answer.wait);
+    }
 }
 
 // The line of a probe; a refused step has none.
-fn probed(room: &mut [u8; 65536], at: usize, answer: Answer) -> usize
-    requires { roomy at 101 }
-    ensures { Told room.old room.new at result (probed_text (answer_of answer)) 101 }
+fn probed(out: &mut Writer, answer: &Answer)
+    requires { roomy out.old.at 101 }
+    ensures { Wrote out.old out.new (probed_text (answer_of answer.now)) 101 }
 {
-    if answer.refusal != 0 {
-        return at;
+    if answer.refusal == 0 {
+        opening(out, answer);
+        winner(out, answer);
+        out.put(b'\n');
     }
-    let opened = opening(room, at, answer);
-    let won = winner(room, opened, answer);
-    newline(room, won)
 }
 
 // What a step's answer tells: the packets dropped, and the probe.
-pub fn answer(room: &mut [u8; 65536], at: usize, answer: Answer) -> usize
-    requires { roomy at 128 }
-    ensures { Told room.old room.new at result (dropped_text (answer_of answer) ++ probed_text (answer_of answer)) 128 }
+pub fn answer(out: &mut Writer, answer: &Answer)
+    requires { roomy out.old.at 128 }
+    ensures { Wrote out.old out.new (dropped_text (answer_of answer.now) ++ probed_text (answer_of answer.now)) 128 }
 {
-    let drops = dropped(room, at, answer);
-    probed(room, drops, answer)
+    dropped(out, answer);
+    probed(out, answer);
 }
 
 // 'END clock admitted sent lost waiting', and the packets turned away
-pub fn ending(room: &mut [u8; 65536], at: usize, totals: Totals) -> usize
-    requires { roomy at 128 }
-    ensures { Told room.old room.new at result (end_text totals.clock.0 totals.admitted totals.sent totals.lost totals.waiting totals.turned) 128 }
+pub fn ending(out: &mut Writer, totals: &Totals)
+    requires { roomy out.old.at 130 }
+    ensures { Wrote out.old out.new (end_text totals.now.clock.0 totals.now.admitted totals.now.sent totals.now.lost totals.now.waiting totals.now.turned) 130 }
 {
-    let word = text::letters(room, at, b"END");
-    let clock = short_field(room, word, totals.clock.0);
-    let admitted = field(room, clock, totals.admitted);
-    let sent = field(room, admitted, totals.sent);
-    let lost = field(room, sent, totals.lost);
-    let waiting = field(room, lost, totals.waiting);
-    let turned = field(room, waiting, totals.turned);
-    newline(room, turned)
+    let clock = u64::from(totals.clock.0);
+    line(
+        out,
+        b"END",
+        &[
+            clock,
+            totals.admitted,
+            totals.sent,
+            totals.lost,
+            totals.waiting,
+            totals.turned,
+        ],
+    );
 }

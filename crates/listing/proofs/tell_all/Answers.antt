@@ -1,18 +1,10 @@
--- `tell_all` meets its contract.
-use Rattle.std.proofs.Common.{ap, ◌∙◌, add-one, arith, get_or, take, take-suc}
-use Rattle.bus.specs.Stretch.{no_report}
-use Rattle.listing.specs.Turns.{reports_text}
-use Rattle.text.proofs.Stores.{told_then, told_within}
-use Rattle.listing.proofs.TurnLaws.{one_report, reports_array}
+-- `tell_all` meets its contract: one report more is told.
+use Rattle.std.proofs.Common.{arith}
+use Rattle.text.proofs.Stores.{wrote_then, wrote_within}
+use Rattle.listing.proofs.TurnLaws.{reports_turn}
 use Rattle.listing.proofs.tell_all.Goals as goal
 
-pub loop-i-preserved : goal.loop-i-preserved
-loop-i-preserved c =
-    let turn = c.loop-i in
-    let reports = c.args.stretch.reports in
-    let all = reports_array c.args.stretch _ c.well_formed.1.0 in
-    let one =
-    ap (λ k. reports_text (take k reports)) (add-one turn.i)
-    ∙ ap reports_text (take-suc reports turn.i no_report (omega arith))
-    ∙ one_report (take turn.i reports) (get_or reports turn.i no_report) in
-    (omega arith, rw one (told_within (told_then turn.invariant.1 c.tell-at.ensures) (omega arith)))
+pub loop-report-preserved : goal.loop-report-preserved
+loop-report-preserved c =
+    rw (reports_turn c.args.reports.now c.loop-report.report-index (omega arith))
+    (wrote_within (wrote_then c.loop-report.invariant c.tell.ensures) (omega arith))

@@ -1,7 +1,7 @@
 -- `telling::answer` meets its contract: the packets dropped and then the probe.
 use Rattle.std.proofs.Common.{arith}
-use Rattle.text.proofs.Stores.{told_then, told_within}
+use Rattle.text.proofs.Stores.{wrote_then, wrote_within}
 use Rattle.listing.proofs.telling.answer.Goals as goal
 
 pub returns : goal.returns
-returns c = told_within (told_then c.dropped-drops.ensures c.probed.ensures) (omega arith)
+returns c = wrote_within (wrote_then c.dropped.ensures c.probed.ensures) (omega arith)

@@ -1,10 +1,10 @@
 -- `telling::probed` meets its contract: nothing where the step was refused, and else the fields and the newline.
 use Rattle.std.proofs.Common.{arith, eq-eqb}
-use Rattle.text.proofs.Stores.{told_then, told_within}
+use Rattle.text.proofs.Stores.{wrote, wrote_then}
 use Rattle.listing.proofs.telling.probed.Goals as goal
 
-pub returns : goal.returns
-returns c =
-    let refusal = c.args.answer.refusal in
-    rw (eq-eqb refusal 0 c.if-answer-ne0.false)
-    (told_within (told_then (told_then c.opening-opened.ensures c.winner-won.ensures) c.newline.ensures) (omega arith))
+pub returns-then-answer-eq0 : goal.returns-then-answer-eq0
+returns-then-answer-eq0 c =
+    let both = wrote_then c.opening.ensures c.winner.ensures in
+    rw (eq-eqb c.args.answer.now.refusal 0 c.if-answer-eq0.true)
+    (wrote_then both (wrote 1 c.put.ensures (omega (arith, both.told.past, both.told.few)) (omega arith)))

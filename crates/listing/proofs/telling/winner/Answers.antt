@@ -1,15 +1,11 @@
 -- `telling::winner` meets its contract: nothing where no one succeeded, and else the fields, one after the other.
-use Rattle.std.proofs.Common.{arith}
-use Rattle.text.proofs.Stores.{told_none, told_then, told_within}
+use mathlib.Core.List.{append-nil}
+use Rattle.text.specs.Text.{decimal}
+use Rattle.text.proofs.Stores.{wrote_then}
 use Rattle.listing.proofs.telling.winner.Goals as goal
 
-pub returns : goal.returns
-returns c =
-    rw c.in-Success.is
-    (told_within
-    (told_then
-    c.short_field-address.ensures
-    (told_then
-    c.short_field-number.ensures
-    (told_then c.short_field-length.ensures (told_then c.short_field.ensures (told_none _ _ 0)))))
-    (omega arith))
+pub returns-in-Success : goal.returns-in-Success
+returns-in-Success c =
+    rw (c.in-Success.is, append-nil (decimal c.args.answer.now.wait))
+    (wrote_then c.short_field.ensures
+    (wrote_then c.short_field-in-Success.ensures (wrote_then c.short_field-in-Success-2.ensures c.short_field-in-Success-3.ensures)))
