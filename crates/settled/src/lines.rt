@@ -1,197 +1,180 @@
 // Lines of what the calls answer: a label, a colon, and numbers.
+ghost use Rattle.std.specs.Prelude.{◌<◌};
+
 use crate::segments;
-use bus::{Answer, Report};
+use bus::{Answer, Begun, Report};
 use sorts::Address;
 use state::{Row, Settings, State};
-
-fn word(n: u64) {
-    io::write_all(1, b" ");
-    io::print_decimal(1, n);
-}
-
-fn number(n: u32) {
-    word(n as u64);
-}
-
-fn place(n: usize) {
-    word(n as u64);
-}
-
-fn flag(yes: bool) {
-    if yes {
-        word(1);
-    } else {
-        word(0);
-    }
-}
 
 fn label(text: &[u8]) {
     io::write_all(1, text);
     io::write_all(1, b":");
 }
 
+fn numbers(numbers: &[u64]) {
+    for n in numbers {
+        io::write_all(1, b" ");
+        io::print_decimal(1, *n);
+    }
+}
+
 fn newline() {
     io::write_all(1, b"\n");
+}
+
+fn line(text: &[u8], told: &[u64]) {
+    label(text);
+    numbers(told);
+    newline();
 }
 
 // A set-up: the refusal, the faulty station's place, and what a step of the state that came back answers.
 pub fn set_up(text: &[u8], settings: Settings, row: Row) {
     let r = state::set_up(settings, row);
-    let v = r.verdict;
-    let state = r.state;
-    let next = bus::step(state);
-    let a = next.answer;
-    label(text);
-    number(v.refusal);
-    place(v.station);
-    number(a.refusal);
-    newline();
+    let next = bus::step(r.state);
+    let told = [
+        u64::from(r.verdict.refusal),
+        r.verdict.station as u64,
+        u64::from(next.answer.refusal),
+    ];
+    line(text, &told);
 }
 
 // An admission: the refusal and the packet's number.
 pub fn admitted(text: &[u8], s: State, address: u32, value: u32, length: u32) {
-    let r = bus::admit(s, Address(address), value, length);
-    let a = r.answer;
-    label(text);
-    number(a.refusal);
-    number(a.number);
-    newline();
+    let a = bus::admit(s, Address(address), value, length).answer;
+    line(text, &[u64::from(a.refusal), u64::from(a.number)]);
 }
 
 // The packets admitted, sent, lost and turned away of a state; the refusal and the packets turned away that it closes with.
-fn counting(s: State) {
+fn counting(s: State) -> [u64; 6] {
     let t = bus::closing(s);
-    word(s.segment.admitted);
-    word(s.segment.sent);
-    word(s.segment.lost);
-    word(s.segment.turned);
-    number(t.refusal);
-    word(t.turned);
-    newline();
+    [
+        s.segment.admitted,
+        s.segment.sent,
+        s.segment.lost,
+        s.segment.turned,
+        u64::from(t.refusal),
+        t.turned,
+    ]
 }
 
 // A state's counts; and those after an admission, with its refusal.
 pub fn counts(text: &[u8], s: State) {
-    label(text);
-    counting(s);
+    line(text, &counting(s));
 }
 
 pub fn counted(text: &[u8], s: State, address: u32, value: u32, length: u32) {
     let r = bus::admit(s, Address(address), value, length);
-    let a = r.answer;
     label(text);
-    number(a.refusal);
-    counting(r.state);
+    numbers(&[u64::from(r.answer.refusal)]);
+    numbers(&counting(r.state));
+    newline();
 }
 
 // A step, and a probe: all of its answer.
 pub fn stepped(text: &[u8], s: State) {
-    let r = bus::step(s);
-    answered(text, r.answer);
+    line(text, &answered(&bus::step(s).answer));
 }
 
 pub fn probed(text: &[u8], s: State) {
-    let r = bus::probe(s);
-    answered(text, r.answer);
+    line(text, &answered(&bus::probe(s).answer));
 }
 
-fn offer(address: Address, packet: u32, parameter: u64) {
-    number(address.0);
-    number(packet);
-    word(parameter);
+fn answered(a: &Answer) -> [u64; 12] {
+    [
+        u64::from(a.refusal),
+        a.drops,
+        u64::from(a.slot.0),
+        u64::from(u32::from(a.phase)),
+        a.start,
+        a.size,
+        u64::from(u32::from(a.event)),
+        u64::from(a.address.0),
+        u64::from(a.number),
+        u64::from(a.length),
+        u64::from(a.wait),
+        u64::from(a.ended),
+    ]
 }
 
-// A begin: its answer, and of the stations at places 0 to 2 the address, the packet's number and the parameter.
+// The address, the packet's number and the parameter of the station at a place.
+fn offer(b: &Begun, i: usize) -> [u64; 3]
+    requires { i < 64 }
+{
+    [
+        u64::from(b.addresses[i].0),
+        u64::from(b.numbers[i]),
+        b.parameters[i],
+    ]
+}
+
+// A begin: its answer, and the offers of the stations at places 0 to 2.
 pub fn begun(text: &[u8], s: State) {
-    let r = bus::begin(s);
-    let b = r.answer;
+    let b = bus::begin(s).answer;
+    let told = [
+        u64::from(b.refusal),
+        b.drops,
+        u64::from(b.slot.0),
+        b.start,
+        b.size,
+        b.contenders,
+    ];
     label(text);
-    number(b.refusal);
-    word(b.drops);
-    number(b.slot.0);
-    word(b.start);
-    word(b.size);
-    word(b.contenders);
-    let addresses = b.addresses;
-    let numbers = b.numbers;
-    let parameters = b.parameters;
-    offer(addresses[0], numbers[0], parameters[0]);
-    offer(addresses[1], numbers[1], parameters[1]);
-    offer(addresses[2], numbers[2], parameters[2]);
-    newline();
-}
-
-fn answered(text: &[u8], a: Answer) {
-    label(text);
-    number(a.refusal);
-    word(a.drops);
-    number(a.slot.0);
-    number(u32::from(a.phase));
-    word(a.start);
-    word(a.size);
-    number(u32::from(a.event));
-    number(a.address.0);
-    number(a.number);
-    number(a.length);
-    number(a.wait);
-    flag(a.ended);
+    numbers(&told);
+    for i in 0..3 {
+        numbers(&offer(&b, i));
+    }
     newline();
 }
 
 // The refusal of a call that a stretch reports.
-fn refusal(r: Report) -> u32 {
-    match r {
+fn refusal(r: &Report) -> u64 {
+    let number = match r {
         Report::Step { answer, .. } => answer.refusal,
         Report::Arrival { admitted, .. } => admitted.refusal,
-    }
+    };
+    u64::from(number)
 }
 
 // A step made in a stretch: its refusal, how many calls were made, and the steps that are left.
 pub fn in_stretch(text: &[u8], s: State) {
-    let arrivals = segments::coming(0);
-    let d = bus::play(s, arrivals, 1);
-    label(text);
-    number(refusal(d.reports[0]));
-    place(d.made);
-    number(d.left);
-    newline();
+    let d = bus::play(s, segments::coming(0), 1);
+    let told = [refusal(&d.reports[0]), d.made as u64, u64::from(d.left)];
+    line(text, &told);
 }
 
 // A state that comes back: its clock, whether a contention is under way, the window's start and size, the word of contenders, the packets lost,
 // and the refusals of a begin and of a probe that follow.
 pub fn after(text: &[u8], s: State) {
-    let begun = bus::begin(s);
-    let probed = bus::probe(s);
+    let begun = bus::begin(s).answer;
+    let probed = bus::probe(s).answer;
     let contention = s.segment.contention;
-    let w = contention.window;
-    label(text);
-    number(s.segment.clock.0);
-    flag(contention.begun);
-    word(w.start);
-    word(w.size);
-    word(s.segment.contenders);
-    word(s.segment.lost);
-    let b = begun.answer;
-    number(b.refusal);
-    let p = probed.answer;
-    number(p.refusal);
-    newline();
+    let told = [
+        u64::from(s.segment.clock.0),
+        u64::from(contention.begun),
+        contention.window.start,
+        contention.window.size,
+        s.segment.contenders,
+        s.segment.lost,
+        u64::from(begun.refusal),
+        u64::from(probed.refusal),
+    ];
+    line(text, &told);
 }
 
 // A state lent to an admission, to a step and for the closing numbers, and then to an admission and a step in one stretch: their refusals.
 pub fn lent(text: &[u8], s: State) {
-    let a = bus::admit(s, Address(1), 0, 1);
-    let b = bus::step(s);
-    let c = bus::closing(s);
-    let arrivals = segments::coming(1);
-    let d = bus::play(s, arrivals, 1);
-    label(text);
-    let x = a.answer;
-    number(x.refusal);
-    let y = b.answer;
-    number(y.refusal);
-    number(c.refusal);
-    number(refusal(d.reports[0]));
-    number(refusal(d.reports[1]));
-    newline();
+    let admitted = bus::admit(s, Address(1), 0, 1).answer;
+    let stepped = bus::step(s).answer;
+    let closed = bus::closing(s);
+    let d = bus::play(s, segments::coming(1), 1);
+    let told = [
+        u64::from(admitted.refusal),
+        u64::from(stepped.refusal),
+        u64::from(closed.refusal),
+        refusal(&d.reports[0]),
+        refusal(&d.reports[1]),
+    ];
+    line(text, &told);
 }

@@ -30,11 +30,10 @@ fn lengths() {
 // 'The 17th packet gives 15.'
 fn seventeenth() {
     let s = segments::pri();
-    let t = segments::eight_more(s);
-    let u = segments::eight_more(t);
-    lines::admitted(b"the 16th packet passes", segments::seven_more(t), 5, 2, 1);
-    lines::admitted(b"the 17th packet gives 15", u, 5, 2, 1);
-    lines::admitted(b"the 17th at another station passes", u, 6, 2, 1);
+    let full = segments::more(s, 16);
+    lines::admitted(b"the 16th packet passes", segments::more(s, 15), 5, 2, 1);
+    lines::admitted(b"the 17th packet gives 15", full, 5, 2, 1);
+    lines::admitted(b"the 17th at another station passes", full, 6, 2, 1);
 }
 
 // 'Latest start equal to the clock is admitted.'

@@ -4,7 +4,7 @@ use state::State;
 
 // RTDG at clock 8 when seven packets have been turned away. Station 5 has sixteen packets, whose latest start is 2.
 fn crowded() -> State {
-    let full = segments::full(segments::rtdg());
+    let full = segments::more(segments::rtdg(), 16);
     edits::with_turned(edits::with_clock(full, 8), 7)
 }
 
@@ -15,7 +15,7 @@ fn all_admitted() -> State {
 
 // 'raised by exactly the admissions refused with 14 or 15'
 fn raised() {
-    let full = segments::full(segments::pri());
+    let full = segments::more(segments::pri(), 16);
     lines::counted(b"15, the first turned away", full, 5, 2, 1);
     let one = segments::admit(full, 5, 2, 1);
     lines::counted(b"15, the second", one, 5, 2, 1);
