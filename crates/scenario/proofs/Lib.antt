@@ -1,4 +1,6 @@
 -- The modules of the shared laws and theorems. Assumes nothing.
+pub mod Numbers
+pub mod RecordLaws
 pub mod Refusals
 pub mod Unique
 pub mod ReadingLaws

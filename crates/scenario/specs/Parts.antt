@@ -1,5 +1,5 @@
 -- What the private functions of src/ are held to; for readers of those alone. Assumes nothing.
-use Rattle.std.specs.Prelude.{ℕ, suc, ◌≡◌, cond, List, eqb, length, map, take, drop, Option, Some, None, Result, Ok, Err}
+use Rattle.std.specs.Prelude.{ℕ, suc, ◌≡◌, Bool, true, false, cond, List, eqb, length, map, take, drop, Option, Some, None, Result, Ok, Err}
 use Rattle.std.proofs.Math.Option.{Option as Maybe, none, some}
 use Rattle.rules.specs.SetUp.{Asked}
 use Rattle.state.specs.declared.Arrival.{Arrival}
@@ -8,8 +8,28 @@ use Rattle.state.specs.declared.Row.{Row}
 use Rattle.state.specs.SetUp.{asked_of}
 use Rattle.scenario.specs.declared.records.Kind.{Kind as CodeKind}
 use Rattle.scenario.specs.declared.records.Kind.TheVariants as KindIs
-use Rattle.scenario.specs.Format.{Kind, set_up_kind, station_kind, arrival_kind, run_kind, Said, read_record, out_of_place}
+use Rattle.scenario.specs.Format.{Kind, kinds, row_of, set_up_kind, station_kind, arrival_kind, run_kind, Said, said_by, read_record, out_of_place}
 use Rattle.scenario.specs.Reading.{StationsRead, EndingRead, Refused, Numbered, numbered, asked_from, run_bytes, run_from, arrivals_from}
+
+-- whether there is a row
+abbrev pub known : Maybe Kind → Bool
+known none = false
+known (some row) = true
+
+-- whether this is a known kind, and this its length
+abbrev pub is_kind : ℕ → ℕ → Bool
+is_kind kind long = known (row_of kind long kinds)
+
+-- what a body says by its kind; of an unknown one, as if it were a run
+abbrev pub said_by_kind : ℕ → List ℕ → Said
+said_by_kind kind body =
+    cond
+    (eqb kind set_up_kind.kind)
+    (said_by set_up_kind body)
+    (cond
+    (eqb kind station_kind.kind)
+    (said_by station_kind body)
+    (cond (eqb kind arrival_kind.kind) (said_by arrival_kind body) (said_by run_kind body)))
 
 -- the row of the table for each of the code's kinds
 abbrev pub row : CodeKind → Kind
