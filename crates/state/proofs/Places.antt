@@ -1,5 +1,5 @@
 -- The places of a row: how long the arrays are, station i's places in the row, and loops that copy places. Assumes nothing.
-use Prim.Native.Nat.{ℕ, ◌+◌, ◌*◌, ◌≤◌, ◌<◌}
+use Prim.Native.Nat.{ℕ, ◌+◌, ◌-◌, ◌*◌, ◌≤◌, ◌<◌}
 use mathlib.Core.Path.{◌≡◌, sym, ap, ap₂, ◌∙◌}
 use mathlib.Core.List.{List, ◌++◌, append-nil}
 use native.Mathlib.Numerals.{add-one}
@@ -31,6 +31,13 @@ places_count qs i h e = simp (length-take, length-drop) (omega arith)
 
 pub place_at : (qs : Queues) (i j : ℕ) → j < 16 → get_or (places_at qs i) j no_packet ≡ get_or qs.packets (16 * i + j) no_packet
 place_at qs i j h = get_or-take 16 (drop (16 * i) qs.packets) j no_packet h ∙ get_or-drop (16 * i) qs.packets j no_packet
+
+-- the same, as the code takes them out
+abbrev pub cut : Queues → ℕ → List Packet
+cut qs i = take (16 * i + 16 - 16 * i) (drop (16 * i) qs.packets)
+
+pub cut_out : (qs : Queues) (i : ℕ) → cut qs i ≡ places_at qs i
+cut_out qs i = let sixteen : 16 * i + 16 - 16 * i ≡ 16 = omega arith in ap (λ k. take k (drop (16 * i) qs.packets)) sixteen
 
 -- ---- loops that copy places
 

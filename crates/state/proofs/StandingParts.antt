@@ -28,9 +28,9 @@ use Rattle.rules.specs.Standing.{packet_fits, rising, same_packet, offer_fits, o
 use Rattle.rules.proofs.Laws.{clash, and-true, true-and}
 use Rattle.rules.proofs.Tests.{Whether, holds, fails}
 use Rattle.rules.proofs.Standing.{stands_exactly}
-use Rattle.state.specs.State.{Contender, Contention, Segment, Queues, State, Held, recorded_at, nobody, places_at, queue_at, station_at, stations_of, values_from, tie_of, meaning, has_no_packet, queue_padded, contender_padded, station_padded, has_no_station, each_place, round_padded, contention_padded, padded, standing, waiting_in}
+use Rattle.state.specs.State.{Capability, Listed, Contender, Contention, Segment, Queues, State, Held, recorded_at, nobody, places_at, queue_at, station_at, stations_of, values_from, tie_of, meaning, has_no_packet, queue_padded, contender_padded, station_padded, has_no_station, each_place, round_padded, contention_padded, padded, standing, waiting_in}
 use Rattle.state.specs.SetUp.{asked_of, request_with}
-use Rattle.state.specs.Parts.{Fault, verdict_of, parameter_fits, contender_sound, station_test, nobody_test, place_sound, numbers_from, numbers_sound, queues_sound, round_sound, contention_sound, parts_sound}
+use Rattle.state.specs.Parts.{Fault, verdict_of, parameter_fits, contender_sound, station_test, nobody_test, place_sound, numbers_from, numbers_sound, queues_sound, winner_sound, round_sound, contention_sound, parts_sound}
 use Rattle.state.specs.contracts.State as state
 use Rattle.state.proofs.Rows.{rest_suc, rest_none, each_place_turn, each_place_end, values_take}
 use Rattle.state.proofs.Form.{padded_parts, places_length}
@@ -332,57 +332,44 @@ some_values one two f g h i (suc k) = ap₂ ◌||◌ (h i) (some_values one two 
 
 -- `held` is whether a station has the last winner's capability
 last_same :
-    (discipline last : ℕ) (won held : Bool) (stations : List Machine.Station) → held ≡ some_of (λ s. eqb last s.capability) stations
-    → (not won || (leb 2 discipline && held)) ≡ last_stands (discipline_of discipline) stations (cond won (some last) none)
-last_same zero last false held stations e = refl
-last_same (suc zero) last false held stations e = refl
-last_same (suc (suc d)) last false held stations e = refl
-last_same zero last true held stations e = refl
-last_same (suc zero) last true held stations e = refl
-last_same (suc (suc d)) last true held stations e = ap (λ t. t && held) (le-leb 2 (suc (suc d)) (omega arith)) ∙ e
+    (d : Discipline) (last : Capability) (won : Bool) (listed : List Listed) (stations : List Machine.Station)
+    → some_of (λ l. eqb last.0 l.capability.0) listed ≡ some_of (λ s. eqb last.0 s.capability) stations
+    → (not won || winner_sound d last listed) ≡ last_stands d stations (cond won (some last.0) none)
+last_same PRI last false listed stations e = refl
+last_same RTDG last false listed stations e = refl
+last_same RTVC last false listed stations e = refl
+last_same PRI last true listed stations e = refl
+last_same RTDG last true listed stations e = refl
+last_same RTVC last true listed stations e = e
+
+-- the round of a segment
+abbrev round_test : Segment → Bool
+round_test g = round_sound (discipline_of g.settings.discipline) g.round (take g.settings.n g.listed)
 
 round_same :
     (s : State) → Held s → s.segment.settings.n ≤ most_stations
-    → round_sound s.segment
+    → round_test s.segment
     ≡ (round_padded s.segment.round && last_stands (meaning s).discipline (meaning s).stations (meaning s).last)
 round_same s h l =
     let n = s.segment.settings.n in
-    let last = s.segment.round.last.0 in
+    let last = s.segment.round.last in
     ap
     (λ t. round_padded s.segment.round && t)
     (last_same
-    s.segment.settings.discipline
+    (discipline_of s.segment.settings.discipline)
     last
     s.segment.round.won
-    (some_of (λ l. eqb last l.capability.0) (take n s.segment.listed))
+    (take n s.segment.listed)
     (stations_of s)
-    (ap (some_of (λ l. eqb last l.capability.0)) (values_take s.segment.listed nobody n (omega (arith, h.listed)))
+    (ap (some_of (λ l. eqb last.0 l.capability.0)) (values_take s.segment.listed nobody n (omega (arith, h.listed)))
     ∙ some_values
-    (λ l. eqb last l.capability.0)
-    (λ x. eqb last x.capability)
+    (λ l. eqb last.0 l.capability.0)
+    (λ x. eqb last.0 x.capability)
     (λ i. get_or s.segment.listed i nobody)
     (station_at s)
     (λ j. refl)
     0
     n))
-
--- in RTVC, where a circuit has won
-pub round_won :
-    (g : Segment) → g.round.won ≡ true → RTVC ≡ discipline_of g.settings.discipline
-    → round_sound g ≡ some_of (λ l. eqb g.round.last.0 l.capability.0) (take g.settings.n g.listed)
-round_won g won rtvc =
-    let held = some_of (λ l. eqb g.round.last.0 l.capability.0) (take g.settings.n g.listed) in
-    ap₂ (λ w t. (w || eqb g.round.last.0 0) && (not w || (t && held))) won (third g.settings.discipline rtvc)
-  where
-    is_third : Discipline → Bool
-    is_third PRI = false
-    is_third RTDG = false
-    is_third RTVC = true
-
-    third : (d : ℕ) → RTVC ≡ discipline_of d → leb 2 d ≡ true
-    third zero e = clash refl (ap is_third e)
-    third (suc zero) e = clash refl (ap is_third e)
-    third (suc (suc d)) e = le-leb 2 (suc (suc d)) (omega arith)
 
 -- ---- the contention
 
@@ -609,5 +596,5 @@ standing_parts s h e =
     ap₂ (λ d v. d && zeros && past && round && contention && (v && clock && admitted && turned && counts && stand && apart && last && window)) both.0 both.1
     ∙ parts_order zeros past round contention clock admitted turned counts stand apart last window sound (places_same s few)
     ∙ ap₂ (λ r c. clock && (admitted && (turned && (r && (c && (sound && (counts && apart))))))) (sym (round_same s h few)) (sym (contention_same s))
-    ∙ ap (λ t. clock && (admitted && (turned && (round_sound s.segment && (begun && (sound && t)))))) same
-    ∙ in_two clock admitted turned (round_sound s.segment) begun (queues_sound s.segment s.queues)
+    ∙ ap (λ t. clock && (admitted && (turned && (round_test s.segment && (begun && (sound && t)))))) same
+    ∙ in_two clock admitted turned (round_test s.segment) begun (queues_sound s.segment s.queues)

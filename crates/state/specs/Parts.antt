@@ -1,5 +1,5 @@
 -- The parts that the code of a state is made of, as functions: what the contracts of the private functions cite. Assumes nothing.
-use Rattle.std.specs.Prelude.{ℕ, zero, suc, ◌+◌, Result, Ok, Err, Bool, true, not, ◌&&◌, ◌||◌, cond, List, [], ◌∷◌, ◌++◌, leb, ltb, eqb, length, get_or, take}
+use Rattle.std.specs.Prelude.{ℕ, zero, suc, ◌+◌, Result, Ok, Err, Bool, true, false, not, ◌&&◌, ◌||◌, cond, List, [], ◌∷◌, ◌++◌, leb, ltb, eqb, length, get_or, take}
 use Rattle.window.specs.Splitting.{placed}
 use Rattle.rules.specs.Lists.{each_of, some_of, distinct}
 use Rattle.rules.specs.declared.Discipline.{Discipline}
@@ -10,7 +10,7 @@ use Rattle.rules.specs.declared.Verdict.{Verdict}
 use Rattle.rules.specs.Refusals.{number_of}
 use Rattle.rules.specs.SetUp.{fine, fault, capability_outside, discipline_of}
 use Rattle.rules.specs.Standing.{packet_fits, rising, same_packet}
-use Rattle.state.specs.State.{Capability, Settings, Listed, Contender, Recorded, Contention, Segment, Queues, State, Packet, no_packet, no_contender, recorded_at, recorded, no_contention, no_round, nobody, places_at, queue_at, row, has_no_packet, queue_padded, contender_padded, round_padded, contention_padded, each_place}
+use Rattle.state.specs.State.{Capability, Settings, Listed, Contender, Recorded, Contention, Round, Segment, Queues, State, Packet, no_packet, no_contender, recorded_at, recorded, no_contention, no_round, nobody, places_at, queue_at, row, has_no_packet, queue_padded, contender_padded, round_padded, contention_padded, each_place}
 pub use Rattle.state.specs.declared.Queue.{Queue}
 pub use Rattle.state.specs.declared.Fault.{Fault}
 
@@ -140,13 +140,15 @@ numbers_sound g ns = eqb g.admitted (g.sent + g.lost + length ns) && distinct ns
 abbrev pub queues_sound : Segment → Queues → Bool
 queues_sound g qs = each_place (place_sound g qs) 0 64 && numbers_sound g (numbers_from qs 0 g.settings.n)
 
--- `round_padded`, and `last_stands` of the rules
-abbrev pub round_sound : Segment → Bool
-round_sound g =
-    round_padded g.round
-    && (not g.round.won
-    || (leb 2 g.settings.discipline
-    && some_of (λ l. eqb g.round.last.0 l.capability.0) (take g.settings.n g.listed)))
+-- `last_stands` of the rules, where a circuit has won
+abbrev pub winner_sound : Discipline → Capability → List Listed → Bool
+winner_sound PRI last stations = false
+winner_sound RTDG last stations = false
+winner_sound RTVC last stations = some_of (λ l. eqb last.0 l.capability.0) stations
+
+-- `round_padded`, and `last_stands`
+abbrev pub round_sound : Discipline → Round → List Listed → Bool
+round_sound d r stations = round_padded r && (not r.won || winner_sound d r.last stations)
 
 -- `contention_padded`, and `contention_stands` of the rules
 abbrev pub contention_sound : Settings → Contention → Bool
@@ -160,4 +162,8 @@ in_range g = leb g.clock.0 clock_end && leb g.admitted most_admitted && leb g.tu
 
 -- the ranges, the round, the contention and the queues
 abbrev pub parts_sound : Segment → Queues → Bool
-parts_sound g qs = in_range g && round_sound g && contention_sound g.settings g.contention && queues_sound g qs
+parts_sound g qs =
+    in_range g
+    && round_sound (discipline_of g.settings.discipline) g.round (take g.settings.n g.listed)
+    && contention_sound g.settings g.contention
+    && queues_sound g qs

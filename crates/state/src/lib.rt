@@ -16,7 +16,8 @@ pub mod standing;
 mod stations;
 pub mod zeros;
 
-// The numbers of a set-up: discipline 0 PRI, 1 RTDG, 2 RTVC; parameter space d, address space a, laxity step q, n stations.
+// The numbers of a set-up: discipline 0 PRI, 1 RTDG, 2 RTVC; parameter space d, address space a, laxity step q, n stations. They may be any,
+// the discipline too: `settings_tests` refuses it with 2, and `padded` tests it in a lent state.
 #[derive(Clone, Copy)]
 pub struct Settings {
     pub discipline: u32,
@@ -33,14 +34,16 @@ pub struct Listed {
     pub capability: Capability,
 }
 
-// The row of stations that a set-up is given: the first `length` of the places; there are no more than 64.
+// The row of stations that a set-up is given: the first `length` of the places; there are no more than 64. It is lent whole, with any length,
+// as `request_of` reads it: nothing here allocates.
 #[derive(Clone, Copy)]
 pub struct Row {
     pub stations: [Listed; 64],
     pub length: usize,
 }
 
-// A station's place among the contenders: whether it contends, and then its parameter and packet, else zeros.
+// A station's place among the contenders: whether it contends, and then its parameter and packet, else zeros. A lent state may have any
+// numbers where none contends, which `contender_padded` tests: so no Option.
 #[derive(Clone, Copy, PartialEq, Eq)]
 pub struct Contender {
     pub contends: bool,
@@ -48,7 +51,8 @@ pub struct Contender {
     pub packet: Packet,
 }
 
-// The contention, if one is under way: its window, and in the tie phase the tie value. What has no meaning is zero.
+// The contention, if one is under way: its window, and in the tie phase the tie value. What has no meaning is zero, which `contention_padded`
+// tests of a lent state: so no Options.
 #[derive(Clone, Copy, PartialEq, Eq)]
 pub struct Contention {
     pub begun: bool,
@@ -57,8 +61,9 @@ pub struct Contention {
     pub tie: u64,
 }
 
-// The RTVC round: whether a circuit has won in it, and the last winner's capability, or 0.
-#[derive(Clone, Copy)]
+// The RTVC round: whether a circuit has won in it, and the last winner's capability, or 0, which `round_padded` tests of a lent state: so no
+// Option.
+#[derive(Clone, Copy, PartialEq, Eq)]
 pub struct Round {
     pub won: bool,
     pub last: Capability,
@@ -66,7 +71,8 @@ pub struct Round {
 
 // All of the state but the queues: what a probe reads and writes. Stations stand in listed order. The counts are packets admitted, sent, lost
 // and turned away. The contenders are a word, 'station i in listed order at bit i', and what each has beside its bit, in rows of plain
-// numbers: its parameter, and the number, value, length and admission slot of its packet.
+// numbers: its parameter, and the number, value, length and admission slot of its packet. `place_in` reads one, and a probe all parameters
+// one behind another.
 #[derive(Clone, Copy)]
 pub struct Segment {
     pub settings: Settings,
@@ -87,7 +93,7 @@ pub struct Segment {
 }
 
 // The queues: how many packets each station has, and '16 packets a station, so 1,024 places in all'. Station i owns the sixteen
-// places from 16 × i on.
+// places from 16 × i on. A lent state may have any lengths, and packets past them, which `queue_padded` tests.
 #[derive(Clone, Copy)]
 pub struct Queues {
     pub lengths: [usize; 64],
@@ -108,7 +114,7 @@ pub struct Queue {
     pub length: usize,
 }
 
-// A set-up's answer, and the state.
+// A set-up's answer, and the state, which a refused one has too: `set_up_result`.
 #[derive(Clone, Copy)]
 pub struct SetUp {
     pub verdict: Verdict,

@@ -3,7 +3,7 @@ ghost use Rattle.std.specs.Prelude.{◌+◌, ◌<◌, ◌≤◌, ◌≡◌, eqb,
 ghost use Rattle.rules.specs.Lists.{each_of, some_of};
 ghost use Rattle.rules.specs.SetUp.{discipline_of};
 ghost use Rattle.rules.specs.Standing.{packet_fits, rising, same_packet};
-ghost use Rattle.state.specs.State.{has_no_packet, recorded_at, places_at, standing, waiting_in};
+ghost use Rattle.state.specs.State.{has_no_packet, recorded_at, standing, waiting_in};
 ghost use Rattle.state.specs.Parts.{has_no_contender, offer_sound, contender_sound, station_test, nobody_test, place_test, parameter_fits, queues_sound, round_sound, contention_sound, in_range, parts_sound};
 
 use crate::{
@@ -141,15 +141,6 @@ fn contender_at(g: &Segment, i: usize) -> Contender
     }
 }
 
-// All the places of the queue of station i.
-fn places_at(queues: &Queues, i: usize) -> &[Packet]
-    requires { i < 64 }
-    ensures places { result.now ≡ places_at queues.now i }
-    ensures sixteen { length result.now ≡ 16 }
-{
-    &queues.packets[16 * i..16 * i + 16]
-}
-
 // 'at most 16 packets': the place of station i, which has this many of these places; a station's up to N, nobody's past it.
 fn place_stands(g: &Segment, i: usize, waits: usize, places: &[Packet]) -> bool
     requires place { i < 64 }
@@ -188,17 +179,13 @@ fn counts_stand(g: &Segment, waiting: usize) -> bool
 }
 
 // 'a last winner only in RTVC and some station's capability'; without one the field is zero
-fn round_stands(g: &Segment) -> bool
-    requires { g.now.settings.n ≤ 64 }
-    ensures { result ≡ round_sound g.now }
+fn round_stands(discipline: Discipline, round: &Round, stations: &[Listed]) -> bool
+    ensures { result ≡ round_sound discipline round.now stations.now }
 {
-    let Round { won, last } = g.round;
-    if !won {
-        return last == zeros::NO_ROUND.last;
-    }
-    match Discipline::from(g.settings.discipline) {
-        Discipline::PRI | Discipline::RTDG => false,
-        Discipline::RTVC => stations::has_capability(&g.listed[..g.settings.n], last),
+    let Round { won, last } = *round;
+    match discipline {
+        Discipline::RTVC if won => stations::has_capability(stations, last),
+        _ => *round == zeros::NO_ROUND,
     }
 }
 
@@ -225,7 +212,7 @@ fn queues_stand(g: &Segment, queues: &Queues) -> bool
     let mut numbers = [0u32; 1024];
     let mut waiting = 0;
     for (i, length) in queues.lengths.iter().enumerate() {
-        let places = places_at(queues, i);
+        let places = &queues.packets[16 * i..16 * i + 16];
         if !place_stands(g, i, *length, places) {
             return false;
         }
@@ -251,8 +238,9 @@ fn parts_stand(g: &Segment, queues: &Queues) -> bool
     requires { g.now.settings.n ≤ 64 }
     ensures { result ≡ parts_sound g.now queues.now }
 {
+    let Settings { discipline, n, .. } = g.settings;
     in_range(g)
-        && round_stands(g)
+        && round_stands(Discipline::from(discipline), &g.round, &g.listed[..n])
         && contention_stands(&g.settings, &g.contention)
         && queues_stand(g, queues)
 }

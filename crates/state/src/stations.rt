@@ -30,7 +30,7 @@ fn space_outside(space: u32) -> bool
     !(LEAST_SPACE..=MOST_SPACE).contains(&space)
 }
 
-// 'RTDG: 1 to 65,535; otherwise exactly 1'
+// 'RTDG: 1 to 65,535; otherwise exactly 1', of any number for a discipline, as `settings_tests` goes by it.
 fn step_outside(discipline: u32, q: u32) -> bool
     ensures { result ≡ step_outside discipline q }
 {
@@ -70,7 +70,7 @@ pub fn settings_verdict(settings: &Settings, count: usize) -> Result<(), Refusal
     Ok(())
 }
 
-// 'RTVC: 0 to D - 1, distinct; otherwise 0'
+// 'RTVC: 0 to D - 1, distinct; otherwise 0', of any number for a discipline, as `station_tests` goes by it.
 fn capability_outside(discipline: u32, d: u32, capability: Capability) -> bool
     ensures { result ≡ capability_outside discipline d capability.0 }
 {
@@ -81,7 +81,7 @@ fn capability_outside(discipline: u32, d: u32, capability: Capability) -> bool
     }
 }
 
-// Whether one of these stations has an address.
+// Whether one of these stations has an address. One function of this and the next would take the field as a closure, as `any` does.
 fn has_address(stations: &[Listed], address: Address) -> bool
     ensures { result ≡ some_of (λ l. eqb address.0 l.address.0) stations.now }
 {

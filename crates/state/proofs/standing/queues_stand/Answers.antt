@@ -7,7 +7,7 @@ use Rattle.rules.specs.Bus.{numbers_in}
 use Rattle.state.specs.State.{queue_at}
 use Rattle.state.specs.Parts.{place_test, place_sound, queues_sound}
 use Rattle.state.proofs.Tested.{denied, passed, failed}
-use Rattle.state.proofs.Places.{written_one, written_all}
+use Rattle.state.proofs.Places.{cut, cut_out, written_one, written_all}
 use Rattle.state.proofs.StandingParts.{next, place_first, place_fails, place_passes, places-end}
 use Rattle.state.proofs.standing.queues_stand.Goals as goal
 use Rattle.state.proofs.standing.queues_stand.Goals.{Else-not-place_stands, After-loop-i}
@@ -18,12 +18,12 @@ loop-i-init c = (search rules, refl, place_first c.args.g.now c.args.queues.now)
 sound : (c : Else-not-place_stands) → place_sound c.args.g.now c.args.queues.now c.loop-i.i ≡ true
 sound c =
     let n = get_or c.args.queues.now.lengths c.loop-i.i 0 in
-    sym (c.place_stands.ensures ∙ ap (place_test c.args.g.now c.loop-i.i n) c.places_at-places.ensures.places) ∙ c.if-not-place_stands.false
+    sym (c.place_stands.ensures ∙ ap (place_test c.args.g.now c.loop-i.i n) (cut_out c.args.queues.now c.loop-i.i)) ∙ c.if-not-place_stands.false
 
 pub returns-then-not-place_stands : goal.returns-then-not-place_stands
 returns-then-not-place_stands c =
     let n = get_or c.args.queues.now.lengths c.loop-i.i 0 in
-    let told = c.place_stands.ensures ∙ ap (place_test c.args.g.now c.loop-i.i n) c.places_at-places.ensures.places in
+    let told = c.place_stands.ensures ∙ ap (place_test c.args.g.now c.loop-i.i n) (cut_out c.args.queues.now c.loop-i.i) in
     let none = place_fails c.args.g.now c.args.queues.now (take c.loop-i.waiting c.loop-i.numbers) c.loop-i.i c.loop-i-test.true in
     sym (c.loop-i.invariant.2 ∙ none (denied told (ap not c.if-not-place_stands.true)))
 
@@ -31,23 +31,14 @@ returns-then-not-place_stands c =
 room :
     (c : Else-not-place_stands)
     → let n = get_or c.args.queues.now.lengths c.loop-i.i 0 in
-    (n ≤ 16) × (length (take n c.places_at-places.result.now) ≤ 16)
+    (n ≤ 16) × (length (take n (cut c.args.queues.now c.loop-i.i)) ≤ 16)
 room c =
     let few = (next c.args.g.now c.args.queues.now c.loop-i.i (sound c)).0 in
-    (few, omega (arith, few, length-take (get_or c.args.queues.now.lengths c.loop-i.i 0) c.places_at-places.result.now))
-
-pub slice_bounds-p-items-end : goal.slice_bounds-p-items-end
-slice_bounds-p-items-end c =
-    let few = (room (goal.at.slice_bounds-p-items-end c).Else-not-place_stands).0 in
-    sym
-    (length-take-le
-    (get_or c.args.queues.now.lengths c.loop-i.i 0)
-    c.places_at-places.result.now
-    (omega (arith, few, c.places_at-places.ensures.sixteen)))
+    (few, omega (arith, few, length-take (get_or c.args.queues.now.lengths c.loop-i.i 0) (cut c.args.queues.now c.loop-i.i)))
 
 pub loop-p-init : goal.loop-p-init
 loop-p-init c =
-    let held = take (get_or c.args.queues.now.lengths c.loop-i.i 0) c.places_at-places.result.now in
+    let held = take (get_or c.args.queues.now.lengths c.loop-i.i 0) (cut c.args.queues.now c.loop-i.i) in
     (search rules, paste-zero c.loop-i.numbers c.loop-i.waiting (numbers_in held))
 
 pub offset_bounds-numbers-waiting : goal.offset_bounds-numbers-waiting
@@ -68,7 +59,7 @@ overflow_add-waiting c =
 pub loop-p-preserved : goal.loop-p-preserved
 loop-p-preserved c =
     let few = (room (goal.at.loop-p-preserved c).Else-not-place_stands).1 in
-    let held = take (get_or c.args.queues.now.lengths c.loop-i.i 0) c.places_at-places.result.now in
+    let held = take (get_or c.args.queues.now.lengths c.loop-i.i 0) (cut c.args.queues.now c.loop-i.i) in
     let inside : c.loop-i.waiting + c.loop-p.p-index < length c.loop-i.numbers =
     omega (arith, c.loop-i.invariant.0, c.loop-i.invariant.1, c.loop-i-test.true, c.loop-p-test.true, few) in (
       omega (arith, c.loop-p.invariant.0),
@@ -81,9 +72,9 @@ loop-i-preserved c =
     let qs = c.args.queues.now in
     let i = c.loop-i.i in
     let c' = (goal.at.loop-i-preserved c).Else-not-place_stands in
-    let held = take (get_or qs.lengths i 0) c.places_at-places.result.now in
+    let held = take (get_or qs.lengths i 0) (cut c.args.queues.now c.loop-i.i) in
     let few = (room c').1 in
-    let same : held ≡ queue_at qs i = ap (take (get_or qs.lengths i 0)) c.places_at-places.ensures.places in
+    let same : held ≡ queue_at qs i = ap (take (get_or qs.lengths i 0)) (cut_out c.args.queues.now c.loop-i.i) in
     let inside : c.loop-i.waiting + length held ≤ length c.loop-i.numbers =
     omega (arith, few, c.loop-i.invariant.0, c.loop-i.invariant.1, c.loop-i-test.true) in
     let done : c.loop-p.p-index ≡ length held = omega (arith, c.loop-p.auto.p-index-end, c.loop-p-test.false) in
