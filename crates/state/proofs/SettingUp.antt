@@ -9,8 +9,8 @@ use native.Mathlib.Numerals.{add-one}
 use native.Mathlib.Omega.{arith}
 use native.Mathlib.Nat.{min-eq_left}
 use lib.Dec.{leb, ltb, eqb}
-use lib.ListN.{length, get_or, take, drop, replicate, length-map, length-take, length-drop, length-append, length-replicate, get_or-map, get_or-append, get_or-replicate, get_or-eq_default, drop_of_length-le}
-use lib.Seq.{drop-cons, take-suc, take_all, get_or-take, get_or-drop, get_or-append_right, length-take-le}
+use lib.ListN.{length, get_or, take, drop, replicate, length-map, length-drop, length-append, length-replicate, get_or-map, get_or-append, get_or-replicate, get_or-eq_default, drop_of_length-le}
+use lib.Seq.{drop-cons, take-suc, take_all, get_or-drop, get_or-append_right, length-take-le}
 use borrow.Author.Tests.{leb-true, leb-false, ltb-true, ltb-false, eqb-true, le-leb, lt-leb, lt-ltb, le-ltb, ne_eqb}
 use Rattle.rules.specs.Lists.{each_of, some_of, has, outside, first_of, verdict}
 use Rattle.rules.specs.declared.Verdict.{Verdict}
@@ -293,29 +293,22 @@ set_up_answer r v s t e same given =
 pub nothing_form : fresh_state (record { discipline = 0; d = 0; a = 0; q = 0; n = 0 }) (row 64 (λ i. nobody)) ≡ form nothing
 nothing_form = refl
 
--- what stands at a place of the first n
-first_placed : (stations : List Listed) (n i : ℕ) → get_or (take n stations) i nobody ≡ cond (ltb i n) (get_or stations i nobody) nobody
-first_placed stations n i = go (ltb i n) refl
-  where
-    go : (t : Bool) → ltb i n ≡ t → get_or (take n stations) i nobody ≡ cond t (get_or stations i nobody) nobody
-    go true e = get_or-take n stations i nobody (ltb-true i n e)
-    go false e = get_or-eq_default (take n stations) nobody (omega (arith, ltb-false i n e, length-take n stations))
-
--- the places of an array of nobody, of which the first n are those of stations
+-- an array of nobody, whose first places are those of stations
 pub filled_up :
-    (stations placed : List Listed) (n : ℕ) → n ≤ 64 → n ≤ length stations → placed ≡ take n stations
-    → placed ++ drop n (replicate 64 nobody) ≡ row 64 (λ i. cond (ltb i n) (get_or stations i nobody) nobody)
-filled_up stations placed n h l e =
+    (stations placed : List Listed) → length stations ≤ 64 → placed ≡ stations
+    → placed ++ drop (length stations) (replicate 64 nobody) ≡ row 64 (λ i. get_or stations i nobody)
+filled_up stations placed h e =
     row_ext
     64
-    (λ i. cond (ltb i n) (get_or stations i nobody) nobody)
-    (placed ++ drop n (replicate 64 nobody))
+    (λ i. get_or stations i nobody)
+    (placed ++ drop (length stations) (replicate 64 nobody))
     nobody
-    (length-append placed (drop n (replicate 64 nobody)) ∙ omega (arith, count, length-drop n (replicate 64 nobody), length-replicate 64 nobody))
-    (λ i k. go i (ltb i n) refl)
+    (length-append placed (drop (length stations) (replicate 64 nobody))
+    ∙ omega (arith, count, length-drop (length stations) (replicate 64 nobody), length-replicate 64 nobody))
+    (λ i k. go i (ltb i (length stations)) refl)
   where
-    count : length placed ≡ n
-    count = ap length e ∙ length-take-le n stations l
+    count : length placed ≡ length stations
+    count = ap length e
 
     nowhere : (m j : ℕ) → get_or (replicate m nobody) j nobody ≡ nobody
     nowhere m j = go (ltb j m) refl
@@ -325,21 +318,22 @@ filled_up stations placed n h l e =
         go false e = get_or-eq_default (replicate m nobody) nobody (omega (arith, ltb-false j m e, length-replicate m nobody))
 
     go :
-        (i : ℕ) (t : Bool) → ltb i n ≡ t
-        → get_or (placed ++ drop n (replicate 64 nobody)) i nobody ≡ cond t (get_or stations i nobody) nobody
+        (i : ℕ) (t : Bool) → ltb i (length stations) ≡ t
+        → get_or (placed ++ drop (length stations) (replicate 64 nobody)) i nobody ≡ get_or stations i nobody
     go i true k =
-        let within = ltb-true i n k in
-        get_or-append placed _ nobody i (omega (arith, count)) ∙ ap (λ xs. get_or xs i nobody) e ∙ get_or-take n stations i nobody within
+        get_or-append placed _ nobody i (omega (arith, count, ltb-true i (length stations) k)) ∙ ap (λ xs. get_or xs i nobody) e
     go i false k =
-        get_or-append_right placed (drop n (replicate 64 nobody)) i nobody (omega (arith, count, ltb-false i n k))
-        ∙ get_or-drop n (replicate 64 nobody) (i - length placed) nobody
-        ∙ nowhere 64 (n + (i - length placed))
+        let past = ltb-false i (length stations) k in
+        get_or-append_right placed (drop (length stations) (replicate 64 nobody)) i nobody (omega (arith, count, past))
+        ∙ get_or-drop (length stations) (replicate 64 nobody) (i - length placed) nobody
+        ∙ nowhere 64 (length stations + (i - length placed))
+        ∙ sym (get_or-eq_default stations nobody past)
 
 -- the fresh bus is held in a fresh state: its stations have no packets and no offers
 pub fresh_form :
     (g : Settings) (stations : List Listed) → SettingsPass g (map asked_of stations)
     → form (fresh_bus (request_with g (map asked_of stations)))
-    ≡ fresh_state g (row 64 (λ i. cond (ltb i g.n) (get_or stations i nobody) nobody))
+    ≡ fresh_state g (row 64 (λ i. get_or (take g.n stations) i nobody))
 fresh_form g stations pass = λ j.
     record {
       segment = record {
@@ -349,8 +343,8 @@ fresh_form g stations pass = λ j.
             row_same
             64
             (λ i. listed_form (station_or b i))
-            (λ i. cond (ltb i g.n) (get_or stations i nobody) nobody)
-            (λ i h. ap listed_form (at i) ∙ first_placed stations g.n i)
+            (λ i. get_or (take g.n stations) i nobody)
+            (λ i h. ap listed_form (at i))
             j;
         clock = record { 0 = 0 };
         admitted = 0;

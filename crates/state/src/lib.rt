@@ -182,7 +182,7 @@ pub fn set_up(settings: Settings, row: Row) -> SetUp
                 refusal: 0,
                 station: 0,
             },
-            state: stations::fresh(settings, stations::up_to(filled, settings.n)),
+            state: stations::fresh(settings, stations::up_to(&filled[..settings.n])),
         },
         Err(fault) => SetUp {
             verdict: Verdict {

@@ -160,14 +160,13 @@ pub fn verdict(settings: &Settings, stations: &[Listed]) -> Result<(), Fault>
     first_faulty(settings, &stations[..settings.n])
 }
 
-// The first n of these stations, and nobody past them.
-pub fn up_to(stations: &[Listed], n: usize) -> [Listed; 64]
-    requires few { n ≤ 64 }
-    requires filled { n ≤ length stations.now }
-    ensures { result ≡ row 64 (λ i. cond (ltb i n) (get_or stations.now i nobody) nobody) }
+// These stations, and nobody past them.
+pub fn up_to(stations: &[Listed]) -> [Listed; 64]
+    requires { length stations.now ≤ 64 }
+    ensures { result ≡ row 64 (λ i. get_or stations.now i nobody) }
 {
     let mut listed = [zeros::NOBODY; 64];
-    listed[..n].copy_from_slice(&stations[..n]);
+    listed[..stations.len()].copy_from_slice(stations);
     listed
 }
 

@@ -3,4 +3,4 @@ use Rattle.state.proofs.SettingUp.{filled_up}
 use Rattle.state.proofs.stations.up_to.Goals as goal
 
 pub returns : goal.returns
-returns c = filled_up c.args.stations.now _ c.args.n c.requires.few c.requires.filled c.copy_from_slice.ensures.after
+returns c = filled_up c.args.stations.now _ c.requires c.copy_from_slice.ensures.after
