@@ -1,12 +1,11 @@
 -- What the private functions of src/ are held to; for readers of those alone. Assumes nothing.
-use Rattle.std.specs.Prelude.{ℕ, ◌≡◌, cond, List}
+use Rattle.std.specs.Prelude.{ℕ, ◌≡◌, List}
 use Rattle.rules.specs.Bus.{Bus}
 use Rattle.rules.specs.Standing.{Standing}
 use Rattle.state.specs.declared.State.{State}
 use Rattle.state.specs.declared.Arrival.{Arrival}
 use Rattle.state.specs.State.{form}
 use Rattle.bus.specs.declared.Report.{Report}
-use Rattle.bus.specs.declared.Report.TheVariants as Report
 use Rattle.bus.specs.Coded.{answer_of}
 use Rattle.scenario.specs.Parts.{ArrivalsAt}
 use Rattle.listing.specs.Run.{answers_of, end_of}

@@ -24,32 +24,21 @@ fn wait_told(report: Report) -> u32
 }
 
 // The longer of two waits.
+#[tactic(auto, using(crate::proofs::Waits::max_longer))]
 fn longer(first: u32, second: u32) -> u32
     ensures { result ≡ longer first second }
 {
-    if first < second {
-        return second;
-    }
-    first
+    first.max(second)
 }
 
-// The longest wait, of one and of those that a stretch reports. The reports are taken out once: to read one of them in the stretch would copy
-// the whole stretch.
-fn longest_in(stretch: Stretch, before: u32) -> u32
-    requires { stretch.made ≤ 512 }
-    ensures { result ≡ longer before (longest_wait (answers_in (take stretch.made stretch.reports))) }
+// The longest wait, of one and of those that reports tell.
+fn longest_in(reports: &[Report], before: u32) -> u32
+    ensures { result ≡ longer before (longest_wait (answers_in reports.now)) }
 {
-    let made = stretch.made;
-    let reports = stretch.reports;
-    let mut longest = before;
-    let mut i = 0;
-    while i < made {
-        let report = reports[i];
-        let wait = wait_told(report);
-        longest = longer(longest, wait);
-        i += 1;
-    }
-    longest
+    reports.iter().fold(
+        before,
+        |longest, report| longer(longest, wait_told(*report)),
+    )
 }
 
 // The run from a state on, by the arrivals that stand in the input from an offset on and the steps that are left.
@@ -63,7 +52,7 @@ fn played(input: &[u8], from: State, first: usize, most: u32) -> Run
     while 0 < steps {
         let arrivals = listing::gather(input, at);
         let stretch = bus::play(state, arrivals, steps);
-        longest = longest_in(stretch, longest);
+        longest = longest_in(&stretch.reports[..stretch.made], longest);
         at += ARRIVAL_BYTES * stretch.taken;
         steps = stretch.left;
         state = stretch.state;
