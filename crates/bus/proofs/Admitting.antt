@@ -27,7 +27,8 @@ use Rattle.state.proofs.Rows.{among_values}
 use Rattle.bus.proofs.FirstPlace.{first_place_holds, first_place_before}
 use Rattle.state.proofs.Form.{parts_padded, queue_length, to_form}
 use Rattle.bus.proofs.Coded.{handed_admission, admit_bears, standing_exactly_admission}
-use Rattle.bus.proofs.QueueLaws.{form_joined, with_queue}
+use Rattle.bus.specs.Parts.{with_queue}
+use Rattle.bus.proofs.QueueLaws.{form_joined}
 use Rattle.state.proofs.Stands.{Lent}
 use Rattle.bus.proofs.Changed.{queue_formed, address_of, own_address, recounted, requeued, requeued_held, requeued_padded, stations_now}
 

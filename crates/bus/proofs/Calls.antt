@@ -28,7 +28,7 @@ use Rattle.state.proofs.Form.{parts_padded}
 use Rattle.state.proofs.Rows.{values_length, values_ext, row_at, row_same, row_replicate}
 use Rattle.state.proofs.Stands.{Lent}
 use Rattle.bus.proofs.Coded.{hands_back_begin, hands_back_probe, begin_bears, probe_bears, standing_exactly_begin, standing_exactly_probe}
-use Rattle.bus.proofs.ProbedSlot.{open_of}
+use Rattle.bus.specs.Parts.{open_of}
 use Rattle.bus.proofs.Steps.{goes_on}
 use Rattle.bus.proofs.InPlace.{Sound}
 

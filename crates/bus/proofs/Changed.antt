@@ -20,7 +20,8 @@ use Rattle.state.specs.Parts.{queue_of, packets_of}
 use Rattle.bus.specs.Parts.{queue_form}
 use Rattle.state.proofs.Rows.{values_map, values_same, among_values}
 use Rattle.state.proofs.Form.{Padded, places_length}
-use Rattle.bus.proofs.QueueLaws.{packets_of_form, form_places, form_padded, with_queue_lengths, queue_of_with, padded_form_of, with_queue}
+use Rattle.bus.specs.Parts.{with_queue}
+use Rattle.bus.proofs.QueueLaws.{packets_of_form, form_places, form_padded, with_queue_lengths, queue_of_with, padded_form_of}
 
 -- ---- queues with zero padding
 

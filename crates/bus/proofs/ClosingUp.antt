@@ -17,7 +17,8 @@ use Rattle.state.specs.State.{no_packet, places_at, queue_at}
 use Rattle.state.specs.Parts.{queue_of, packets_of}
 use Rattle.state.proofs.Places.{places_count, place_at}
 use Rattle.bus.specs.Parts.{queue_form}
-use Rattle.bus.proofs.QueueLaws.{kept_one, kept_length, kept_room, form_places, with_queue_lengths, queue_of_with, with_queue}
+use Rattle.bus.specs.Parts.{with_queue}
+use Rattle.bus.proofs.QueueLaws.{kept_one, kept_length, kept_room, form_places, with_queue_lengths, queue_of_with}
 
 -- ---- the places from `at` on: each packet is taken out, and one that stays is put back in the first free place
 

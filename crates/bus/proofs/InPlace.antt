@@ -19,6 +19,10 @@ use Rattle.rules.specs.Standing.{Standing}
 use Rattle.rules.specs.Admission as Rules
 use Rattle.rules.specs.Admission.{admission_refusal, turned_after}
 use Rattle.rules.specs.Begin.{begin, drops_of}
+use Rattle.rules.specs.Refusals.{number_of}
+use Rattle.rules.specs.declared.Refusal.{Refusal}
+use Rattle.rules.specs.declared.Refusal.TheVariants.{Discipline, ParameterSpace, AddressSpace, LaxityStep, StationCount, AddressRange, AddressTaken, CapabilityRange, CapabilityTaken, NoStation, ValueRange, LengthRange, Late, Filled, AllNumbered, ClockEnd, CutShort, UnknownKind, OutOfPlace, TimeBefore, TooLong, UnderWay, NoneUnderWay}
+use Rattle.rules.specs.declared.Refusal.TheVariants as Refusal
 use Rattle.rules.specs.Probe.{probe, refused_answer}
 use Rattle.rules.specs.Step.{opened}
 use Rattle.rules.specs.Engine as Engine
@@ -32,7 +36,7 @@ use Rattle.word.specs.Word.{count_of}
 use Rattle.state.specs.State.{Recorded, recorded_in, Held, meaning, form, queue_at, standing, waiting_in}
 use Rattle.bus.specs.Coded.{Answer, Event, Idle, Collision, Success, succeeded, Stepped, Admission, arrival_of, coded_admit, coded_step, coded, admission_result, step_result, state_turned}
 use Rattle.bus.specs.Stretch.{Arrivals, Report, no_arrival, most_calls, no_report, asks, due, arrival_report, step_report, in_row, may_be_more}
-use Rattle.bus.specs.Parts.{refusal_at, answered, Asked, asked_if, begun_with, Progress, Moved, unheard_on, won_on, collided_on, transmitters_in, moved_by, with_moved, segment_with, queue_form, stays, Sent, Heard, progress_of, Sole, sole_of, heard_in, moved_in, heard_of}
+use Rattle.bus.specs.Parts.{refusal_at, answered, Asked, asked_if, begun_with, Progress, Moved, unheard_on, won_on, collided_on, transmitters_in, moved_by, with_moved, segment_with, queue_form, stays, Sent, progress_of, Sole, sole_of, heard_in, moved_in}
 use Rattle.state.specs.Parts.{no_contenders, queue_of}
 use Rattle.state.proofs.Contenders.{zeroed, none_recorded}
 use Rattle.state.proofs.Form.{form_meaning, standing_fits, held_form, parts_padded}
@@ -45,10 +49,11 @@ use Rattle.bus.proofs.ClosingUp.{LeftIn, left_one}
 use Rattle.bus.proofs.BeginningLaws.{in_time_at, dropping_to, dropping_few, left_late, all_formed, room_left, late_counted, lost_counted, begun_state, begun_is, waiting_dropped}
 use Rattle.bus.proofs.Steps as Steps
 use Rattle.bus.proofs.Steps.{gives_17, goes_on, begins, probes}
-use Rattle.bus.proofs.ProbedSlot.{Probed, probed, queues_after, slot_with, stepped, winner_there, probed_is, open_of}
+use Rattle.bus.specs.Parts.{stepped, open_of}
+use Rattle.bus.proofs.ProbedSlot.{Probed, probed, queues_after, slot_with, winner_there, probed_is}
 use Rattle.bus.proofs.HeardLaws.{answer_moved, segment_moved, winner_moved, sole_short, sole_counted}
 use Rattle.bus.proofs.Stretched.{So-far, at_first, row_due, took, stepped_on}
-use Rattle.bus.proofs.QueueLaws.{with_queue}
+use Rattle.bus.specs.Parts.{with_queue}
 
 -- the state of these parts
 abbrev pub whole : Segment → Queues → State
@@ -60,7 +65,7 @@ pub lent_form : (b : Bus) → Standing b → Lent (form b)
 lent_form b h = lent_held (form b) (held_form b) (form_stands b h)
 
 -- the test that refusal 1 goes by is passed
-passed : (s : State) → Lent s → standing s ≡ true
+pub passed : (s : State) → Lent s → standing s ≡ true
 passed s r = true-and (parts_padded s r.zeros) (Tests.told (stands_exactly (meaning s)) r.stands)
 
 lent_next : (s : State) → Lent s → (c : Call) → Lent (next coded s c)
@@ -82,9 +87,44 @@ pub sound_of : (s : State) (t : Bool) → Held s → (standing s ≡ true → Le
 sound_of s true held lent e = lent (sym e)
 sound_of s false held lent e = (held, sym e)
 
-sound_next : (t : Bool) (s : State) → Sound t s → (c : Call) → Sound t (next coded s c)
+pub sound_next : (t : Bool) (s : State) → Sound t s → (c : Call) → Sound t (next coded s c)
 sound_next true s r c = lent_next s r c
 sound_next false s r c = subst (Sound false) (sym (next_same s r.0 r.1 c)) r
+
+pub held_of : (t : Bool) (s : State) → Sound t s → Held s
+held_of true s r = r.held
+held_of false s r = r.0
+
+pub told_of : (t : Bool) (s : State) → Sound t s → t ≡ standing s
+told_of true s r = sym (passed s r)
+told_of false s r = sym r.1
+
+-- each refusal has a number
+pub numbered : (r : Refusal) → ¬ (number_of r ≡ 0)
+numbered Refusal.Standing z = omega arith
+numbered Discipline z = omega arith
+numbered ParameterSpace z = omega arith
+numbered AddressSpace z = omega arith
+numbered LaxityStep z = omega arith
+numbered StationCount z = omega arith
+numbered AddressRange z = omega arith
+numbered AddressTaken z = omega arith
+numbered CapabilityRange z = omega arith
+numbered CapabilityTaken z = omega arith
+numbered NoStation z = omega arith
+numbered ValueRange z = omega arith
+numbered LengthRange z = omega arith
+numbered Late z = omega arith
+numbered Filled z = omega arith
+numbered AllNumbered z = omega arith
+numbered ClockEnd z = omega arith
+numbered CutShort z = omega arith
+numbered UnknownKind z = omega arith
+numbered OutOfPlace z = omega arith
+numbered TimeBefore z = omega arith
+numbered TooLong z = omega arith
+numbered UnderWay z = omega arith
+numbered NoneUnderWay z = omega arith
 
 -- ---- an admission in place
 
@@ -200,16 +240,16 @@ step_on false s r refusal e z = absurd (omega arith)
 -- ---- the contention is under way, or has just begun
 
 -- a step from s probes x, where so many packets have been dropped
-record Begun (s x : State) (drops : ℕ) : Type 0 where
+pub record Begun (s x : State) (drops : ℕ) : Type 0 where
   pub is : opened (meaning s) ≡ open_of x drops
   pub ready : Lent x
   pub begun : x.segment.contention.begun ≡ true
   pub clock : x.segment.clock ≡ s.segment.clock
 
-had_begun : (s : State) → Lent s → s.segment.contention.begun ≡ true → Begun s s 0
+pub had_begun : (s : State) → Lent s → s.segment.contention.begun ≡ true → Begun s s 0
 had_begun s r e = record { is = goes_on s e; ready = r; begun = e; clock = refl }
 
-just_begun : (s : State) → Lent s → s.segment.contention.begun ≡ false → Begun s (form (begin (meaning s))) (drops_of (meaning s))
+pub just_begun : (s : State) → Lent s → s.segment.contention.begun ≡ false → Begun s (form (begin (meaning s))) (drops_of (meaning s))
 just_begun s r e =
     record {
       is = begins s r e;
@@ -219,7 +259,7 @@ just_begun s r e =
     }
 
 -- the same, of equal things
-begun_as : {s x x' : State} {drops drops' : ℕ} → x' ≡ x → drops' ≡ drops → Begun s x drops → Begun s x' drops'
+pub begun_as : {s x x' : State} {drops drops' : ℕ} → x' ≡ x → drops' ≡ drops → Begun s x drops → Begun s x' drops'
 begun_as {s} {x} {x'} {drops} a b o = subst (Begun s x') (sym b) (subst (λ (y : State). Begun s y drops) (sym a) o)
 
 -- the same of its parts, which have their settings and stations as they were
@@ -425,7 +465,7 @@ module _ (g : Segment) (queues : Queues) (drops : ℕ) (ready : Lent (whole g qu
       ∙ probed_is (whole g queues) ready begun drops p refl
 
   -- no packet was sent
-  probed_unsent : ¬ (m.answer.event ≡ Success) → after g m queues ≡ stepped (probe (open_of (whole g queues) drops))
+  pub probed_unsent : ¬ (m.answer.event ≡ Success) → after g m queues ≡ stepped (probe (open_of (whole g queues) drops))
   probed_unsent n =
       after_is false (not_succeeded p.answer.event (λ k. n (ap (λ (x : Answer). x.event) answer! ∙ k))) queues refl
 
@@ -433,11 +473,11 @@ module _ (g : Segment) (queues : Queues) (drops : ℕ) (ready : Lent (whole g qu
   winner! : m.answer.event ≡ Success → sole.place ≡ p.winner
   winner! k = ap (λ (x : Sole). x.place) h ∙ sym (winner_moved g drops (ap (λ (x : Moved). x.answer.event) (sym whole_moved) ∙ k))
 
-  winner_placed : m.answer.event ≡ Success → sole.place < most_stations
+  pub winner_placed : m.answer.event ≡ Success → sole.place < most_stations
   winner_placed k = omega (arith, winner! k, winner_there (whole g queues) ready drops p refl)
 
   -- the winner's packet leaves its queue
-  probed_sent :
+  pub probed_sent :
       m.answer.event ≡ Success → (rest : Queues)
       → rest ≡ with_queue queues sole.place (queue_form (keep (stays (Sent m.answer.number)) (queue_at queues sole.place)))
       → after g m rest ≡ stepped (probe (open_of (whole g queues) drops))
@@ -451,87 +491,16 @@ module _ (g : Segment) (queues : Queues) (drops : ℕ) (ready : Lent (whole g qu
       (winner! k)
       (ap (λ (x : Answer). x.number) answer!))
 
--- the segment is probed, and the winner's packet leaves its queue: what `probe` does in place, and each `step`
-module _ (g : Segment) (queues : Queues) (drops : ℕ) (ready : Lent (whole g queues)) (begun : g.contention.begun ≡ true) where
-  abbrev it : State
-  it = whole g queues
-
-  -- `heard_in` may be called
-  pub may_probe :
-      (g.clock.0 ≤ 1073741824)
-      × (((sole_of g (heard_in g)).packet.length ≤ 4096) × (count_of (transmitters_in g) ≡ 1 → g.sent < 4294967295))
-  may_probe = (ready.stands.clock_in, (sole_short it ready begun, sole_counted it ready begun))
-
-  module _ (h : Heard) (h! : h ≡ heard_of g drops) where
-    event! : h.answer.event ≡ (moved_in g drops).answer.event
-    event! = ap (λ (x : Heard). x.answer.event) h!
-
-    abbrev heard_with : Heard → Queues → Stepped
-    heard_with x rest = record { answer = x.answer; state = whole x.segment rest }
-
-    pub none_won : ¬ (h.answer.event ≡ Success) → heard_with h queues ≡ stepped (probe (open_of it drops))
-    none_won n =
-        ap (λ (x : Heard). heard_with x queues) h!
-        ∙ probed_unsent g queues drops ready begun (sole_of g (heard_in g)) refl (moved_in g drops) refl (λ k. n (event! ∙ k))
-
-    module _ (won : h.answer.event ≡ Success) where
-      pub winner_there! : h.place < 64
-      winner_there! =
-          omega (
-            arith,
-            ap (λ (x : Heard). x.place) h!,
-            winner_placed g queues drops ready begun (sole_of g (heard_in g)) refl (moved_in g drops) refl (sym event! ∙ won),
-          )
-
-      -- `without` may be called
-      pub may_send :
-          (h.place + 1 ≤ 64)
-          × (((j : ℕ) → j < 64 → queue_of queues j ≡ queue_form (queue_at queues j)) × ((j : ℕ) → j < 64 → get_or queues.lengths j 0 ≤ 16))
-      may_send = (omega (arith, winner_there!), (all_formed it ready, few_packets it ready))
-
-      pub one_won :
-          (rest : Queues) → LeftIn (stays (Sent h.answer.number)) queues h.place (h.place + 1) rest
-          → (length rest.lengths ≡ 64) × (length rest.packets ≡ 1024) → heard_with h rest ≡ stepped (probe (open_of it drops))
-      one_won rest gone arrays =
-          ap (λ (x : Heard). heard_with x rest) h!
-          ∙ probed_sent g queues drops ready begun (sole_of g (heard_in g)) refl (moved_in g drops) refl (sym event! ∙ won) rest
-          (left_one (stays (Sent h.answer.number)) queues rest h.place winner_there! ready.held.lengths ready.held.packets arrays.0 arrays.1
-          (few_packets it ready h.place winner_there!)
-          gone
-          ∙ ap (λ (x : Heard). with_queue queues x.place (queue_form (keep (stays (Sent x.answer.number)) (queue_at queues x.place)))) h!)
-
--- and so it is the step
-module _ (s : State) (r : Lent s) (on_time : ltb last_slot s.segment.clock.0 ≡ false) (g : Segment) (queues : Queues) (drops : ℕ)
-    (o : Opened s g queues drops) (sole : Sole) (h : sole ≡ sole_of g (heard_in g)) (m : Moved)
-    (e : m ≡ moved_by g.settings (progress_of g) drops (count_of (transmitters_in g)) sole.listed sole.packet) where
-  of_step : stepped (probe (open_of (whole g queues) drops)) ≡ step_result (coded_step s)
-  of_step = probes s r on_time (open_of (whole g queues) drops) o.is
-
-  none_sent : ¬ (m.answer.event ≡ Success) → after g m queues ≡ step_result (coded_step s)
-  none_sent n = probed_unsent g queues drops o.ready o.begun sole h m e n ∙ of_step
-
-  one_sent :
-      m.answer.event ≡ Success → (rest : Queues)
-      → rest ≡ with_queue queues sole.place (queue_form (keep (stays (Sent m.answer.number)) (queue_at queues sole.place)))
-      → after g m rest ≡ step_result (coded_step s)
-  one_sent k rest f = probed_sent g queues drops o.ready o.begun sole h m e k rest f ∙ of_step
-
-  pub winner_in : m.answer.event ≡ Success → sole.place < most_stations
-  winner_in = winner_placed g queues drops o.ready o.begun sole h m e
-
-  -- the contention goes on; or it ends, without a winner or with one
-  pub still_on : m.answer.ended ≡ false → placed g m (recorded_in g) queues ≡ step_result (coded_step s)
-  still_on f = contenders_of g m f queues ∙ none_sent (unended g.settings (progress_of g) drops (count_of (transmitters_in g)) sole m e f)
-
-  pub ends_unheard :
-      m.answer.ended ≡ true → ¬ (m.answer.event ≡ Success) → placed g m zeroed queues ≡ step_result (coded_step s)
-  ends_unheard f n = cleared g m queues ∙ contenders_of g m f queues ∙ none_sent n
-
-  pub ends_won :
-      m.answer.ended ≡ true → m.answer.event ≡ Success → (rest : Queues)
-      → rest ≡ with_queue queues sole.place (queue_form (keep (stays (Sent m.answer.number)) (queue_at queues sole.place)))
-      → placed g m zeroed rest ≡ step_result (coded_step s)
-  ends_won f k rest h' = cleared g m rest ∙ contenders_of g m f rest ∙ one_sent k rest h'
+-- what is moved, by the sole winner as the code finds it
+module _ (s : State) (r : Lent s) (begun : s.segment.contention.begun ≡ true) where
+  -- `moved` may be called
+  pub may_move :
+      (sole : Sole) → sole ≡ sole_of s.segment (heard_in s.segment) → (count : ℕ) → count ≡ count_of (transmitters_in s.segment)
+      → (s.segment.clock.0 ≤ 1073741824) × ((sole.packet.length ≤ 4096) × (count ≡ 1 → s.segment.sent < 4294967295))
+  may_move sole sole! count count! = (
+    r.stands.clock_in,
+    (omega (arith, ap (λ (x : Sole). x.packet.length) sole!, sole_short s r begun), λ one. sole_counted s r begun (sym count! ∙ one)),
+  )
 
 -- ---- what a stretch has come to, in place
 

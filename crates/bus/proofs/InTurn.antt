@@ -1,16 +1,16 @@
 -- A turn of the loop of `playing::calls`, by the values that it finds: what its offers, its probe and the winner's queue come to.
 -- Assumes nothing.
-use Rattle.std.proofs.Common.{ℕ, Bool, ◌+◌, ◌-◌, ◌*◌, ◌≤◌, ◌<◌, ◌≡◌, sym, ap, ap₂, ◌∙◌, subst, List, false, ◌||◌, add-zero, arith, rules, Fits, w64, eqb, length, get_or, set}
+use Rattle.std.proofs.Common.{ℕ, Bool, ◌+◌, ◌-◌, ◌*◌, ◌≤◌, ◌<◌, ◌≡◌, sym, ap, refl, ap₂, ◌∙◌, subst, List, false, ◌||◌, add-zero, arith, rules, Fits, w64, eqb, length, get_or, set}
 use Rattle.std.proofs.Math.Option.{some}
 use Rattle.word.specs.Word.{set_at, count_of, lowest_of}
-use Rattle.rules.specs.Begin.{drops_of, choice, sits_out}
+use Rattle.rules.specs.Begin.{begin, drops_of, choice, sits_out}
 use Rattle.rules.proofs.Standing.{set_up_stands}
 use Rattle.bus.specs.Types.{Packet, Settings, Contention, Segment, Queues, State, Slot}
-use Rattle.state.specs.State.{recorded_in, nobody, queue_at, meaning, last_of, waiting_in}
-use Rattle.bus.specs.Parts.{opening_of, transmitters_of, transmitters_in, addresses_of, moved_by, Moved, parameter_for, begun_with, segment_counting, progress_of, Sole, sole_of, heard_in}
+use Rattle.state.specs.State.{form, recorded_in, nobody, queue_at, meaning, last_of, waiting_in}
+use Rattle.bus.specs.Parts.{offers_of, offering_all, AllInTime, opening_of, transmitters_of, transmitters_in, addresses_of, moved_by, Moved, parameter_for, begun_with, segment_counting, progress_of, Sole, sole_of, heard_in}
 use Rattle.state.proofs.Stands.{Lent}
 use Rattle.bus.proofs.ClosingUp.{ClosedUp, LeftIn}
-use Rattle.bus.proofs.BeginningLaws.{in_time_at, room_left, late_counted, lost_counted}
+use Rattle.bus.proofs.BeginningLaws.{in_time_at, room_left, late_counted, lost_counted, begun_is, waiting_dropped}
 use Rattle.bus.proofs.OffersInPlace.{offering_to, InTimeTo, none_leaves, offering_more}
 use Rattle.bus.proofs.HeardLaws.{sole_short, sole_counted, lowest_there, counted! }
 use Rattle.bus.proofs.InPlace.{whole, Opened, begun_open, offered_open}
@@ -149,6 +149,35 @@ module _ (s : State) (r : Lent s) where
       late_opened between next next! =
           begun_open s r between rest left arrays.0 arrays.1 drops drops_are next
           (next! ∙ ap (λ (x : Segment). begun_with x rest drops) g!)
+
+  -- so that the state is the form of the bus in which it has begun
+  pub begun_late :
+      (rest : Queues) (left : LeftIn (in_time_at s) s.queues 0 s.segment.settings.n rest)
+      (arrays : (length rest.lengths ≡ 64) × (length rest.packets ≡ 1024)) (drops : ℕ)
+      (drops! : drops ≡ waiting_in s.queues.lengths s.segment.settings.n - waiting_in rest.lengths s.segment.settings.n) (x : State)
+      → x ≡ offering_all s → (g : Segment) → g ≡ begun_with x.segment rest drops
+      → whole g rest ≡ form (begin (meaning s))
+  begun_late rest left arrays drops drops! x x! g g! =
+      ap (λ (y : Segment). whole y rest) (g! ∙ ap (λ (y : State). begun_with y.segment rest drops) x!)
+      ∙ begun_is s r rest left drops (drops_are rest left arrays drops drops! (offering_to s 0) 0 refl) arrays.0 arrays.1
+
+  pub none_dropped : AllInTime s → 0 ≡ drops_of (meaning s)
+  none_dropped on_time = let all = waiting_dropped s r s.queues (none_leaves s r on_time) r.held.lengths in omega arith
+
+  -- or none leaves
+  pub begun_on_time :
+      AllInTime s → (x : State) → x ≡ offering_all s → (c : Contention) → c ≡ opening_of s.segment.settings.d
+      → whole (segment_counting x.segment x.segment.admitted x.segment.lost c (recorded_in x.segment)) x.queues ≡ form (begin (meaning s))
+  begun_on_time on_time x x! c c! =
+      ap₂
+      (λ (y : State) (k : Contention).
+      whole (segment_counting y.segment y.segment.admitted y.segment.lost k (recorded_in y.segment)) y.queues)
+      x!
+      c!
+      ∙ ap
+      (λ (m : ℕ). whole (segment_counting s.segment s.segment.admitted m (opening_of s.segment.settings.d) (recorded_in (offers_of s.segment s.queues))) s.queues)
+      (sym (add-zero s.segment.lost))
+      ∙ begun_is s r s.queues (none_leaves s r on_time) 0 (none_dropped on_time) r.held.lengths r.held.packets
 
   -- or none is late
   pub none_late :

@@ -50,6 +50,10 @@ module _ (s : State) where
   abbrev pub offering_to : ℕ → Segment
   offering_to i = with_contenders (places_to f i)
 
+  -- the same of the state, whose queues stay
+  abbrev pub offered_to : ℕ → State
+  offered_to i = record { segment = offering_to i; queues = s.queues }
+
   -- their packets are in time
   abbrev pub InTimeTo : ℕ → Type 0
   InTimeTo i = (j : ℕ) → j < i → (p : Packet) → Among p (queue_at s.queues j) → late d s.segment.clock.0 p.value ≡ false

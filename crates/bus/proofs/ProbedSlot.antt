@@ -30,23 +30,15 @@ use Rattle.rules.proofs.Laws.{and-true, true-and, count_some, count-le, total_am
 use Rattle.bus.specs.Types.{Packet, Address, Capability, Contention, Round, Segment, Queues, State}
 use Rattle.state.specs.State.{Held, recorded_in, recorded_at, place_in, no_packet, no_contender, no_round, no_contention, nobody, queue_at, offer_of, station_with, station_at, values_from, stations_of, last_of, tie_of, contention_of, meaning, form, contender_padded, has_no_station, round_padded, no_window, contention_padded}
 use Rattle.bus.specs.Coded.{Answer, Phase, Parameter, Tie, Stepped, phase_form, event_form, succeeded, answer_form, step_result}
-use Rattle.bus.specs.Parts.{Progress, Moved, Sent, stays, queue_form, contender_at, lies_within, addresses_of, answer_at, split_of, collided_on, unheard_on, round_after, won_on, moved_by, segment_with, with_moved, progress_of, Sole, no_sole, sole_at, sole_of, heard_in}
+use Rattle.bus.specs.Parts.{open_of, stepped, with_queue, Progress, Moved, Sent, stays, queue_form, contender_at, lies_within, addresses_of, answer_at, split_of, collided_on, unheard_on, round_after, won_on, moved_by, segment_with, with_moved, progress_of, Sole, no_sole, sole_at, sole_of, heard_in}
 use Rattle.state.specs.Parts.{no_contenders}
 use Rattle.state.proofs.Rows.{values_map, values_same, row_at, among_values}
 use Rattle.state.proofs.Contenders.{recorded_held, place_recorded}
 use Rattle.state.proofs.Form.{Padded, parts_padded, to_form, bits_past_n}
-use Rattle.bus.proofs.QueueLaws.{kept_length, with_queue}
+use Rattle.bus.specs.Parts.{with_queue}
+use Rattle.bus.proofs.QueueLaws.{kept_length}
 use Rattle.state.proofs.Stands.{Lent}
 use Rattle.bus.proofs.Changed.{own_address, requeued, requeued_held, requeued_padded, stations_now}
-
--- the bus as it is probed, with the contention that has begun
-abbrev pub open_of : State → ℕ → Probe.Open
-open_of s drops =
-    record {
-      bus = meaning s;
-      contention = record { window = s.segment.contention.window; tie = tie_of s.segment.contention };
-      drops = drops;
-    }
 
 -- ---- one probe of a segment
 
@@ -484,10 +476,6 @@ slot_with p queues = record { answer = p.answer; state = record { segment = p.se
 -- on success the packet leaves the winner's queue
 abbrev pub slot_of : State → Probed → Stepped
 slot_of s p = slot_with p (cond (succeeded p.answer.event) (queues_after s p) s.queues)
-
--- the same of the machine's answer and bus
-abbrev pub stepped : Probe.Answer × Bus → Stepped
-stepped r = step_result (r.0, form r.1)
 
 phase_is : (c : Contention) → cond c.tied Tie Parameter ≡ phase_form (phase_of (tie_of c))
 phase_is c = go c.tied

@@ -18,7 +18,7 @@ use Rattle.bus.specs.Types.{Queues, Queue, Packet}
 use Rattle.state.specs.State.{no_packet, places_at, queue_at, has_no_packet, queue_padded}
 use Rattle.state.specs.Parts.{queue_of, packets_of}
 use Rattle.state.proofs.Form.{no_packet_is}
-use Rattle.bus.specs.Parts.{queue_form}
+use Rattle.bus.specs.Parts.{queue_form, with_queue}
 
 -- ---- queues by their packets
 
@@ -67,14 +67,6 @@ pub form_places : (ps : List Packet) → length ps ≤ 16 → length (queue_form
 form_places ps h = simp (length-append, length-replicate) (omega arith)
 
 -- ---- the row with one queue put back
-
--- the row with the queue of station i put back
-abbrev pub with_queue : Queues → ℕ → Queue → Queues
-with_queue qs i queue =
-    record {
-      lengths = set qs.lengths i queue.length;
-      packets = take (places * i) qs.packets ++ queue.packets ++ drop (places * i + places) qs.packets;
-    }
 
 -- a part that ends within the first of two lists
 part_front : (xs ys : List Packet) (f m : ℕ) → f + m ≤ length xs → take m (drop f (xs ++ ys)) ≡ take m (drop f xs)

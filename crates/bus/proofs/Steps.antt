@@ -20,7 +20,7 @@ use Rattle.bus.specs.Coded.{on_meaning, coded_step, step_result}
 use Rattle.state.proofs.Form.{form_meaning, parts_padded, Fits, standing_fits, meaning_form}
 use Rattle.bus.proofs.Coded.{coded_step_form, hands_back_step, step_bears, standing_exactly_step}
 use Rattle.state.proofs.Stands.{Lent, lent_held}
-use Rattle.bus.proofs.ProbedSlot.{open_of}
+use Rattle.bus.specs.Parts.{open_of}
 
 -- ---- a refused step gives its number, and the state as lent
 

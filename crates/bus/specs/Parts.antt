@@ -1,31 +1,30 @@
 -- The parts that the calls are made of, as functions: what the contracts of the private functions cite. Assumes nothing.
-use Rattle.std.specs.Prelude.{ℕ, zero, suc, ◌+◌, ◌-◌, ◌*◌, ◌/◌, ◌^◌, min, Bool, true, false, not, ◌&&◌, cond, List, [], ◌∷◌, ◌++◌, leb, ltb, eqb, length, get_or, replicate}
+use Rattle.std.specs.Prelude.{ℕ, zero, suc, ◌≡◌, ◌<◌, ◌+◌, ◌-◌, ◌*◌, ◌/◌, ◌^◌, min, Bool, true, false, not, ◌&&◌, cond, List, [], ◌∷◌, ◌++◌, leb, ltb, eqb, length, get_or, set, take, drop, replicate}
 use Rattle.std.proofs.Math.Option.{Option, none, some}
 use Rattle.window.specs.declared.Side.{Side}
 use Rattle.window.specs.declared.Side.TheVariants.{Left, Right}
 use Rattle.window.specs.Splitting.{first_window, left_half, moved_right, in_window}
 use Rattle.word.specs.Word.{bit_at, members, word_of, first_or, count_of}
-use Rattle.rules.specs.Lists.{first_of}
+use Rattle.rules.specs.Lists.{Among, first_of}
 use Rattle.rules.specs.declared.Discipline.{Discipline}
 use Rattle.rules.specs.declared.Discipline.TheVariants.{PRI, RTDG, RTVC}
-use Rattle.rules.specs.Bus.{places, most_admitted, late}
+use Rattle.rules.specs.Bus.{Bus, places, most_admitted, late}
 use Rattle.rules.specs.SetUp.{discipline_of}
 use Rattle.rules.specs.Standing.{value_is_fit, length_fits}
 use Rattle.rules.specs.Begin.{sits_out, choice}
 use Rattle.rules.specs.declared.Admitted.{Admitted}
 use Rattle.rules.specs.Probe as Probe
 use Rattle.rules.specs.Probe.{wait_of}
-use Rattle.bus.specs.Types.{Slot, Address, Capability, Settings, Listed, Contender, Contention, Round, Segment, Queues, Queue, Packet}
+use Rattle.bus.specs.Types.{Slot, Address, Capability, Settings, Listed, Contender, Contention, Round, Segment, Queues, State, Queue, Packet}
 use Rattle.state.specs.Parts.{no_contenders}
-use Rattle.state.specs.State.{Recorded, recorded_in, recorded_at, recorded, no_packet, no_contender, no_contention, no_round, nobody, row, queue_at, last_of}
-use Rattle.bus.specs.Coded.{Begun, Answer, Phase, Parameter, Tie, Event, Idle, Collision, Success}
+use Rattle.state.specs.State.{Recorded, recorded_in, recorded_at, recorded, no_packet, no_contender, no_contention, no_round, nobody, row, queue_at, last_of, tie_of, meaning, form}
+use Rattle.bus.specs.Coded.{Admission, Begun, Stepped, step_result, Answer, Phase, Parameter, Tie, Event, Idle, Collision, Success}
 pub use Rattle.bus.specs.declared.Leaving.{Leaving}
 pub use Rattle.bus.specs.declared.Leaving.TheVariants.{Late, Sent}
 pub use Rattle.bus.specs.declared.Chosen.{Chosen}
 pub use Rattle.bus.specs.declared.Asked.{Asked}
 pub use Rattle.bus.specs.declared.Progress.{Progress}
 pub use Rattle.bus.specs.declared.Moved.{Moved}
-pub use Rattle.bus.specs.declared.Heard.{Heard}
 
 -- ---- the disciplines
 
@@ -44,6 +43,18 @@ rank_of p = p.value * 2 ^ 32 + p.number
 -- the queue that holds these packets
 abbrev pub queue_form : List Packet → Queue
 queue_form packets = record { packets = packets ++ replicate (places - length packets) no_packet; length = length packets }
+
+-- the rows have as many places as the code's
+abbrev pub IsRow : Queues → Type 0
+IsRow qs = (length qs.lengths ≡ 64) × (length qs.packets ≡ 1024)
+
+-- the row with the queue of station i put back
+abbrev pub with_queue : Queues → ℕ → Queue → Queues
+with_queue qs i queue =
+    record {
+      lengths = set qs.lengths i queue.length;
+      packets = take (places * i) qs.packets ++ queue.packets ++ drop (places * i + places) qs.packets;
+    }
 
 -- whether a packet stays
 abbrev pub stays : Leaving → Packet → Bool
@@ -151,6 +162,16 @@ offers_of g queues = segment_counting g g.admitted g.lost g.contention (recorded
 abbrev pub begun_with : Segment → Queues → ℕ → Segment
 begun_with g queues drops =
     segment_counting g g.admitted (g.lost + drops) (opening_of g.settings.d) (recorded (offer_at g queues))
+
+-- the same of a state, whose queues stay
+abbrev pub offering_all : State → State
+offering_all s = record { segment = offers_of s.segment s.queues; queues = s.queues }
+
+-- no packet of a station's queue is late
+abbrev pub AllInTime : State → Type 0
+AllInTime s =
+    (j : ℕ) → j < s.segment.settings.n → (p : Packet) → Among p (queue_at s.queues j)
+    → late (discipline_of s.segment.settings.discipline) s.segment.clock.0 p.value ≡ false
 
 -- the addresses of those in a word, by station; zeros elsewhere
 abbrev pub contending_of : ℕ → List Listed → List Address
@@ -348,7 +369,25 @@ abbrev pub moved_in : Segment → ℕ → Moved
 moved_in g drops =
     moved_by g.settings (progress_of g) drops (count_of (transmitters_in g)) (sole_of g (heard_in g)).listed (sole_of g (heard_in g)).packet
 
--- what it hears: its answer, the sole winner's place, and the segment after it
-abbrev pub heard_of : Segment → ℕ → Heard
-heard_of g drops =
-    record { answer = (moved_in g drops).answer; place = (sole_of g (heard_in g)).place; segment = with_moved g (moved_in g drops) }
+-- the bus as it is probed, with the contention that has begun
+abbrev pub open_of : State → ℕ → Probe.Open
+open_of s drops =
+    record {
+      bus = meaning s;
+      contention = record { window = s.segment.contention.window; tie = tie_of s.segment.contention };
+      drops = drops;
+    }
+
+-- what the machine's probe makes of it
+abbrev pub stepped : Probe.Answer × Bus → Stepped
+stepped r = step_result (r.0, form r.1)
+
+-- an answer beside the state, as the functions return them
+abbrev pub stepped_to : Answer → State → Stepped
+stepped_to answer s = record { answer = answer; state = s }
+
+abbrev pub admission_to : Admitted → State → Admission
+admission_to answer s = record { answer = answer; state = s }
+
+abbrev pub probed_slot : State → ℕ → Stepped
+probed_slot s drops = stepped (Probe.probe (open_of s drops))

@@ -1,16 +1,18 @@
 // Beginning a contention: late packets are counted lost, each station offers one packet, and parameters and the first window are fixed.
-ghost use Rattle.std.specs.Prelude.{ℕ, ◌+◌, ◌-◌, ◌<◌, ◌≤◌, ◌≡◌, false, ◌||◌, cond, eqb, get_or};
+ghost use Rattle.std.specs.Prelude.{ℕ, ◌+◌, ◌-◌, ◌<◌, ◌≤◌, ◌≡◌, true, false, ◌||◌, cond, eqb, get_or};
 ghost use Rattle.rules.specs.SetUp.{discipline_of};
 ghost use Rattle.rules.specs.Begin.{sits_out};
 ghost use Rattle.state.specs.State.{last_of, waiting_in};
-ghost use Rattle.bus.specs.Parts.{contender_for, opening_of, offers_of, begun_with, contending_of, shown_of};
+ghost use Rattle.state.specs.State.{Held, standing, meaning, form};
+ghost use Rattle.rules.specs.Begin.{begin, drops_of};
+ghost use Rattle.bus.specs.Parts.{offering_all, AllInTime, contender_for, opening_of, offers_of, begun_with, contending_of, shown_of};
 ghost use Rattle.state.specs.Parts.{packets_of};
 
 use crate::{Begun, offering, waiting};
 use rules::Slot;
 use sorts::{Address, Capability, disciplines};
 use state::{
-    Contender, Contention, Listed, Queue, Queues, Round, Segment, Settings, standing, zeros,
+    Contender, Contention, Listed, Queue, Queues, Round, Segment, Settings, State, standing, zeros,
 };
 
 // Whether a station has no packet, or sits out.
@@ -148,6 +150,72 @@ pub fn begun(g: Segment, queues: Queues, drops: u64) -> Segment
     next.lost = g.lost + drops;
     next.contention = contention;
     next
+}
+
+// Each station's offer, recorded where none is: the search carries the place of the best packet so far. Whether one of them is late. Where none
+// is, no packet of a queue is, because those offered in RTDG have the smallest latest starts.
+fn offer_all(s: &mut State) -> bool
+    requires held { Held s.old }
+    requires stands { standing s.old ≡ true }
+    requires between { s.old.segment.contention.begun ≡ false }
+    ensures offers { s.new ≡ offering_all s.old }
+    ensures in_time { result ≡ false → AllInTime s.old }
+{
+    let settings = s.segment.settings;
+    let clock = s.segment.clock;
+    let round = s.segment.round;
+    let n = settings.n;
+    let mut late = false;
+    for i in 0..n {
+        let l = s.segment.listed[i];
+        let length = s.queues.lengths[i];
+        if offers_nothing(settings.discipline, round, l.capability, length) {
+            continue;
+        }
+        let first = 16 * i;
+        let looked = offering::looked_at(settings.discipline, length);
+        let mut place = first;
+        let mut least = offering::rank(s.queues.packets[first]);
+        for j in 1..looked {
+            let at = first + j;
+            let rank = offering::rank(s.queues.packets[at]);
+            if rank < least {
+                least = rank;
+                place = at;
+            }
+        }
+        let packet = s.queues.packets[place];
+        late = offering::late_offered(late, settings.discipline, clock, packet.value);
+        s.segment.contenders = word::set(s.segment.contenders, i);
+        s.segment.parameters[i] = offering::parameter(settings, clock, l.capability, packet);
+        s.segment.numbers[i] = packet.number;
+        s.segment.values[i] = packet.value;
+        s.segment.lengths[i] = packet.length;
+        s.segment.admissions[i] = packet.admission;
+    }
+    late
+}
+
+// A contention begins: late packets leave, each station offers one packet, and parameters and the first window are fixed. How many were dropped.
+pub fn begin_in(s: &mut State) -> u64
+    requires held { Held s.old }
+    requires stands { standing s.old ≡ true }
+    requires between { s.old.segment.contention.begun ≡ false }
+    ensures begun { s.new ≡ form (begin (meaning s.old)) }
+    ensures drops { result ≡ drops_of (meaning s.old) }
+    ensures listed { s.new.segment.listed ≡ s.old.segment.listed }
+{
+    let settings = s.segment.settings;
+    if !offer_all(s) {
+        s.segment.contention = opening(settings.d);
+        return 0;
+    }
+    // One is late: all that are leave, and the offers are made anew.
+    let lengths = s.queues.lengths;
+    waiting::drop_late(&mut s.queues, settings.n, settings.discipline, s.segment.clock);
+    let drops = dropped(lengths, s.queues.lengths, settings.n);
+    s.segment = begun(s.segment, s.queues, drops);
+    drops
 }
 
 // The addresses of those in a word, by station.

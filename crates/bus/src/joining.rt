@@ -1,12 +1,13 @@
 // Admission: the station with an address, refusals 11 to 16, and the answer.
 ghost use Rattle.std.specs.Prelude.{◌≤◌, ◌≡◌, true, eqb, get_or};
-ghost use Rattle.state.specs.State.{nobody};
-ghost use Rattle.bus.specs.Parts.{first_place, refusal_at, asked_if};
+ghost use Rattle.state.specs.State.{Held, standing, nobody};
+ghost use Rattle.bus.specs.Coded.{coded_admit, admission_result, arrival_of};
+ghost use Rattle.bus.specs.Parts.{first_place, refusal_at, asked_if, admission_to};
 
 use crate::Asked;
-use rules::{Admitted, Slot};
-use sorts::{Address, disciplines};
-use state::{Listed, Settings, standing};
+use rules::{Admitted, Packet, Slot};
+use sorts::{Address, counts, disciplines};
+use state::{Listed, Settings, State, standing};
 
 // The place of the station with an address; n where there is none.
 fn station_of(listed: [Listed; 64], n: usize, address: Address) -> usize
@@ -90,4 +91,48 @@ pub fn asked(
         number: (admitted + 1) as u32,
     };
     Asked { place, answer }
+}
+
+// The same in a state: an accepted packet takes the first free place of its station's queue, and one that is refused with 14 or 15 is counted.
+pub fn admit_in(
+    s: &mut State,
+    stands: bool,
+    address: Address,
+    value: u32,
+    length: u32,
+) -> Admitted
+    requires held { Held s.old }
+    requires stands { stands ≡ standing s.old }
+    ensures admitted { admission_to result s.new ≡ admission_result (coded_admit s.old (arrival_of address value length)) }
+    ensures listed { s.new.segment.listed ≡ s.old.segment.listed }
+{
+    let clock = s.segment.clock;
+    let lengths = s.queues.lengths;
+    let asked = asked(
+        stands,
+        s.segment.settings,
+        s.segment.listed,
+        clock,
+        s.segment.admitted,
+        lengths,
+        address,
+        value,
+        length,
+    );
+    let answer = asked.answer;
+    s.segment.turned = counts::turned_after(answer.refusal, s.segment.turned);
+    if answer.refusal == 0 {
+        let place = asked.place;
+        let waiting = lengths[place];
+        let at = 16 * place + waiting;
+        s.queues.packets[at] = Packet {
+            number: answer.number,
+            value,
+            length,
+            admission: clock,
+        };
+        s.queues.lengths[place] = waiting + 1;
+        s.segment.admitted = u64::from(answer.number);
+    }
+    answer
 }

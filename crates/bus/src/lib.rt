@@ -4,14 +4,15 @@
 
 ghost use Rattle.std.specs.Prelude.{◌≡◌, cond, ltb};
 ghost use Rattle.rules.specs.Bus.{last_slot};
+ghost use Rattle.rules.specs.Refusals.{answered};
 ghost use Rattle.rules.specs.Probe.{refused_answer};
 ghost use Rattle.rules.specs.Step.{refused_begun};
 ghost use Rattle.bus.specs.Stretch.{stretch_of, stretch_form};
 ghost use Rattle.bus.specs.Coded.{phase_number, event_number, coded_admit, coded_begin, coded_probe, coded_step, admission_result, begin_result, step_result, arrival_of, begun_form, answer_form, totals_of};
 
-use rules::{Admitted, Packet, Slot};
-use sorts::{Address, counts};
-use state::{Arrival, Contention, Round, Segment, State, standing};
+use rules::{Admitted, Packet, Refusal, Slot};
+use sorts::Address;
+use state::{Arrival, Contention, Round, State, standing};
 
 mod beginning;
 mod joining;
@@ -220,60 +221,27 @@ struct Moved {
     pub progress: Progress,
 }
 
-// What a probe hears in a segment: its answer, the sole winner's place, which is 0 where there is none, and the segment after it.
-#[derive(Clone, Copy)]
-struct Heard {
-    pub answer: Answer,
-    pub place: usize,
-    pub segment: Segment,
-}
-
 // 'Admission tries 1, then 11 to 16'; an accepted packet takes the first free place of its station's queue, and one that is refused with 14 or
 // 15 is counted.
-pub fn admit(s: State, address: Address, value: u32, length: u32) -> Admission
+pub fn admit(mut s: State, address: Address, value: u32, length: u32) -> Admission
     ensures { result ≡ admission_result (coded_admit s (arrival_of address value length)) }
 {
     let stands = standing::stands(s);
-    let mut g = s.segment;
-    let mut queues = s.queues;
-    let settings = g.settings;
-    let listed = g.listed;
-    let lengths = queues.lengths;
-    let asked = joining::asked(
-        stands, settings, listed, g.clock, g.admitted, lengths, address, value, length,
-    );
-    let answer = asked.answer;
-    g.turned = counts::turned_after(answer.refusal, g.turned);
-    if answer.refusal == 0 {
-        let place = asked.place;
-        let waiting = lengths[place];
-        let at = 16 * place + waiting;
-        let clock = g.clock;
-        let packet = Packet {
-            number: answer.number,
-            value,
-            length,
-            admission: clock,
-        };
-        queues.packets[at] = packet;
-        queues.lengths[place] = waiting + 1;
-        g.admitted = answer.number as u64;
-    }
-    let state = State { segment: g, queues };
-    Admission { answer, state }
+    let answer = joining::admit_in(&mut s, stands, address, value, length);
+    Admission { answer, state: s }
 }
 
-// '25, begin while one is under way; .. after 1': the refusal, or 0.
-fn begin_refusal(stands: bool, begun: bool) -> u32
-    ensures { result ≡ cond stands (cond begun 25 0) 1 }
+// '25, begin while one is under way; .. after 1'
+fn may_begin(stands: bool, begun: bool) -> Result<(), Refusal>
+    ensures { answered result ≡ cond stands (cond begun 25 0) 1 }
 {
     if !stands {
-        return 1;
+        return Err(Refusal::Standing);
     }
     if begun {
-        return 25;
+        return Err(Refusal::UnderWay);
     }
-    0
+    Ok(())
 }
 
 // The answer to a refused begin: 'zero in the answer's other fields'.
@@ -300,39 +268,30 @@ pub fn begin(mut s: State) -> Started
 {
     let stands = standing::stands(s);
     let under_way = s.segment.contention;
-    let refusal = begin_refusal(stands, under_way.begun);
-    let mut answer = unbegun(refusal);
-    if refusal == 0 {
-        let settings = s.segment.settings;
-        let n = settings.n;
-        let to = beginning::dropping(settings.discipline, n);
-        let clock = s.segment.clock;
-        let leaving = Leaving::Late(settings.discipline, clock);
-        let lengths = s.queues.lengths;
-        s.queues = waiting::without(s.queues, 0, to, leaving);
-        let kept = s.queues.lengths;
-        let drops = beginning::dropped(lengths, kept, n);
-        s.segment = beginning::begun(s.segment, s.queues, drops);
-        let g = s.segment;
-        answer = beginning::shown(g, drops);
-    }
+    let answer = match may_begin(stands, under_way.begun) {
+        Ok(()) => {
+            let drops = beginning::begin_in(&mut s);
+            beginning::shown(s.segment, drops)
+        }
+        Err(refusal) => unbegun(u32::from(refusal)),
+    };
     Started { answer, state: s }
 }
 
-// '26, probe while none is; .. after 1, and 26 before 17, which belongs to the probe': the refusal, or 0.
-fn probe_refusal(stands: bool, begun: bool, clock: Slot) -> u32
-    ensures { result ≡ cond stands (cond begun (cond (ltb last_slot clock.0) 17 0) 26) 1 }
+// '26, probe while none is; .. after 1, and 26 before 17, which belongs to the probe'
+fn may_probe(stands: bool, begun: bool, clock: Slot) -> Result<(), Refusal>
+    ensures { answered result ≡ cond stands (cond begun (cond (ltb last_slot clock.0) 17 0) 26) 1 }
 {
     if !stands {
-        return 1;
+        return Err(Refusal::Standing);
     }
     if !begun {
-        return 26;
+        return Err(Refusal::NoneUnderWay);
     }
-    if sorts::before(Slot(LAST_SLOT), clock) {
-        return 17;
+    if Slot(LAST_SLOT) < clock {
+        return Err(Refusal::ClockEnd);
     }
-    0
+    Ok(())
 }
 
 // Probes one slot of the contention under way: who transmits, what is heard, and what becomes of the window and the state.
@@ -341,37 +300,30 @@ pub fn probe(mut s: State) -> Stepped
 {
     let stands = standing::stands(s);
     let under_way = s.segment.contention;
-    let refusal = probe_refusal(stands, under_way.begun, s.segment.clock);
-    let mut answer = refused(refusal);
-    if refusal == 0 {
-        let heard = probing::heard_in(s.segment, 0);
-        answer = heard.answer;
-        let segment = heard.segment;
-        s.segment = segment;
-        // 'That packet leaves its queue.'
-        if answer.event == Event::Success {
-            let place = heard.place;
-            let sent = Leaving::Sent(answer.number);
-            s.queues = waiting::without(s.queues, place, place + 1, sent);
+    let answer = match may_probe(stands, under_way.begun, s.segment.clock) {
+        Ok(()) => {
+            let addresses = probing::addresses_of(s.segment.listed);
+            probing::probe_in(&mut s, 0, &addresses)
         }
-    }
+        Err(refusal) => refused(u32::from(refusal)),
+    };
     Stepped { answer, state: s }
 }
 
-// 'a step tries 1, then 17': the refusal, or 0.
-fn step_refusal(stands: bool, clock: Slot) -> u32
-    ensures { result ≡ cond stands (cond (ltb last_slot clock.0) 17 0) 1 }
+// 'a step tries 1, then 17'
+fn may_step(stands: bool, clock: Slot) -> Result<(), Refusal>
+    ensures { answered result ≡ cond stands (cond (ltb last_slot clock.0) 17 0) 1 }
 {
     if !stands {
-        return 1;
+        return Err(Refusal::Standing);
     }
-    if sorts::before(Slot(LAST_SLOT), clock) {
-        return 17;
+    if Slot(LAST_SLOT) < clock {
+        return Err(Refusal::ClockEnd);
     }
-    0
+    Ok(())
 }
 
-// The answer to a refused step or probe: 'zero in the answer's other fields'; with 0, that to no step.
+// The answer to a refused step or probe: 'zero in the answer's other fields'.
 fn refused(refusal: u32) -> Answer
     ensures { result ≡ answer_form (refused_answer refusal) }
 {
@@ -386,35 +338,8 @@ pub fn step(mut s: State) -> Stepped
     ensures { result ≡ step_result (coded_step s) }
 {
     let stands = standing::stands(s);
-    let refusal = step_refusal(stands, s.segment.clock);
-    let mut answer = refused(refusal);
-    if refusal == 0 {
-        let settings = s.segment.settings;
-        let under_way = s.segment.contention;
-        let mut drops = 0;
-        // 'If no contention is under way, a step first begins one': late packets leave, and each station offers one.
-        if !under_way.begun {
-            let n = settings.n;
-            let to = beginning::dropping(settings.discipline, n);
-            let clock = s.segment.clock;
-            let leaving = Leaving::Late(settings.discipline, clock);
-            let lengths = s.queues.lengths;
-            s.queues = waiting::without(s.queues, 0, to, leaving);
-            let kept = s.queues.lengths;
-            drops = beginning::dropped(lengths, kept, n);
-            s.segment = beginning::begun(s.segment, s.queues, drops);
-        }
-        // 'Every step then probes one slot.'
-        let heard = probing::heard_in(s.segment, drops);
-        answer = heard.answer;
-        let segment = heard.segment;
-        s.segment = segment;
-        if answer.event == Event::Success {
-            let place = heard.place;
-            let leaving = Leaving::Sent(answer.number);
-            s.queues = waiting::without(s.queues, place, place + 1, leaving);
-        }
-    }
+    let addresses = probing::addresses_of(s.segment.listed);
+    let answer = playing::step_in(&mut s, stands, &addresses);
     Stepped { answer, state: s }
 }
 

@@ -1,15 +1,15 @@
 // A stretch of a run: arrivals and steps, one call after the other.
 ghost use Rattle.std.specs.Prelude.{◌+◌, ◌≡◌, true, false, ◌&&◌, leb, ltb};
 ghost use Rattle.bus.specs.Stretch.{most_calls, row_places, stretch_of, stretch_form};
-ghost use Rattle.state.specs.State.{standing};
+ghost use Rattle.state.specs.State.{Held, standing};
+ghost use Rattle.bus.specs.Parts.{addresses_of, stepped_to};
+ghost use Rattle.bus.specs.Coded.{coded_step, step_result};
 
 use crate::{
-    Arrivals, Event, Leaving, Progress, Report, Stretch, beginning, joining, offering, probing,
-    waiting,
+    Answer, Arrivals, Report, Stretch, beginning, joining, probing,
 };
-use rules::{Packet, Slot};
-use sorts::counts;
-use state::{State, zeros};
+use rules::Slot;
+use state::State;
 
 // The calls that a stretch has at the most, and the arrivals of its row.
 const MOST_CALLS: usize = 512;
@@ -45,198 +45,59 @@ fn is_due(taken: usize, length: usize, time: Slot, clock: Slot) -> bool
     !sorts::before(clock, time)
 }
 
+// A step of a state: 'a step tries 1, then 17', begins a contention if none is under way, and probes one slot.
+pub fn step_in(s: &mut State, stands: bool, addresses: &[u64; 64]) -> Answer
+    requires held { Held s.old }
+    requires stands { stands ≡ standing s.old }
+    requires addresses { addresses.now ≡ addresses_of s.old.segment.listed }
+    ensures stepped { stepped_to result s.new ≡ step_result (coded_step s.old) }
+    ensures listed { s.new.segment.listed ≡ s.old.segment.listed }
+{
+    if let Err(refusal) = crate::may_step(stands, s.segment.clock) {
+        return crate::refused(u32::from(refusal));
+    }
+    let mut drops = 0;
+    let under_way = s.segment.contention;
+    if !under_way.begun {
+        drops = beginning::begin_in(s);
+    }
+    probing::probe_in(s, drops, addresses)
+}
+
 // The calls of a stretch. A state that does not stand comes back as lent, and each call is refused; one that stands stands after each
-// call. The segment and the queues are changed in place, because to hand them on costs more than a probe: what is handed on in a slot is
-// small, or rows of plain numbers that are lent, and the row of packets goes by value only where late ones leave it.
-pub fn calls(s: State, stands: bool, arrivals: Arrivals, steps: u32) -> Stretch
+// call.
+pub fn calls(mut s: State, stands: bool, arrivals: Arrivals, steps: u32) -> Stretch
     requires { stands ≡ standing s }
     ensures { result ≡ stretch_form (stretch_of s arrivals steps) }
 {
-    let mut g = s.segment;
-    let mut queues = s.queues;
-    let addresses = probing::addresses_of(g.listed);
+    let addresses = probing::addresses_of(s.segment.listed);
     let mut reports = [NO_REPORT; 512];
     let mut made = 0;
     let mut taken = 0;
     let mut left = steps;
     while goes_on(made, taken, left) {
         let a = arrivals.row[taken];
-        let settings = g.settings;
-        let clock = g.clock;
-        // An arrival that is due: an accepted packet takes the first free place, one turned away is counted.
+        let clock = s.segment.clock;
         if is_due(taken, arrivals.length, a.time, clock) {
-            let listed = g.listed;
-            let lengths = queues.lengths;
-            let asked = joining::asked(
-                stands, settings, listed, clock, g.admitted, lengths, a.address, a.value, a.length,
-            );
-            let admitted = asked.answer;
+            let admitted = joining::admit_in(&mut s, stands, a.address, a.value, a.length);
             reports[made] = Report::Arrival {
                 clock,
                 address: a.address,
                 admitted,
             };
-            made += 1;
             taken += 1;
-            if admitted.refusal != 0 {
-                g.turned = counts::turned_after(admitted.refusal, g.turned);
-                continue;
-            }
-            let place = asked.place;
-            let length = lengths[place];
-            let at = 16 * place + length;
-            let packet = Packet {
-                number: admitted.number,
-                value: a.value,
-                length: a.length,
-                admission: clock,
-            };
-            queues.packets[at] = packet;
-            queues.lengths[place] = length + 1;
-            g.admitted = admitted.number as u64;
-            continue;
-        }
-        let refusal = crate::step_refusal(stands, clock);
-        if refusal != 0 {
-            let answer = crate::refused(refusal);
+        } else {
+            let answer = step_in(&mut s, stands, &addresses);
             reports[made] = Report::Step { clock, answer };
-            made += 1;
             left -= 1;
-            continue;
         }
-        // 'If no contention is under way, a step first begins one.' 'Each station then offers one packet': the search carries its place. Where no
-        // packet offered is late none is, because those offered in RTDG have the smallest latest starts.
-        let mut drops = 0;
-        let under_way = g.contention;
-        if !under_way.begun {
-            let n = settings.n;
-            let round = g.round;
-            let mut late = false;
-            for i in 0..n {
-                let l = g.listed[i];
-                let length = queues.lengths[i];
-                if beginning::offers_nothing(settings.discipline, round, l.capability, length) {
-                    continue;
-                }
-                let first = 16 * i;
-                let looked = offering::looked_at(settings.discipline, length);
-                let mut place = first;
-                let mut least = offering::rank(queues.packets[first]);
-                for j in 1..looked {
-                    let at = first + j;
-                    let rank = offering::rank(queues.packets[at]);
-                    if rank < least {
-                        least = rank;
-                        place = at;
-                    }
-                }
-                let packet = queues.packets[place];
-                let admission = packet.admission;
-                late = offering::late_offered(late, settings.discipline, clock, packet.value);
-                g.contenders = word::set(g.contenders, i);
-                g.parameters[i] = offering::parameter(settings, clock, l.capability, packet);
-                g.numbers[i] = packet.number;
-                g.values[i] = packet.value;
-                g.lengths[i] = packet.length;
-                g.admissions[i] = admission;
-            }
-            if late {
-                // 'In RTDG every queued packet with latest start below T is dropped', and the offers are made anew.
-                let leaving = Leaving::Late(settings.discipline, clock);
-                let lengths = queues.lengths;
-                queues = waiting::without(queues, 0, n, leaving);
-                let kept = queues.lengths;
-                drops = beginning::dropped(lengths, kept, n);
-                g = beginning::begun(g, queues, drops);
-            } else {
-                let opening = beginning::opening(settings.d);
-                g.contention = opening;
-            }
-        }
-        // 'Every step then probes one slot.'
-        let round = g.round;
-        let probed = g.contention;
-        let transmitters = probing::transmitters(
-            settings.discipline,
-            clock,
-            probed,
-            g.contenders,
-            &g.parameters,
-            &g.values,
-            &addresses,
-        );
-        let count = word::count(transmitters);
-        let mut place = 0;
-        let mut listed = zeros::NOBODY;
-        let mut packet = zeros::NO_PACKET;
-        if count == 1 {
-            place = word::lowest(transmitters);
-            listed = g.listed[place];
-            let admission = g.admissions[place];
-            packet = Packet {
-                number: g.numbers[place],
-                value: g.values[place],
-                length: g.lengths[place],
-                admission,
-            };
-        }
-        let progress = Progress {
-            clock,
-            sent: g.sent,
-            round,
-            contention: probed,
-        };
-        let moved = probing::moved(settings, progress, drops, count, listed, packet);
-        let answer = moved.answer;
-        reports[made] = Report::Step { clock, answer };
         made += 1;
-        left -= 1;
-        let p = moved.progress;
-        let clock_after = p.clock;
-        let round_after = p.round;
-        let contention_after = p.contention;
-        g.clock = clock_after;
-        g.sent = p.sent;
-        g.round = round_after;
-        g.contention = contention_after;
-        // 'Contenders stay recorded until the contention ends.'
-        if !answer.ended {
-            continue;
-        }
-        let parameters = [0u64; 64];
-        let none = [0u32; 64];
-        let admissions = [zeros::NO_SLOT; 64];
-        g.contenders = 0;
-        g.parameters = parameters;
-        g.numbers = none;
-        g.values = none;
-        g.lengths = none;
-        g.admissions = admissions;
-        if answer.event != Event::Success {
-            continue;
-        }
-        // 'That packet leaves its queue.'
-        let length = queues.lengths[place];
-        let first = 16 * place;
-        let mut filled = 0;
-        for j in 0..length {
-            let at = first + j;
-            let p = queues.packets[at];
-            queues.packets[at] = zeros::NO_PACKET;
-            if answer.number != p.number {
-                let free = first + filled;
-                queues.packets[free] = p;
-                filled += 1;
-            }
-        }
-        queues.lengths[place] = filled;
     }
-    let state = State { segment: g, queues };
     Stretch {
         reports,
         made,
         taken,
-        state,
+        state: s,
         left,
     }
 }

@@ -1,14 +1,15 @@
 // Probing one slot: who transmits, what is heard, and what becomes of the window, the clock and the round.
-ghost use Rattle.std.specs.Prelude.{◌+◌, ◌<◌, ◌≤◌, ◌≡◌, not, leb, ltb, get_or};
+ghost use Rattle.std.specs.Prelude.{◌+◌, ◌<◌, ◌≤◌, ◌≡◌, true, not, leb, ltb, get_or};
 ghost use Rattle.window.specs.Splitting.{in_window};
-ghost use Rattle.word.specs.Word.{word_of, count_of};
+ghost use Rattle.word.specs.Word.{word_of};
 ghost use Rattle.rules.specs.SetUp.{discipline_of};
-ghost use Rattle.bus.specs.Parts.{addresses_of, transmitters_of, transmitters_in, answer_at, went_on, split_of, collided_on, unheard_on, round_after, won_on, moved_by, with_moved, sole_of, heard_in, heard_of};
+ghost use Rattle.bus.specs.Parts.{addresses_of, transmitters_of, answer_at, went_on, split_of, collided_on, unheard_on, round_after, won_on, moved_by, with_moved, stepped_to, probed_slot};
+ghost use Rattle.state.specs.State.{Held, standing};
 
-use crate::{Answer, Event, Heard, Moved, Phase, Progress};
+use crate::{Answer, Event, Leaving, Moved, Phase, Progress, waiting};
 use rules::{Packet, Slot};
 use sorts::{Address, Capability, Windowed, disciplines};
-use state::{Contention, Listed, Round, Segment, Settings, zeros};
+use state::{Contention, Listed, Round, Segment, Settings, State, zeros};
 use window::{Side, Window};
 
 // The stations whose number in a row lies in a window, as a word.
@@ -302,54 +303,50 @@ pub fn moved(
 }
 
 // What a probe has moved, stored; no contenders where the contention has ended.
-fn with_moved(g: Segment, m: Moved) -> Segment
-    ensures { result ≡ with_moved g m }
+fn store(g: &mut Segment, m: Moved)
+    ensures { g.new ≡ with_moved g.old m }
 {
     let answer = m.answer;
     let progress = m.progress;
-    let clock = progress.clock;
-    let round = progress.round;
-    let contention = progress.contention;
-    let mut next = g;
-    next.clock = clock;
-    next.sent = progress.sent;
-    next.round = round;
-    next.contention = contention;
+    g.clock = progress.clock;
+    g.sent = progress.sent;
+    g.round = progress.round;
+    g.contention = progress.contention;
+    // 'Contenders stay recorded until the contention ends.'
     if answer.ended {
-        let parameters = [0u64; 64];
-        let none = [0u32; 64];
-        let admissions = [zeros::NO_SLOT; 64];
-        next.contenders = 0;
-        next.parameters = parameters;
-        next.numbers = none;
-        next.values = none;
-        next.lengths = none;
-        next.admissions = admissions;
+        g.contenders = 0;
+        g.parameters = [0; 64];
+        g.numbers = [0; 64];
+        g.values = [0; 64];
+        g.lengths = [0; 64];
+        g.admissions = [zeros::NO_SLOT; 64];
     }
-    next
 }
 
-// 'Every step then probes one slot', of a segment in which a contention is under way, where so many late packets were dropped as it began. It
-// works on the segment alone: a function that took the state by value would hold one more copy of it.
-pub fn heard_in(g: Segment, drops: u64) -> Heard
-    requires clock_bound { g.clock.0 ≤ 1073741824 }
-    requires packet_bound { (sole_of g (heard_in g)).packet.length ≤ 4096 }
-    requires sent_bound { count_of (transmitters_in g) ≡ 1 → g.sent < 4294967295 }
-    ensures { result ≡ heard_of g drops }
+// 'Every step then probes one slot', of a state in which a contention is under way, where so many late packets were dropped as it began.
+pub fn probe_in(s: &mut State, drops: u64, addresses: &[u64; 64]) -> Answer
+    requires held { Held s.old }
+    requires stands { standing s.old ≡ true }
+    requires begun { s.old.segment.contention.begun ≡ true }
+    requires addresses { addresses.now ≡ addresses_of s.old.segment.listed }
+    ensures probed { stepped_to result s.new ≡ probed_slot s.old drops }
+    ensures listed { s.new.segment.listed ≡ s.old.segment.listed }
 {
-    let settings = g.settings;
-    let clock = g.clock;
-    let round = g.round;
-    let contention = g.contention;
-    let addresses = addresses_of(g.listed);
+    let settings = s.segment.settings;
+    let progress = Progress {
+        clock: s.segment.clock,
+        sent: s.segment.sent,
+        round: s.segment.round,
+        contention: s.segment.contention,
+    };
     let transmitters = transmitters(
         settings.discipline,
-        clock,
-        contention,
-        g.contenders,
-        &g.parameters,
-        &g.values,
-        &addresses,
+        progress.clock,
+        progress.contention,
+        s.segment.contenders,
+        &s.segment.parameters,
+        &s.segment.values,
+        addresses,
     );
     let heard = word::count(transmitters);
     let mut place = 0;
@@ -357,27 +354,20 @@ pub fn heard_in(g: Segment, drops: u64) -> Heard
     let mut packet = zeros::NO_PACKET;
     if heard == 1 {
         place = word::lowest(transmitters);
-        listed = g.listed[place];
-        let admission = g.admissions[place];
+        listed = s.segment.listed[place];
         packet = Packet {
-            number: g.numbers[place],
-            value: g.values[place],
-            length: g.lengths[place],
-            admission,
+            number: s.segment.numbers[place],
+            value: s.segment.values[place],
+            length: s.segment.lengths[place],
+            admission: s.segment.admissions[place],
         };
     }
-    let progress = Progress {
-        clock,
-        sent: g.sent,
-        round,
-        contention,
-    };
     let moved = moved(settings, progress, drops, heard, listed, packet);
     let answer = moved.answer;
-    let segment = with_moved(g, moved);
-    Heard {
-        answer,
-        place,
-        segment,
+    store(&mut s.segment, moved);
+    // 'That packet leaves its queue.'
+    if answer.event == Event::Success {
+        waiting::close_up(&mut s.queues, place, Leaving::Sent(answer.number));
     }
+    answer
 }

@@ -5,10 +5,10 @@ ghost use Rattle.rules.specs.SetUp.{discipline_of};
 ghost use Rattle.rules.specs.Begin.{choice};
 ghost use Rattle.state.specs.State.{queue_at};
 ghost use Rattle.state.specs.Parts.{queue_of, packets_of};
-ghost use Rattle.bus.specs.Parts.{queue_form, stays, chosen_form};
+ghost use Rattle.bus.specs.Parts.{IsRow, queue_form, with_queue, stays, Late, chosen_form};
 
 use crate::{Chosen, Leaving, offering};
-use rules::Packet;
+use rules::{Packet, Slot};
 use sorts::disciplines;
 use state::{Queue, Queues, zeros};
 
@@ -22,31 +22,43 @@ fn stays(leaving: Leaving, p: Packet) -> bool
     }
 }
 
-// The row without the packets that leave of the stations from `from` on and before `to`: those that stay close up, and freed places are
-// cleared. Each packet is taken out, and one that stays is put back in the first free place.
-pub fn without(mut queues: Queues, from: usize, to: usize, leaving: Leaving) -> Queues
-    requires to_bound { to ≤ 64 }
-    requires padded { (j : ℕ) → j < 64 → queue_of queues j ≡ queue_form (queue_at queues j) }
-    requires lengths_bound { (j : ℕ) → j < 64 → get_or queues.lengths j 0 ≤ 16 }
-    ensures { (j : ℕ) → j < 64 → queue_of result j ≡ cond (leb from j && ltb j to) (queue_form (keep (stays leaving) (queue_at queues j))) (queue_of queues j) }
+// The packets that leave the queue of a station: those that stay close up, and freed places are cleared. Each packet is taken out, and one that
+// stays is put back in the first free place.
+pub fn close_up(queues: &mut Queues, place: usize, leaving: Leaving)
+    requires place_bound { place < 64 }
+    requires rows { IsRow queues.old }
+    requires padded { queue_of queues.old place ≡ queue_form (queue_at queues.old place) }
+    requires length_bound { get_or queues.old.lengths place 0 ≤ 16 }
+    ensures { queues.new ≡ with_queue queues.old place (queue_form (keep (stays leaving) (queue_at queues.old place))) }
 {
-    for i in from..to {
-        let length = queues.lengths[i];
-        let first = 16 * i;
-        let mut filled = 0;
-        for j in 0..length {
-            let at = first + j;
-            let p = queues.packets[at];
-            queues.packets[at] = zeros::NO_PACKET;
-            if stays(leaving, p) {
-                let free = first + filled;
-                queues.packets[free] = p;
-                filled += 1;
-            }
+    let length = queues.lengths[place];
+    let first = 16 * place;
+    let mut filled = 0;
+    for j in 0..length {
+        let at = first + j;
+        let p = queues.packets[at];
+        queues.packets[at] = zeros::NO_PACKET;
+        if stays(leaving, p) {
+            let free = first + filled;
+            queues.packets[free] = p;
+            filled += 1;
         }
-        queues.lengths[i] = filled;
     }
-    queues
+    queues.lengths[place] = filled;
+}
+
+// 'In RTDG every queued packet with latest start below T is dropped', of the first n stations.
+pub fn drop_late(queues: &mut Queues, n: usize, discipline: u32, slot: Slot)
+    requires n_bound { n ≤ 64 }
+    requires rows { IsRow queues.old }
+    requires padded { (j : ℕ) → j < 64 → queue_of queues.old j ≡ queue_form (queue_at queues.old j) }
+    requires lengths_bound { (j : ℕ) → j < 64 → get_or queues.old.lengths j 0 ≤ 16 }
+    ensures rows { IsRow queues.new }
+    ensures left { (j : ℕ) → j < 64 → queue_of queues.new j ≡ cond (leb 0 j && ltb j n) (queue_form (keep (stays (Late discipline slot)) (queue_at queues.old j))) (queue_of queues.old j) }
+{
+    for i in 0..n {
+        close_up(queues, i, Leaving::Late(discipline, slot));
+    }
 }
 
 // 'Each station then offers one packet': the search takes the places out of the queue, walks them, carries the place of the best packet so

@@ -1,11 +1,11 @@
--- `with_moved` meets its contract: by whether the contention has ended; a word of zero and rows of zeros are no contenders.
+-- `store` meets its contract: by whether the contention has ended; a word of zero and rows of zeros are no contenders.
 use Rattle.std.proofs.Common.{◌≡◌, sym, ap₂, Bool, cond}
 use Rattle.bus.specs.Types.{Segment}
 use Rattle.state.specs.State.{Recorded, recorded_in}
 use Rattle.state.specs.Parts.{no_contenders}
 use Rattle.bus.specs.Parts.{Moved, segment_with, with_moved}
 use Rattle.state.proofs.Contenders.{none_recorded}
-use Rattle.bus.proofs.probing.with_moved.Goals as goal
+use Rattle.bus.proofs.probing.store.Goals as goal
 
 -- what is stored, with these contenders
 abbrev stored : Segment → Moved → Recorded → Segment
@@ -17,7 +17,7 @@ by_end :
 by_end g m n e = ap₂ (λ r t. stored g m (cond t r (recorded_in g))) n (sym e)
 
 pub returns-then-answer : goal.returns-then-answer
-returns-then-answer c = let args = c.args in by_end args.g args.m none_recorded c.if-answer.true
+returns-then-answer c = let args = c.args in by_end args.g.now args.m none_recorded c.if-answer.true
 
 pub returns-else-answer : goal.returns-else-answer
-returns-else-answer c = let args = c.args in by_end args.g args.m none_recorded c.if-answer.false
+returns-else-answer c = let args = c.args in by_end args.g.now args.m none_recorded c.if-answer.false
