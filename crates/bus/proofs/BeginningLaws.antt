@@ -195,48 +195,6 @@ offered_contends g clock round l (p ∷ ps) n sits =
     let some-packet = some_chosen (discipline_of g.discipline) p ps in
     ap (λ o. (contender_on g clock round l o).contends) some-packet.1 ∙ rw sits
 
--- ---- late packets leave the queues of the stations before n
-
--- where no packet is late, the queues are as they were
-none_late :
-    (f : Packet → Bool) (qs : Queues) (n : ℕ) → ((p : Packet) → f p ≡ true) → ((j : ℕ) → j < 64 → queue_of qs j ≡ queue_form (queue_at qs j))
-    → LeftIn f qs 0 n qs
-none_late f qs n stay all j l = go (in_range 0 n j)
-  where
-    go : (t : Bool) → queue_of qs j ≡ queue_if t f qs j
-    go true = all j l ∙ ap queue_form (sym (keep_all f (queue_at qs j) (λ p i. stay p)))
-    go false = refl
-
--- outside RTDG no packet is late
-on_time : (d : ℕ) (clock : Slot) → ¬ (d ≡ 1) → (p : Packet) → stays (Late d clock) p ≡ true
-on_time zero clock n p = refl
-on_time (suc zero) clock n p = absurd (n refl)
-on_time (suc (suc d)) clock n p = refl
-
--- the number of stations whose late packets are dropped
-abbrev pub dropping_to : ℕ → ℕ → ℕ
-dropping_to d n = cond (eqb d 1) n 0
-
-pub dropping_few : (d n : ℕ) → dropping_to d n ≤ n
-dropping_few d n = go (eqb d 1)
-  where
-    go : (t : Bool) → cond t n 0 ≤ n
-    go true = omega arith
-    go false = omega arith
-
--- then late packets have left the queues of all stations before n: outside RTDG there are none
-pub left_late :
-    (d : ℕ) (clock : Slot) (qs : Queues) (n : ℕ) (rest : Queues) → ((j : ℕ) → j < 64 → queue_of qs j ≡ queue_form (queue_at qs j))
-    → LeftIn (stays (Late d clock)) qs 0 (dropping_to d n) rest → LeftIn (stays (Late d clock)) qs 0 n rest
-left_late d clock qs n rest all left = go (eqb d 1) refl left
-  where
-    go :
-        (t : Bool) → eqb d 1 ≡ t → LeftIn (stays (Late d clock)) qs 0 (cond t n 0) rest → LeftIn (stays (Late d clock)) qs 0 n rest
-    go true e now j l = now j l
-    go false e now j l =
-        left_out (stays (Late d clock)) qs 0 0 rest now j l (λ a b. omega arith)
-        ∙ none_late (stays (Late d clock)) qs n (on_time d clock (eqb-false d 1 e)) all j l
-
 -- ---- a place among the contenders is zero or contends, and its offer is the offer of the rules
 
 place_padded :

@@ -1,5 +1,5 @@
 -- Packets leave queues: those that stay close up, in one queue and so in the queues of a range of stations. Assumes nothing.
-use Prim.Native.Nat.{ℕ, zero, suc, ◌+◌, ◌-◌, ◌*◌, ◌/◌, ◌%◌, ◌≤◌, ◌<◌}
+use Prim.Native.Nat.{ℕ, zero, suc, ◌+◌, ◌-◌, ◌*◌, ◌≤◌, ◌<◌}
 use mathlib.Core.Path.{◌≡◌, refl, sym, ap, ap₂, ◌∙◌, subst}
 use mathlib.Core.Bool.{Bool, true, false, ◌&&◌, cond}
 use mathlib.Core.List.{List, [], ◌∷◌, ◌++◌, append_assoc, append-nil}
@@ -9,13 +9,13 @@ use borrow.Author.Tests.{leb-true, le-leb, ltb-true, lt-ltb, eqb-true, eqb-false
 use lib.Dec.{leb, ltb, eqb}
 use lib.ListN.{length, get_or, take, drop, set, replicate, length-append, length-take, length-drop, length-replicate}
 use lib.ListN.{take-append-drop, replicate-append-replicate}
-use lib.Seq.{length-take-le, drop-cons, append_snoc, get_or-drop, get_or_at, set_at, drop_at, take-take, drop-drop, drop-append-le, ext_get_or}
+use lib.Seq.{length-take-le, drop-cons, append_snoc, get_or-drop, get_or_at, set_at, drop_at, take-take, drop-drop, drop-append-le}
 use Rattle.rules.specs.Lists.{kept, keep}
 use Rattle.rules.proofs.Laws.{clash, and-true, true-and}
 use Rattle.bus.specs.Types.{Queues, Queue, Packet}
 use Rattle.state.specs.State.{no_packet, places_at, queue_at}
 use Rattle.state.specs.Parts.{queue_of, packets_of}
-use Rattle.state.proofs.Places.{places_count, place_at}
+use Rattle.state.proofs.Places.{places_count}
 use Rattle.bus.specs.Parts.{queue_form}
 use Rattle.bus.specs.Parts.{with_queue}
 use Rattle.bus.proofs.QueueLaws.{kept_one, kept_length, kept_room, form_places, with_queue_lengths, queue_of_with}
@@ -290,36 +290,3 @@ module _ (f : Packet → Bool) (qs : Queues) (from : ℕ) where
   pub left_all : (i to : ℕ) (next : Queues) → to ≤ i → i ≤ from + (to - from) → LeftIn f qs from i next → LeftIn f qs from to next
   left_all i to next h k left j l =
       left j l ∙ ap (λ t. queue_if t f qs j) (range_same from i to j (λ a b. omega arith) (λ a b. omega arith))
-
--- ---- the queues of one station
-
--- rows with the same queues are the same
-queues_same :
-    (qs rs : Queues) → length qs.lengths ≡ 64 → length qs.packets ≡ 1024 → length rs.lengths ≡ 64 → length rs.packets ≡ 1024
-    → ((j : ℕ) → j < 64 → queue_of qs j ≡ queue_of rs j) → qs ≡ rs
-queues_same qs rs ls ps ms rows same = λ k. record { lengths = counts k; packets = places k }
-  where
-    counts : qs.lengths ≡ rs.lengths
-    counts = ext_get_or 0 qs.lengths rs.lengths (ls ∙ sym ms) (λ j l. ap (λ (queue : Queue). queue.length) (same j (omega arith)))
-
-    places : qs.packets ≡ rs.packets
-    places = ext_get_or no_packet qs.packets rs.packets (ps ∙ sym rows) place
-      where
-        place : (k : ℕ) → k < length qs.packets → get_or qs.packets k no_packet ≡ get_or rs.packets k no_packet
-        place k l =
-            let split : k ≡ 16 * (k / 16) + k % 16 = omega arith in
-            ap (λ m. get_or qs.packets m no_packet) split
-            ∙ sym (place_at qs (k / 16) (k % 16) (omega arith))
-            ∙ ap (λ (queue : Queue). get_or queue.packets (k % 16) no_packet) (same (k / 16) (omega arith))
-            ∙ place_at rs (k / 16) (k % 16) (omega arith)
-            ∙ ap (λ m. get_or rs.packets m no_packet) (sym split)
-
--- packets leave the queue of station i alone
-pub left_one :
-    (f : Packet → Bool) (qs r : Queues) (i : ℕ) → i < 64 → length qs.lengths ≡ 64 → length qs.packets ≡ 1024
-    → length r.lengths ≡ 64 → length r.packets ≡ 1024 → get_or qs.lengths i 0 ≤ 16 → LeftIn f qs i (i + 1) r
-    → r ≡ with_queue qs i (queue_form (keep f (queue_at qs i)))
-left_one f qs r i h ls ps ms rows room left =
-    let one = with_queue qs i (queue_form (keep f (queue_at qs i))) in
-    let more = left_more f qs i i qs (omega arith) h ls ps room (left_none f qs i) one refl in
-    queues_same r one ms rows more.0 more.1 (λ j l. left j l ∙ sym (more.2 j l))

@@ -58,10 +58,6 @@ module _ (s : State) (r : Lent s) (begun : s.segment.contention.begun ≡ true) 
       go [] e one = absurd (omega arith)
       go (i ∷ ms) e one = let at = first_sends s r e in sent_counted s r begun i at.0 at.1
 
-  -- the lowest of them is a place of the rows
-  pub lowest_there : count_of (transmitters_in s.segment) ≡ 1 → lowest_of (transmitters_in s.segment) < 64
-  lowest_there = lowest_in (transmitters_in s.segment)
-
 -- ---- the sole winner, as the code finds it: by the word of those who transmit, how many they are and the lowest of them
 
 module _ (g : Segment) (w count : ℕ) (w! : w ≡ transmitters_in g) (count! : count ≡ count_of w) where

@@ -2,17 +2,14 @@
 -- Assumes nothing.
 use Prim.Native.Nat.{ℕ, ◌+◌, ◌-◌, ◌≤◌, ◌<◌}
 use mathlib.Core.Path.{◌≡◌, refl, sym, ap, ap₂, ◌∙◌, subst}
-use mathlib.Core.Bool.{Bool, true, false, not, ◌&&◌, cond}
+use mathlib.Core.Bool.{Bool, true, false, ◌&&◌, cond}
 use mathlib.Core.List.{List}
 use native.Mathlib.Omega.{arith}
-use lib.Dec.{eqb, ltb}
+use lib.Dec.{ltb}
 use lib.ListN.{length, get_or, set, replicate}
-use borrow.Author.Tests.{eq-eqb, ne_eqb}
+use borrow.Author.Tests.{ne_eqb}
 use denote.Enum.Bare as Bare
 use Rattle.bus.specs.contracts.Event as event
-use Rattle.window.specs.declared.Side.{Side}
-use Rattle.window.specs.declared.Side.TheVariants.{Left, Right}
-use Rattle.rules.specs.SetUp.{discipline_of}
 use Rattle.rules.specs.Lists.{keep}
 use Rattle.rules.specs.Bus.{Bus, last_slot, most_stations}
 use Rattle.rules.specs.Standing.{Standing}
@@ -22,7 +19,6 @@ use Rattle.rules.specs.Begin.{begin, drops_of}
 use Rattle.rules.specs.Refusals.{number_of}
 use Rattle.rules.specs.declared.Refusal.{Refusal}
 use Rattle.rules.specs.declared.Refusal.TheVariants.{Discipline, ParameterSpace, AddressSpace, LaxityStep, StationCount, AddressRange, AddressTaken, CapabilityRange, CapabilityTaken, NoStation, ValueRange, LengthRange, Late, Filled, AllNumbered, ClockEnd, CutShort, UnknownKind, OutOfPlace, TimeBefore, TooLong, UnderWay, NoneUnderWay}
-use Rattle.rules.specs.declared.Refusal.TheVariants as Refusal
 use Rattle.rules.specs.Probe.{probe, refused_answer}
 use Rattle.rules.specs.Step.{opened}
 use Rattle.rules.specs.Engine as Engine
@@ -30,23 +26,19 @@ use Rattle.rules.specs.Engine.{machine, Call, next}
 use Rattle.rules.proofs.Keeps.{begin_stands}
 use Rattle.rules.proofs.Laws.{clash, true-and}
 use Rattle.rules.proofs.Tests as Tests
-use Rattle.rules.proofs.Standing.{stands_exactly, set_up_stands}
-use Rattle.bus.specs.Types.{Address, Settings, Segment, Queues, State, Arrival}
+use Rattle.rules.proofs.Standing.{stands_exactly}
+use Rattle.bus.specs.Types.{Address, Segment, Queues, State, Arrival}
 use Rattle.word.specs.Word.{count_of}
-use Rattle.state.specs.State.{Recorded, recorded_in, Held, meaning, form, queue_at, standing, waiting_in}
+use Rattle.state.specs.State.{Held, meaning, form, queue_at, standing}
 use Rattle.bus.specs.Coded.{Answer, Event, Idle, Collision, Success, succeeded, Stepped, Admission, arrival_of, coded_admit, coded_step, coded, admission_result, step_result, state_turned}
 use Rattle.bus.specs.Stretch.{Arrivals, Report, no_arrival, most_calls, no_report, asks, due, arrival_report, step_report, in_row, may_be_more}
-use Rattle.bus.specs.Parts.{refusal_at, answered, Asked, asked_if, begun_with, Progress, Moved, unheard_on, won_on, collided_on, transmitters_in, moved_by, with_moved, segment_with, queue_form, stays, Sent, progress_of, Sole, sole_of, heard_in, moved_in}
-use Rattle.state.specs.Parts.{no_contenders, queue_of}
-use Rattle.state.proofs.Contenders.{zeroed, none_recorded}
+use Rattle.bus.specs.Parts.{refusal_at, answered, Asked, asked_if, Moved, transmitters_in, moved_by, with_moved, queue_form, stays, Sent, progress_of, Sole, sole_of, heard_in}
 use Rattle.state.proofs.Form.{form_meaning, standing_fits, held_form, parts_padded}
 use Rattle.state.proofs.Stands.{form_stands}
 use Rattle.bus.proofs.Coded.{coded_next, next_stands}
-use Rattle.state.proofs.Stands.{Lent, lent_held, few_packets}
+use Rattle.state.proofs.Stands.{Lent, lent_held}
 use Rattle.bus.proofs.Admitting.{refusal_is, refused_in, gives_1, gives_refusal, joined_at, within_row, room_at, joined_in_place, address_place}
 use Rattle.bus.proofs.SingleCalls.{next_same}
-use Rattle.bus.proofs.ClosingUp.{LeftIn, left_one}
-use Rattle.bus.proofs.BeginningLaws.{in_time_at, dropping_to, dropping_few, left_late, all_formed, room_left, late_counted, lost_counted, begun_state, begun_is, waiting_dropped}
 use Rattle.bus.proofs.Steps as Steps
 use Rattle.bus.proofs.Steps.{gives_17, goes_on, begins, probes}
 use Rattle.bus.specs.Parts.{stepped, open_of}
@@ -262,109 +254,9 @@ just_begun s r e =
 pub begun_as : {s x x' : State} {drops drops' : ℕ} → x' ≡ x → drops' ≡ drops → Begun s x drops → Begun s x' drops'
 begun_as {s} {x} {x'} {drops} a b o = subst (Begun s x') (sym b) (subst (λ (y : State). Begun s y drops) (sym a) o)
 
--- the same of its parts, which have their settings and stations as they were
-pub record Opened (s : State) (g : Segment) (queues : Queues) (drops : ℕ) : Type 0 where
-  pub is : opened (meaning s) ≡ open_of (whole g queues) drops
-  pub ready : Lent (whole g queues)
-  pub begun : g.contention.begun ≡ true
-  pub clock : g.clock ≡ s.segment.clock
-  pub settings : g.settings ≡ s.segment.settings
-  pub listed : g.listed ≡ s.segment.listed
-
-opened_with :
-    (s x : State) (drops : ℕ) → Begun s x drops → x.segment.settings ≡ s.segment.settings → x.segment.listed ≡ s.segment.listed
-    → Opened s x.segment x.queues drops
-opened_with s x drops b set_up_call same =
-    record { is = b.is; ready = b.ready; begun = b.begun; clock = b.clock; settings = set_up_call; listed = same }
-
-pub was_open : (s : State) → Lent s → s.segment.contention.begun ≡ true → Opened s s.segment s.queues 0
-was_open s r e = opened_with s s 0 (had_begun s r e) refl refl
-
--- the same, of equal things
-pub opened_as :
-    {s : State} {g g' : Segment} {queues queues' : Queues} {drops drops' : ℕ} → g' ≡ g → queues' ≡ queues → drops' ≡ drops
-    → Opened s g queues drops → Opened s g' queues' drops'
-opened_as {s} {g} {g'} {queues} {queues'} {drops} {drops'} a b c o =
-    subst (λ (k : ℕ). Opened s g' queues' k) (sym c)
-    (subst (λ (q : Queues). Opened s g' q drops) (sym b) (subst (λ (h : Segment). Opened s h queues drops) (sym a) o))
-
--- it has just begun
-now_open :
-    (s : State) → Lent s → s.segment.contention.begun ≡ false → (x : State) → x ≡ form (begin (meaning s))
-    → x.segment.settings ≡ s.segment.settings → x.segment.listed ≡ s.segment.listed → (drops : ℕ) → drops ≡ drops_of (meaning s) → Opened s x.segment x.queues drops
-now_open s r e x f set_up_call same drops d =
-    opened_with s x drops (begun_as f d (just_begun s r e)) set_up_call same
-
--- the packets that are left
-module _ (s : State) (r : Lent s) (between : s.segment.contention.begun ≡ false) (rest : Queues)
-    (kept : LeftIn (in_time_at s) s.queues 0 s.segment.settings.n rest) (ls : length rest.lengths ≡ 64) (ps : length rest.packets ≡ 1024) where
-  pub begun_open :
-      (drops : ℕ) → drops ≡ drops_of (meaning s) → (g : Segment) → g ≡ begun_with s.segment rest drops → Opened s g rest drops
-  begun_open drops e g f =
-      opened_as f refl refl
-      (now_open s r between (begun_state s rest drops) (begun_is s r rest kept drops e ls ps) refl refl drops e)
-
--- late packets leave, and each station offers one: what `begin` does in place, and a `step` that begins
-module _ (s : State) (r : Lent s) (to : ℕ) (to! : to ≡ dropping_to s.segment.settings.discipline s.segment.settings.n) where
-  abbrev n : ℕ
-  n = s.segment.settings.n
-
-  -- `without` may be called
-  pub may_leave :
-      (to ≤ 64)
-      × (((j : ℕ) → j < 64 → queue_of s.queues j ≡ queue_form (queue_at s.queues j))
-      × ((j : ℕ) → j < 64 → get_or s.queues.lengths j 0 ≤ 16))
-  may_leave = (omega (arith, to!, dropping_few s.segment.settings.discipline n, r.few), (all_formed s r, few_packets s r))
-
-  module _ (rest : Queues) (gone : LeftIn (in_time_at s) s.queues 0 to rest) (arrays : (length rest.lengths ≡ 64) × (length rest.packets ≡ 1024)) where
-    kept_in_time : LeftIn (in_time_at s) s.queues 0 n rest
-    kept_in_time =
-        left_late s.segment.settings.discipline s.segment.clock s.queues n rest (all_formed s r)
-        (subst (λ (k : ℕ). LeftIn (in_time_at s) s.queues 0 k rest) to! gone)
-
-    -- `dropped` may be called
-    pub fewer_wait : waiting_in rest.lengths n ≤ waiting_in s.queues.lengths n
-    fewer_wait = omega (arith, late_counted s r rest kept_in_time arrays.0)
-
-    module _ (drops : ℕ) (drops! : drops ≡ waiting_in s.queues.lengths n - waiting_in rest.lengths n) where
-      pub all_dropped : drops ≡ drops_of (meaning s)
-      all_dropped = omega (arith, drops!, late_counted s r rest kept_in_time arrays.0)
-
-      -- `begun` may be called
-      pub may_begin :
-          (n ≤ 64)
-          × (((i : ℕ) → i < n → get_or rest.lengths i 0 ≤ 16)
-          × ((1 ≤ s.segment.settings.q) × ((1 ≤ s.segment.settings.d) × (s.segment.lost + drops ≤ 18446744073709551615))))
-      may_begin =
-          let spaces = set_up_stands (meaning s) r.stands in
-          let count = lost_counted s r in
-          let dropped! = all_dropped in
-          (r.few, (room_left s r rest kept_in_time, (spaces.q_least, (omega (arith, spaces.d_least), omega arith))))
-
-      -- the contention has begun
-      module _ (g : Segment) (g! : g ≡ begun_with s.segment rest drops) where
-        pub begun_whole : whole g rest ≡ form (begin (meaning s))
-        begun_whole =
-            ap (λ (x : Segment). whole x rest) g! ∙ begun_is s r rest kept_in_time drops all_dropped arrays.0 arrays.1
-
-        pub late_gone : s.segment.contention.begun ≡ false → Opened s g rest drops
-        late_gone between = begun_open s r between rest kept_in_time arrays.0 arrays.1 drops all_dropped g g!
-
--- no packet leaves where all are in time
-pub offered_open :
-    (s : State) (r : Lent s) → s.segment.contention.begun ≡ false → LeftIn (in_time_at s) s.queues 0 s.segment.settings.n s.queues
-    → (g : Segment) → g ≡ begun_with s.segment s.queues 0 → Opened s g s.queues 0
-offered_open s r between kept g f =
-    let none : 0 ≡ drops_of (meaning s) = omega (arith, waiting_dropped s r s.queues kept r.held.lengths) in
-    begun_open s r between s.queues kept r.held.lengths r.held.packets 0 none g f
-
 -- ---- a probe in place
 
 -- as the code compares it
-not_not : (t : Bool) → not (not t) ≡ t
-not_not true = refl
-not_not false = refl
-
 same_success : (e : Event) → Bare.sameb event.the_type e Success ≡ succeeded e
 same_success Idle = refl
 same_success Collision = refl
@@ -382,61 +274,15 @@ module _ (e : Event) {t : Bool} where
   pub none_success : t ≡ Bare.sameb event.the_type e Success → t ≡ false → ¬ (e ≡ Success)
   none_success f no! k = clash (ap succeeded k) (sym (same_success e) ∙ sym f ∙ no!)
 
-  pub success_left : t ≡ not (Bare.sameb event.the_type e Success) → t ≡ false → e ≡ Success
-  success_left f no! = success_only e (sym (same_success e) ∙ sym (not_not _) ∙ ap not (sym f ∙ no!))
-
-  pub success_denied : t ≡ not (Bare.sameb event.the_type e Success) → t ≡ true → ¬ (e ≡ Success)
-  success_denied f yes! k = clash (ap succeeded k) (sym (same_success e) ∙ sym (not_not _) ∙ ap not (sym f ∙ yes!))
-
 not_succeeded : (e : Event) → ¬ (e ≡ Success) → succeeded e ≡ false
 not_succeeded Idle n = refl
 not_succeeded Collision n = refl
 not_succeeded Success n = absurd (n refl)
 
--- a contention that goes on has no winner
-module _ (g : Settings) (pr : Progress) (drops count : ℕ) (sole : Sole) where
-  abbrev by : Bool → Bool → Side → Moved
-  by none one side =
-      cond
-      none
-      (unheard_on pr drops side)
-      (cond one (won_on (discipline_of g.discipline) pr drops sole.listed sole.packet) (collided_on g.a pr drops))
-
-  unended_by : (none one : Bool) (side : Side) → (by none one side).answer.ended ≡ false → (by none one side).answer.event ≡ Success → ⊥
-  unended_by true one Left f k = clash (ap succeeded k) refl
-  unended_by true one Right f k = clash refl f
-  unended_by false true side f k = clash refl f
-  unended_by false false side f k = clash (ap succeeded k) refl
-
-  pub unended :
-      (m : Moved) → m ≡ moved_by g pr drops count sole.listed sole.packet → m.answer.ended ≡ false → ¬ (m.answer.event ≡ Success)
-  unended m e f k =
-      unended_by (eqb count 0) (eqb count 1) pr.contention.window.side
-      (sym (ap (λ (o : Moved). o.answer.ended) e) ∙ f)
-      (sym (ap (λ (o : Moved). o.answer.event) e) ∙ k)
-
 -- what has been moved, and the segment and the queues after it
 module _ (g : Segment) (m : Moved) where
   abbrev after : Queues → Stepped
   after rest = record { answer = m.answer; state = whole (with_moved g m) rest }
-
-  -- the answer, and the state with these contenders and queues
-  abbrev placed : Recorded → Queues → Stepped
-  placed contenders rest =
-      record {
-        answer = m.answer;
-        state =
-            whole
-            (segment_with g m.progress.clock.0 m.progress.sent m.progress.round m.progress.contention contenders)
-            rest;
-      }
-
-  contenders_of :
-      {ended : Bool} → m.answer.ended ≡ ended → (rest : Queues) → placed (cond ended no_contenders (recorded_in g)) rest ≡ after rest
-  contenders_of f rest = ap (λ (t : Bool). placed (cond t no_contenders (recorded_in g)) rest) (sym f)
-
-  cleared : (rest : Queues) → placed zeroed rest ≡ placed no_contenders rest
-  cleared rest = ap (λ (os : Recorded). placed os rest) none_recorded
 
 -- it is what the machine's probe makes of the bus
 module _ (g : Segment) (queues : Queues) (drops : ℕ) (ready : Lent (whole g queues)) (begun : g.contention.begun ≡ true) (sole : Sole)

@@ -29,7 +29,7 @@ use Rattle.rules.specs.Probe.{contending, contenders, lies_in, able, transmits, 
 use Rattle.rules.proofs.Laws.{and-true, true-and, count_some, count-le, total_among}
 use Rattle.bus.specs.Types.{Packet, Address, Capability, Contention, Round, Segment, Queues, State}
 use Rattle.state.specs.State.{Held, recorded_in, recorded_at, place_in, no_packet, no_contender, no_round, no_contention, nobody, queue_at, offer_of, station_with, station_at, values_from, stations_of, last_of, tie_of, contention_of, meaning, form, contender_padded, has_no_station, round_padded, no_window, contention_padded}
-use Rattle.bus.specs.Coded.{Answer, Phase, Parameter, Tie, Stepped, phase_form, event_form, succeeded, answer_form, step_result}
+use Rattle.bus.specs.Coded.{Answer, Parameter, Tie, Stepped, phase_form, event_form, succeeded, answer_form}
 use Rattle.bus.specs.Parts.{open_of, stepped, with_queue, Progress, Moved, Sent, stays, queue_form, contender_at, lies_within, addresses_of, answer_at, split_of, collided_on, unheard_on, round_after, won_on, moved_by, segment_with, with_moved, progress_of, Sole, no_sole, sole_at, sole_of, heard_in}
 use Rattle.state.specs.Parts.{no_contenders}
 use Rattle.state.proofs.Rows.{values_map, values_same, row_at, among_values}

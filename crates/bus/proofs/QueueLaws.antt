@@ -11,7 +11,6 @@ use lib.ListN.{length, get_or, take, drop, set, replicate, length-append, length
 use lib.ListN.{take-append-drop}
 use lib.Seq.{length-take-le, take-suc, take_at, drop_at, set_at, get_or-set_same, get_or-set_other, drop-drop}
 use lib.Seq.{take-append_seam, drop-append_seam, take-append-le, drop-append-le, drop-append-add, append_snoc}
-use Rattle.rules.specs.Bus.{places}
 use Rattle.rules.specs.Lists.{kept, keep, each_of}
 use Rattle.rules.proofs.Laws.{and-true, true-and, length_keep, count-le}
 use Rattle.bus.specs.Types.{Queues, Queue, Packet}

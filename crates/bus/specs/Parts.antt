@@ -18,7 +18,7 @@ use Rattle.rules.specs.Probe.{wait_of}
 use Rattle.bus.specs.Types.{Slot, Address, Capability, Settings, Listed, Contender, Contention, Round, Segment, Queues, State, Queue, Packet}
 use Rattle.state.specs.Parts.{no_contenders}
 use Rattle.state.specs.State.{Recorded, recorded_in, recorded_at, recorded, no_packet, no_contender, no_contention, no_round, nobody, row, queue_at, last_of, tie_of, meaning, form}
-use Rattle.bus.specs.Coded.{Admission, Begun, Stepped, step_result, Answer, Phase, Parameter, Tie, Event, Idle, Collision, Success}
+use Rattle.bus.specs.Coded.{Admission, Begun, Stepped, step_result, Answer, Parameter, Tie, Event, Idle, Collision, Success}
 pub use Rattle.bus.specs.declared.Leaving.{Leaving}
 pub use Rattle.bus.specs.declared.Leaving.TheVariants.{Late, Sent}
 pub use Rattle.bus.specs.declared.Chosen.{Chosen}

@@ -1,6 +1,6 @@
 -- A stretch of a run: arrivals and steps, one call after the other (paper 01, 'The scenario and its listing'). `play` of src/lib.rt is held
 -- to it; it says the same as the single calls, because it is made of them. Assumes nothing.
-use Rattle.std.specs.Prelude.{ℕ, zero, suc, ◌+◌, ◌-◌, ◌≡◌, Bool, true, false, cond, List, [], ◌∷◌, ◌++◌, map, leb, length, take, replicate}
+use Rattle.std.specs.Prelude.{ℕ, zero, suc, ◌+◌, ◌-◌, ◌≡◌, Bool, cond, List, [], ◌∷◌, ◌++◌, map, leb, length, take, replicate}
 use Rattle.rules.specs.declared.Admitted.{Admitted}
 use Rattle.rules.specs.Admission as Rules
 use Rattle.rules.specs.Probe.{refused_answer}

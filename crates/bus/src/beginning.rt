@@ -10,7 +10,7 @@ ghost use Rattle.state.specs.Parts.{packets_of};
 
 use crate::{Begun, offering, waiting};
 use rules::Slot;
-use sorts::{Address, Capability, disciplines};
+use sorts::{Address, Capability};
 use state::{
     Contender, Contention, Listed, Queue, Queues, Round, Segment, Settings, State, standing, zeros,
 };
@@ -102,16 +102,6 @@ fn offers_of(g: Segment, queues: Queues) -> Segment
         next.admissions[i] = admission;
     }
     next
-}
-
-// 'In RTDG every queued packet with latest start below T is dropped': of how many stations late packets are looked for. Otherwise none is late.
-pub fn dropping(discipline: u32, n: usize) -> usize
-    ensures { result ≡ cond (eqb discipline 1) n 0 }
-{
-    if discipline == disciplines::RTDG {
-        return n;
-    }
-    0
 }
 
 // A contention's beginning: 'The window is the first window of D, start 0, side right.'
@@ -212,7 +202,12 @@ pub fn begin_in(s: &mut State) -> u64
     }
     // One is late: all that are leave, and the offers are made anew.
     let lengths = s.queues.lengths;
-    waiting::drop_late(&mut s.queues, settings.n, settings.discipline, s.segment.clock);
+    waiting::drop_late(
+        &mut s.queues,
+        settings.n,
+        settings.discipline,
+        s.segment.clock,
+    );
     let drops = dropped(lengths, s.queues.lengths, settings.n);
     s.segment = begun(s.segment, s.queues, drops);
     drops

@@ -94,13 +94,7 @@ pub fn asked(
 }
 
 // The same in a state: an accepted packet takes the first free place of its station's queue, and one that is refused with 14 or 15 is counted.
-pub fn admit_in(
-    s: &mut State,
-    stands: bool,
-    address: Address,
-    value: u32,
-    length: u32,
-) -> Admitted
+pub fn admit_in(s: &mut State, stands: bool, address: Address, value: u32, length: u32) -> Admitted
     requires held { Held s.old }
     requires stands { stands ≡ standing s.old }
     ensures admitted { admission_to result s.new ≡ admission_result (coded_admit s.old (arrival_of address value length)) }

@@ -5,9 +5,7 @@ ghost use Rattle.state.specs.State.{Held, standing};
 ghost use Rattle.bus.specs.Parts.{addresses_of, stepped_to};
 ghost use Rattle.bus.specs.Coded.{coded_step, step_result};
 
-use crate::{
-    Answer, Arrivals, Report, Stretch, beginning, joining, probing,
-};
+use crate::{Answer, Arrivals, Report, Stretch, beginning, joining, probing};
 use rules::Slot;
 use state::State;
 

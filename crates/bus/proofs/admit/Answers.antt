@@ -1,5 +1,4 @@
 -- `admit` meets its contract.
-use Rattle.std.proofs.Common.{sym}
 use Rattle.state.proofs.StandingParts.{state_held}
 use Rattle.bus.proofs.admit.Goals as goal
 

@@ -1,9 +1,8 @@
 -- `begin` meets its contract: it tries 1, then 25, and begins a contention.
 use Rattle.std.proofs.Common.{◌≡◌, refl, sym, ap, ap₂, ◌∙◌, false}
-use Rattle.rules.specs.Begin.{begin, drops_of}
 use Rattle.rules.specs.Refusals.{answered}
 use Rattle.bus.specs.Types.{State}
-use Rattle.state.specs.State.{meaning, form}
+use Rattle.state.specs.State.{meaning}
 use Rattle.bus.specs.Coded.{Begun, Started}
 use Rattle.bus.specs.Parts.{shown_of}
 use Rattle.state.proofs.Stands.{Lent, lent}

@@ -2,7 +2,6 @@
 use Rattle.std.proofs.Common.{◌≡◌, refl, sym, ap, ◌∙◌, true, false, ltb}
 use Rattle.rules.specs.Bus.{last_slot}
 use Rattle.rules.specs.Refusals.{answered}
-use Rattle.bus.specs.Types.{State}
 use Rattle.bus.specs.Coded.{Answer}
 use Rattle.bus.specs.Parts.{stepped_to}
 use Rattle.state.proofs.Stands.{Lent, lent}

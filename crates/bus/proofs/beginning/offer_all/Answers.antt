@@ -8,7 +8,7 @@ use Rattle.bus.specs.Types.{Segment, Queues, State}
 use Rattle.state.specs.State.{no_packet, nobody, meaning, last_of}
 use Rattle.bus.specs.Parts.{rank_of}
 use Rattle.state.proofs.Stands.{Lent, lent_held, few_packets}
-use Rattle.bus.proofs.InTurn.{below, below_length, below_of, slot_in, slot_fits, slot_offset, first_fits, within_rows, within_offset, at_end, spaces, offer_recorded}
+use Rattle.bus.proofs.InTurn.{below, below_length, below_of, slot_in, slot_fits, slot_offset, within_rows, within_offset, at_end, spaces, offer_recorded}
 use Rattle.bus.proofs.OffersInPlace.{Best, offered_to, InTimeTo, offering_none, in_time_none, offering_same, in_time_same, in_time_offered, best_first, best_better, best_stays, best_offered, looked_some}
 use Rattle.bus.proofs.beginning.offer_all.Goals as goal
 use Rattle.bus.proofs.beginning.offer_all.Goals.{Start, In-loop-i, Else-offers_nothing, then-rank-least, else-rank-least}
@@ -183,12 +183,12 @@ loop-i-preserved c =
     best_offered (s on) (r on) (i on) (here! on) (offers! on) looked (looked_as on looked c.looked_at-looked.ensures) at.place at.least at.j so_far c.loop-j-test.false
     ∙ ap (λ (q : Queues). some (get_or q.packets at.place no_packet)) (sym (queues! on)) in (
       (λ k.
-      record {
-        segment =
-            offer_recorded (s on) (r on) (i on) (here! on) (offers! on) p offered c.loop-i.s.segment (ap (λ (x : State). x.segment) c.loop-i.invariant.0)
+          record {
+            segment =
+                offer_recorded (s on) (r on) (i on) (here! on) (offers! on) p offered c.loop-i.s.segment (ap (λ (x : State). x.segment) c.loop-i.invariant.0)
                 c.set-s.result c.set-s.ensures c.parameter.result c.parameter.ensures k;
-        queues = queues! on k;
-      }),
+            queues = queues! on k;
+          }),
       λ e.
           let both = or-false c.loop-i.late (late (meaning (s on)).discipline (s on).segment.clock.0 p.value) (sym c.late_offered-late.ensures ∙ e) in
           in_time_offered (s on) (r on) (i on) (here! on) (offers! on) p offered both.1 (c.loop-i.invariant.1 both.0),

@@ -1,5 +1,5 @@
 -- The loops' invariants: the offers of the stations before i are recorded, and the best packet so far of station i is known.
-use Rattle.std.proofs.Common.{ℕ, ◌≡◌, false}
+use Rattle.std.proofs.Common.{◌≡◌, false}
 use Rattle.bus.proofs.OffersInPlace.{offered_to, InTimeTo, Best}
 use Rattle.bus.proofs.beginning.offer_all.Given as goal
 

@@ -1,8 +1,7 @@
 -- `playing::calls` meets its contract: each way through the loop is one call.
-use Rattle.std.proofs.Common.{ℕ, Bool, List, subst, ◌+◌, ◌-◌, ◌<◌, ◌≡◌, refl, sym, ap, ◌∙◌, true, false, ◌&&◌, ltb, get_or, set}
-use Rattle.bus.specs.Types.{State, Arrival}
-use Rattle.bus.specs.Coded.{admission_result, step_result, coded_admit, coded_step}
-use Rattle.bus.specs.Stretch.{in_row, may_be_more, Arrivals, Report, no_arrival, asks, due}
+use Rattle.std.proofs.Common.{ℕ, Bool, List, subst, ◌<◌, ◌≡◌, refl, sym, ap, ◌∙◌}
+use Rattle.bus.specs.Types.{State}
+use Rattle.bus.specs.Stretch.{in_row, may_be_more, Arrivals, Report}
 use Rattle.bus.specs.Parts.{addresses_of, stepped_to, admission_to}
 use Rattle.state.proofs.Stands.{lent}
 use Rattle.state.proofs.StandingParts.{state_held}

@@ -1,11 +1,10 @@
 -- `playing::step_in` meets its contract: it tries 1, then 17, begins a contention if none is under way, and probes one slot.
-use Rattle.std.proofs.Common.{ℕ, ◌≡◌, refl, sym, ap, ◌∙◌, subst, false, ltb}
+use Rattle.std.proofs.Common.{◌≡◌, refl, sym, ap, ◌∙◌, false, ltb}
 use Rattle.rules.specs.Bus.{last_slot}
-use Rattle.rules.specs.Refusals.{number_of, answered}
-use Rattle.rules.specs.Probe.{probe}
+use Rattle.rules.specs.Refusals.{answered}
 use Rattle.bus.specs.Types.{State}
-use Rattle.bus.specs.Coded.{Answer, coded_step, step_result}
-use Rattle.bus.specs.Parts.{stepped_to, open_of, probed_slot, addresses_of}
+use Rattle.bus.specs.Coded.{Answer}
+use Rattle.bus.specs.Parts.{stepped_to, open_of, addresses_of}
 use Rattle.state.proofs.Tested.{denied, granted}
 use Rattle.state.proofs.Stands.{Lent, lent_held}
 use Rattle.bus.proofs.Steps.{probes}

@@ -1,6 +1,6 @@
 -- `waiting::drop_late` meets its contract.
-use Rattle.std.proofs.Common.{◌<◌, ◌≤◌, ◌≡◌, sym, ap, arith, get_or}
-use Rattle.bus.specs.Types.{Queues, Queue}
+use Rattle.std.proofs.Common.{◌<◌, ◌≤◌, ap, arith, get_or}
+use Rattle.bus.specs.Types.{Queue}
 use Rattle.bus.specs.Parts.{stays, Late}
 use Rattle.bus.proofs.ClosingUp.{left_none, left_here, left_formed, left_more, left_all}
 use Rattle.bus.proofs.waiting.drop_late.Goals as goal
