@@ -1,9 +1,10 @@
 // What a command does: a call of the engine and the line of its answer, or a change of the state.
 use crate::commands::Command;
 use crate::{edits, lines, show, stretch};
-use bus::{Answer, Begun, Totals};
+use bus::{Answer, Arrivals, Begun, Totals};
 use rules::{Admitted, Verdict};
-use state::State;
+use sorts::Address;
+use state::{Row, Settings, State};
 
 // 'U refusal station'
 fn verdict(v: Verdict) {
@@ -63,43 +64,57 @@ fn totals(t: &Totals) {
     lines::write(b"T", &numbers);
 }
 
+// Each call: the state that it hands back, whose answer is written. They are functions of their own, since a function pays at entry for the
+// size of its locals, and a state is large.
+fn set_up(settings: Settings, row: Row) -> State {
+    let r = state::set_up(settings, row);
+    verdict(r.verdict);
+    r.state
+}
+
+fn admit(s: State, address: Address, value: u32, length: u32) -> State {
+    let r = bus::admit(s, address, value, length);
+    admitted(r.answer);
+    r.state
+}
+
+fn begin(s: State) -> State {
+    let r = bus::begin(s);
+    begun(&r.answer);
+    r.state
+}
+
+fn probe(s: State) -> State {
+    let r = bus::probe(s);
+    answer(b"O", &r.answer);
+    r.state
+}
+
+fn step(s: State) -> State {
+    let r = bus::step(s);
+    answer(b"S", &r.answer);
+    r.state
+}
+
+fn play(s: State, arrivals: Arrivals, steps: u32) -> State {
+    let r = bus::play(s, arrivals, steps);
+    stretch::write(&r.reports, r.made, r.taken, r.left);
+    r.state
+}
+
 // The state after a command, whose answer is written.
 pub fn obey(s: State, command: Command) -> State {
     match command {
-        Command::SetUp { settings, row } => {
-            let r = state::set_up(settings, row);
-            verdict(r.verdict);
-            r.state
-        }
+        Command::SetUp { settings, row } => set_up(settings, row),
         Command::Admit {
             address,
             value,
             length,
-        } => {
-            let r = bus::admit(s, address, value, length);
-            admitted(r.answer);
-            r.state
-        }
-        Command::Begin => {
-            let r = bus::begin(s);
-            begun(&r.answer);
-            r.state
-        }
-        Command::Probe => {
-            let r = bus::probe(s);
-            answer(b"O", &r.answer);
-            r.state
-        }
-        Command::Step => {
-            let r = bus::step(s);
-            answer(b"S", &r.answer);
-            r.state
-        }
-        Command::Play { arrivals, steps } => {
-            let r = bus::play(s, arrivals, steps);
-            stretch::write(&r.reports, r.made, r.taken, r.left);
-            r.state
-        }
+        } => admit(s, address, value, length),
+        Command::Begin => begin(s),
+        Command::Probe => probe(s),
+        Command::Step => step(s),
+        Command::Play { arrivals, steps } => play(s, arrivals, steps),
         Command::Edit {
             field,
             index,

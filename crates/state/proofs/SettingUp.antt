@@ -66,10 +66,6 @@ has_asked n f (e ∷ earlier) = ap (λ t. eqb n (f (asked_of e)) || t) (has_aske
 
 -- ---- tests in turn
 
--- A test that holds gives its verdict, and one that fails leaves it to the rest; s is what the code answers to the test b.
-pub tested : {s b t : Bool} (v rest : Verdict) → s ≡ b → s ≡ t → verdict t v rest ≡ verdict b v rest
-tested v rest p h = ap (λ t. verdict t v rest) (sym h ∙ p)
-
 -- Where every refusal has a number from 1 on: further tests decide if the first ones give 0.
 turn_kept :
     (ts us : List (Verdict × Bool)) → each_of (λ t. ltb 0 t.0.refusal) ts ≡ true
