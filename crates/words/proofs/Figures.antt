@@ -2,7 +2,7 @@
 use Prim.Native.Nat.{ℕ, zero, suc, ◌+◌, ◌*◌, ◌/◌, ◌%◌, ◌≤◌, ◌<◌}
 use mathlib.Core.Path.{◌≡◌, refl, sym, ap, ◌∙◌}
 use mathlib.Core.Bool.{Bool, true, false, cond, ◌&&◌}
-use mathlib.Core.Option.{none, some}
+use Rattle.std.specs.Prelude.{Some, None}
 use mathlib.Core.List.{List, [], ◌∷◌, ◌++◌}
 use native.Mathlib.Omega.{arith}
 use borrow.Author.Tests.{ltb-true, ltb-false, le-leb, lt-leb}
@@ -70,15 +70,15 @@ turns_first (suc (suc turns)) n h l e = go (ltb n 10) refl (turns_first (suc tur
 
 -- digits after digits
 from_then :
-    (base m n : ℕ) (xs ys : List ℕ) → number_from base m xs ≡ some n → number_from base m (xs ++ ys) ≡ number_from base n ys
+    (base m n : ℕ) (xs ys : List ℕ) → number_from base m xs ≡ Some n → number_from base m (xs ++ ys) ≡ number_from base n ys
 from_then base m n [] ys h = let same : m ≡ n = cc in ap (λ k. number_from base k ys) same
 from_then base m n (b ∷ xs) ys h =
     go (ltb (digit_of b) base && ltb (m * base + digit_of b) number_end) h (from_then base (m * base + digit_of b) n xs ys)
   where
     go :
-        (t : Bool) → cond t (number_from base (m * base + digit_of b) xs) none ≡ some n
-        → (number_from base (m * base + digit_of b) xs ≡ some n → number_from base (m * base + digit_of b) (xs ++ ys) ≡ number_from base n ys)
-        → cond t (number_from base (m * base + digit_of b) (xs ++ ys)) none ≡ number_from base n ys
+        (t : Bool) → cond t (number_from base (m * base + digit_of b) xs) None ≡ Some n
+        → (number_from base (m * base + digit_of b) xs ≡ Some n → number_from base (m * base + digit_of b) (xs ++ ys) ≡ number_from base n ys)
+        → cond t (number_from base (m * base + digit_of b) (xs ++ ys)) None ≡ number_from base n ys
     go true h more = more h
     go false h more = cc
 
@@ -86,24 +86,24 @@ digit_back : (d : ℕ) → d < 10 → digit_of (digit d) ≡ d
 digit_back d h = simp (le-leb 48 (48 + d) (omega arith), le-leb (48 + d) 57 (omega arith)) (omega arith)
 
 -- enough turns give digits that go on to the number
-turns_back : (turns n : ℕ) → n < turns → n < number_end → number_from 10 0 (decimal_in turns n) ≡ some n
+turns_back : (turns n : ℕ) → n < turns → n < number_end → number_from 10 0 (decimal_in turns n) ≡ Some n
 turns_back zero n l h = absurd (omega arith)
 turns_back (suc turns) n l h = go (ltb n 10) refl (turns_back turns (n / 10))
   where
     go :
-        (t : Bool) → ltb n 10 ≡ t → (n / 10 < turns → n / 10 < number_end → number_from 10 0 (decimal_in turns (n / 10)) ≡ some (n / 10))
-        → number_from 10 0 (turned turns n t) ≡ some n
+        (t : Bool) → ltb n 10 ≡ t → (n / 10 < turns → n / 10 < number_end → number_from 10 0 (decimal_in turns (n / 10)) ≡ Some (n / 10))
+        → number_from 10 0 (turned turns n t) ≡ Some n
     go true e more =
         let few = ltb-true n 10 e in
-        digit_on 10 0 n (digit n) [] (sym (digit_back n few)) few (omega arith) ∙ ap some (omega arith)
+        digit_on 10 0 n (digit n) [] (sym (digit_back n few)) few (omega arith) ∙ ap Some (omega arith)
     go false e more =
         let many = ltb-false n 10 e in
         from_then 10 0 (n / 10) (decimal_in turns (n / 10)) (digit (n % 10) ∷ []) (more (omega arith) (omega arith))
         ∙ digit_on 10 (n / 10) (n % 10) (digit (n % 10)) [] (sym (digit_back (n % 10) (omega arith))) (omega arith) (omega arith)
-        ∙ ap some (omega arith)
+        ∙ ap Some (omega arith)
 
 -- the number reads back
-pub decimal_back : (n : ℕ) → n < number_end → number_of (decimal n) ≡ some n
+pub decimal_back : (n : ℕ) → n < number_end → number_of (decimal n) ≡ Some n
 unfolding decimal
 decimal_back zero h = refl
 decimal_back (suc n) h =
@@ -157,7 +157,7 @@ hex_on :
 hex_on m d n rest few e h = digit_on 16 m d (hex_digit d) rest (hex_back d few) few (omega arith) ∙ ap (λ k. number_from 16 k rest) e
 
 -- the number reads back
-pub label_back : (n : ℕ) → n < 65_536 → number_of (label n) ≡ some n
+pub label_back : (n : ℕ) → n < 65_536 → number_of (label n) ≡ Some n
 label_back n h =
     hex_on 0 (n / 4096 % 16) (n / 4096) (drop 3 (label n)) (omega arith) (omega arith) (omega arith)
     ∙ hex_on (n / 4096) (n / 256 % 16) (n / 256) (drop 4 (label n)) (omega arith) (omega arith) (omega arith)

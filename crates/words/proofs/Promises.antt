@@ -4,7 +4,7 @@
 use Prim.Native.Nat.{ℕ, suc, ◌+◌, ◌-◌, ◌≤◌, ◌<◌}
 use mathlib.Core.Path.{◌≡◌}
 use mathlib.Core.Bool.{true}
-use mathlib.Core.Option.{some}
+use Rattle.std.specs.Prelude.{Some}
 use mathlib.Core.List.{List, [], ◌∷◌, ◌++◌}
 use lib.ListN.{length, take, drop}
 use Rattle.text.specs.Text.{newline, decimal}
@@ -99,11 +99,11 @@ same_self = Comparing.same_self
 -- ---- numbers
 
 -- one that is known is not too large
-pub number_small : (w : List ℕ) (n : ℕ) → number_of w ≡ some n → n < number_end
+pub number_small : (w : List ℕ) (n : ℕ) → number_of w ≡ Some n → n < number_end
 number_small = Numbers.number_small
 
 -- in decimal it is a word of a line, and reads back
-pub decimal_back : (n : ℕ) → n < 4_294_967_296 → number_of (decimal n) ≡ some n
+pub decimal_back : (n : ℕ) → n < 4_294_967_296 → number_of (decimal n) ≡ Some n
 decimal_back = Figures.decimal_back
 
 pub decimal_some : (n : ℕ) → 0 < length (decimal n)
@@ -116,7 +116,7 @@ pub decimal_line : (n : ℕ) → while in_line (decimal n) ≡ decimal n
 decimal_line = Figures.decimal_line
 
 -- and so is its label
-pub label_back : (n : ℕ) → n < 65_536 → number_of (label n) ≡ some n
+pub label_back : (n : ℕ) → n < 65_536 → number_of (label n) ≡ Some n
 label_back = Figures.label_back
 
 pub label_word : (n : ℕ) → while in_word (label n) ≡ label n

@@ -1,9 +1,7 @@
 -- Lines, words and numbers of a text that a person writes (docs/LAYOUT.md). Assumes nothing.
-use Rattle.std.specs.Prelude.{ℕ, ◌+◌, ◌*◌, ◌-◌, ◌/◌, ◌%◌, Bool, true, false, not, ◌&&◌, ◌||◌, cond, List, [], ◌∷◌, ltb, leb, eqb, length, drop}
-use Rattle.std.proofs.Math.Option.{Option, none, some}
+use Rattle.std.specs.Prelude.{ℕ, Option, Some, None, ◌+◌, ◌*◌, ◌-◌, ◌/◌, ◌%◌, Bool, true, false, not, ◌&&◌, ◌||◌, cond, List, [], ◌∷◌, ltb, leb, eqb, length, drop}
 use Rattle.text.specs.Text.{newline}
 pub use Rattle.words.specs.declared.Span.{Span}
-pub use Rattle.words.specs.declared.Number.{Number}
 
 -- ---- bytes that go together
 
@@ -85,32 +83,27 @@ digit_of b =
 
 -- the number that digits go on to from another, by a base of 10 or 16, as long as it is not too large
 abbrev pub number_from : ℕ → ℕ → List ℕ → Option ℕ
-number_from base n [] = some n
+number_from base n [] = Some n
 number_from base n (b ∷ rest) =
     cond
     (ltb (digit_of b) base && ltb (n * base + digit_of b) number_end)
     (number_from base (n * base + digit_of b) rest)
-    none
+    None
 
 -- '0x' and digits
 abbrev pub hexadecimal : List ℕ → Option ℕ
-hexadecimal [] = none
+hexadecimal [] = None
 hexadecimal (b ∷ rest) = number_from 16 0 (b ∷ rest)
 
 -- after a 0 comes nothing, or the rest of '0x'
 abbrev pub after_zero : List ℕ → Option ℕ
-after_zero [] = some 0
-after_zero (b ∷ rest) = cond (eqb b 120) (hexadecimal rest) none
+after_zero [] = Some 0
+after_zero (b ∷ rest) = cond (eqb b 120) (hexadecimal rest) None
 
 -- the number that a word is: decimal, with no 0 before other digits, or hexadecimal after '0x'
 abbrev pub number_of : List ℕ → Option ℕ
-number_of [] = none
+number_of [] = None
 number_of (b ∷ rest) = cond (eqb b 48) (after_zero rest) (number_from 10 0 (b ∷ rest))
-
--- what the code's answer says; a word that is no number has the value 0
-abbrev pub number_form : Option ℕ → Number
-number_form none = record { known = false; value = 0 }
-number_form (some n) = record { known = true; value = n }
 
 -- the ASCII code of a hexadecimal digit, with capital letters
 abbrev pub hex_digit : ℕ → ℕ

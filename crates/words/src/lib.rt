@@ -1,10 +1,11 @@
 // Lines, words and numbers of a text that a person writes. Every exported function takes any bytes.
 #![tactic(auto)]
 
-ghost use Rattle.std.specs.Prelude.{◌≡◌, ◌+◌, ◌≤◌, ◌&&◌, leb, length, drop};
-ghost use Rattle.words.specs.Words.{blank, first_line, word_span, digit_of, number_from, number_of, number_form};
+ghost use Rattle.std.specs.Prelude.{ℕ, Bool, ◌<◌, ◌≡◌, ◌+◌, ◌≤◌, ◌&&◌, leb, length, drop};
+ghost use Rattle.words.specs.Words.{blank, first_line, word_span, digit_of, number_from, number_of, while, in_line, in_word};
 ghost use Rattle.words.specs.Words.{same as same_words};
-ghost use Rattle.words.specs.Parts.{in_class, bytes_in};
+ghost use Rattle.std.specs.List.{take_while};
+ghost use Rattle.words.specs.Parts.{digit_in};
 
 // 'a number is at most 4,294,967,295'
 const LARGEST: u64 = 4_294_967_295;
@@ -16,172 +17,111 @@ pub struct Span {
     pub to: usize,
 }
 
-// A word as a number: whether it is one, and its value, or 0.
-#[derive(Clone, Copy)]
-pub struct Number {
-    pub known: bool,
-    pub value: u32,
-}
-
-// Which bytes go together: those of a line, blanks, those of a word.
-#[derive(Clone, Copy)]
-enum Class {
-    Line,
-    Blank,
-    Word,
-}
-
 // Whether a byte parts words: a space, a tab, a carriage return.
 fn is_blank(byte: u8) -> bool
     ensures { result ≡ blank byte }
 {
-    match byte {
-        b' ' | b'\t' | b'\r' => true,
-        _ => false,
-    }
+    matches!(byte, b' ' | b'\t' | b'\r')
 }
 
-// Whether a byte goes with those of its class.
-fn is_in(class: Class, byte: u8) -> bool
-    ensures { result ≡ in_class class byte }
+// Whether a byte goes on with a word: up to a blank or to '#', which begins a comment.
+fn is_in_word(byte: u8) -> bool
+    ensures { result ≡ in_word byte }
 {
-    match class {
-        Class::Line => byte != b'\n',
-        Class::Blank => is_blank(byte),
-        Class::Word => !is_blank(byte) && byte != b'#',
-    }
+    !is_blank(byte) && byte != b'#'
 }
 
-// The offset past the bytes of a class that stand from an offset on.
-fn past(text: &[u8], at: usize, class: Class) -> usize
-    ensures { result ≡ at + length (bytes_in class (drop at text.now)) }
+// What is left of a text from an offset on.
+fn left(text: &[u8], at: usize) -> &[u8]
+    ensures { result.now ≡ drop at text.now }
 {
-    let mut end = at;
-    while end < text.len() {
-        if !is_in(class, text[end]) {
-            return end;
-        }
-        end += 1;
-    }
-    end
+    text.get(at..).unwrap_or(&[])
+}
+
+// How many bytes at the start of a text are those of its first line.
+fn line_length(text: &[u8]) -> usize
+    ensures value { result ≡ length (take_while in_line text.now) }
+    ensures upper_bound { result ≤ length text.now }
+{
+    text.iter().take_while(|byte| **byte != b'\n').count()
+}
+
+// How many blanks stand before a word.
+fn blanks(text: &[u8]) -> usize
+    ensures value { result ≡ length (take_while blank text.now) }
+    ensures upper_bound { result ≤ length text.now }
+{
+    text.iter().take_while(|byte| is_blank(**byte)).count()
+}
+
+// How many bytes a word has that begins a text.
+fn word_length(text: &[u8]) -> usize
+    ensures value { result ≡ length (take_while in_word text.now) }
+    ensures upper_bound { result ≤ length text.now }
+{
+    text.iter().take_while(|byte| is_in_word(**byte)).count()
 }
 
 // The offset past the line that stands from an offset on: its newline's, or the end's.
 pub fn line_end(text: &[u8], at: usize) -> usize
     ensures { result ≡ at + length (first_line (drop at text.now)) }
 {
-    past(text, at, Class::Line)
+    at + line_length(left(text, at))
 }
 
 // The first word from an offset of a line on; where a comment or the end comes first, it is empty.
 pub fn word_at(line: &[u8], at: usize) -> Span
     ensures { result ≡ word_span line.now at }
 {
-    let from = past(line, at, Class::Blank);
-    let to = past(line, from, Class::Word);
-    Span { from: from, to: to }
+    let from = at + blanks(left(line, at));
+    let to = from + word_length(left(line, from));
+    Span { from, to }
 }
 
 // Whether two words are the same, byte by byte.
 pub fn same(word: &[u8], other: &[u8]) -> bool
     ensures { result ≡ same_words word.now other.now }
 {
-    if word.len() != other.len() {
-        return false;
-    }
-    let mut i = 0;
-    while i < word.len() {
-        if word[i] != other[i] {
-            return false;
-        }
-        i += 1;
-    }
-    true
+    word == other
 }
 
-// Whether a byte is one of those from one up to another.
-fn within(byte: u8, first: u8, last: u8) -> bool
-    ensures { result ≡ (leb first byte && leb byte last) }
+// The digit that a byte is: 0 to 9, then a to f or A to F.
+fn digit(byte: u8) -> Option<u64>
+    ensures { result ≡ digit_in byte }
 {
-    first <= byte && byte <= last
+    match byte {
+        b'0'..=b'9' => Some(u64::from(byte - b'0')),
+        b'a'..=b'f' => Some(u64::from(byte - b'a') + 10),
+        b'A'..=b'F' => Some(u64::from(byte - b'A') + 10),
+        _ => None,
+    }
 }
 
-// The digit that a byte is, or 16.
-fn digit(byte: u8) -> u64
-    ensures { result ≡ digit_of byte }
-{
-    if within(byte, b'0', b'9') {
-        return (byte - 48) as u64;
-    }
-    if within(byte, b'a', b'f') {
-        return (byte - 87) as u64;
-    }
-    if within(byte, b'A', b'F') {
-        return (byte - 55) as u64;
-    }
-    16
-}
-
-// The number that the digits from an offset of a word on are, by a base.
-fn digits(word: &[u8], from: usize, base: u64) -> Number
+// The number that digits are, by a base.
+fn digits(word: &[u8], base: u64) -> Option<u32>
     requires { base ≤ 16 }
-    ensures { result ≡ number_form (number_from base 0 (drop from word.now)) }
+    ensures { result ≡ number_from base 0 word.now }
 {
     let mut n: u64 = 0;
-    let mut i = from;
-    while i < word.len() {
-        let d = digit(word[i]);
-        if d >= base {
-            return Number {
-                known: false,
-                value: 0,
-            };
-        }
+    for byte in word {
+        let d = digit(*byte).filter(|d| *d < base)?;
         n = n * base + d;
         if n > LARGEST {
-            return Number {
-                known: false,
-                value: 0,
-            };
+            return None;
         }
-        i += 1;
     }
-    Number {
-        known: true,
-        value: n as u32,
-    }
+    u32::try_from(n).ok()
 }
 
-// The number that a word is.
-pub fn number_of(word: &[u8]) -> Number
-    ensures { result ≡ number_form (number_of word.now) }
+// The number that a word is: decimal, with no 0 before other digits, or hexadecimal after '0x'.
+pub fn number_of(word: &[u8]) -> Option<u32>
+    ensures { result ≡ number_of word.now }
 {
-    if word.len() == 0 {
-        return Number {
-            known: false,
-            value: 0,
-        };
+    match word {
+        [] | [b'0', b'x'] => None,
+        [b'0'] => Some(0),
+        [b'0', b'x', hexadecimal @ ..] => digits(hexadecimal, 16),
+        [b'0', ..] => None,
+        _ => digits(word, 10),
     }
-    if word[0] != b'0' {
-        return digits(word, 0, 10);
-    }
-    if word.len() == 1 {
-        return Number {
-            known: true,
-            value: 0,
-        };
-    }
-    if word[1] != b'x' {
-        return Number {
-            known: false,
-            value: 0,
-        };
-    }
-    if word.len() == 2 {
-        return Number {
-            known: false,
-            value: 0,
-        };
-    }
-    digits(word, 2, 16)
 }

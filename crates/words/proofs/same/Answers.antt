@@ -1,7 +1,7 @@
 -- `same` meets its contract.
-use Rattle.std.proofs.Common.{sym, arith}
-use Rattle.words.proofs.Comparing.{same_lengths}
+use Rattle.std.proofs.Common.{◌∙◌}
+use Rattle.words.proofs.Comparing.{same_bytes}
 use Rattle.words.proofs.same.Goals as goal
 
-pub returns-then-word-other : goal.returns-then-word-other
-returns-then-word-other c = let args = c.args in sym (same_lengths args.word.now args.other.now (λ e. omega arith))
+pub returns : goal.returns
+returns c = c.eq.ensures ∙ same_bytes c.args.word.now c.args.other.now
