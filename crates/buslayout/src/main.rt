@@ -4,7 +4,7 @@
 
 ghost use Rattle.std.specs.Prelude.{◌≡◌, length};
 
-use layout::Answer;
+use layout::WrongLine;
 use std::env::{Env, FillError};
 use std::io::{ErrorKind, Read};
 
@@ -41,10 +41,7 @@ fn say_unwritten(kind: ErrorKind) {
 
 // Says a word that stands before a number.
 fn say_word(code: u32) {
-    let word = layout::word_of(code);
-    let letters = word.letters;
-    let length = word.length;
-    say(&letters[..length]);
+    say(layout::word_of(code));
 }
 
 // Says a refusal's number and what it means.
@@ -111,11 +108,11 @@ fn say_fault(fault: u32) {
 }
 
 // Says which line of a layout is wrong, and its fault.
-fn say_wrong(answer: Answer) {
+fn say_wrong(wrong: WrongLine) {
     say(b"buslayout: line ");
-    io::print_decimal(STDERR, answer.line as u64);
+    io::print_decimal(STDERR, wrong.line as u64);
     say(b": ");
-    say_fault(answer.fault);
+    say_fault(wrong.fault);
     say(b"\n");
 }
 
@@ -160,13 +157,12 @@ fn write_text(rt: &HostRuntime, text: &[u8]) -> bool {
 // Writes the scenario of a layout, or says what is wrong with it.
 fn lay_out(rt: &HostRuntime, text: &[u8]) {
     let mut room = io::large_buffer();
-    let answer = layout::read(text, &mut room);
-    if answer.fault != 0 {
-        say_wrong(answer);
-        return;
+    match layout::read(text, &mut room) {
+        Ok(length) => {
+            write_text(rt, &room[..length]);
+        },
+        Err(wrong) => say_wrong(wrong),
     }
-    let length = answer.length;
-    write_text(rt, &room[..length]);
 }
 
 // The scenario of the layout on standard input.

@@ -1,101 +1,101 @@
 -- Arrivals inserted into a row of places, one after the other. Assumes nothing.
 use Prim.Native.Nat.{ℕ, suc, ◌+◌, ◌*◌, ◌-◌, ◌≤◌, ◌<◌}
 use mathlib.Core.Path.{◌≡◌, refl, sym, ap, ap₂, ◌∙◌}
-use mathlib.Core.Bool.{Bool, true, false, true≢false, ◌||◌, cond}
-use mathlib.Core.List.{List, [], ◌∷◌, ◌++◌}
-use native.Mathlib.Numerals.{add-one}
-use native.Mathlib.Nat.{div-mul-le_self, suc-mul}
+use mathlib.Core.Bool.{Bool, true, false, cond}
+use mathlib.Core.List.{List, [], ◌∷◌, ◌++◌, append-nil}
+use native.Mathlib.Nat.{div-mul-le_self}
 use native.Mathlib.Omega.{arith}
-use mir.Val.{Val}
-use denote.Laws.{Is}
-use denote.Array.{Array}
-use lib.Dec.{ltb, eqb}
-use lib.ListN.{length, get_or, take, drop, set}
-use lib.Seq.{append_snoc, slice, take-suc, take-suc-set, drop-set-lt, take-set-lt}
-use borrow.Author.Tests.{ltb-true, leb-true, eqb-true, eq-eqb, ne_eqb}
+use borrow.Rule.Slice.PartMut.{put_mid}
+use borrow.Author.Tests.{ltb-true, leb-true, leb-false, eqb-true, lt-ltb, le-ltb}
+use lib.Dec.{eqb, leb, ltb}
+use lib.ListN.{length, get_or, take, drop, set, length-drop}
+use lib.Seq.{drop-cons, set-append_seam, length-take-le}
 use Rattle.rules.specs.Bus.{clock_end}
 use Rattle.rules.specs.SetUp.{discipline_of}
 use Rattle.rules.specs.Standing.{value_is_fit}
 use Rattle.sorts.proofs.DisciplineCases.{by_discipline}
+use Rattle.std.specs.List.{prefix_len, take_while}
+use Rattle.std.proofs.lemmas.List.{drop-take, take-take, take_all, drop_all}
+use Rattle.std.proofs.lemmas.List.Folds.{length-prefix_len}
 use Rattle.state.specs.declared.Arrival.{Arrival}
-use Rattle.state.specs.contracts.Arrival.{the_row}
-use Rattle.state.proofs.Tested.{left_turn, left_end}
-use Rattle.layout.specs.Layout.{inserted, inserted_all, repeated, later, value_at, arrival_of}
+use Rattle.layout.specs.Layout.{inserted, arrival_of, later, value_at}
 
--- the row that a function is handed has its length
-pub rows_count : (rows : List Arrival) (vs : List Val) → Is (Array the_row 4096) rows vs → length rows ≡ 4096
-rows_count rows vs owned = owned.1.0.1
+-- ---- one arrival
 
--- ---- one arrival, in one pass over the row
+-- whether one comes before another that is inserted
+abbrev pub stays : Arrival → Arrival → Bool
+stays a x = leb x.time.0 a.time.0
 
--- what is held before the arrivals left: it goes before them where it moved, and else where it belongs
-abbrev pub onward : Bool → Arrival → List Arrival → List Arrival
-onward true held left = held ∷ left
-onward false held left = inserted held left
+-- it has its place after those that come before it
+inserted_at : (a : Arrival) (xs : List Arrival) → inserted a xs ≡ take (prefix_len (stays a) xs) xs ++ (a ∷ drop (prefix_len (stays a) xs) xs)
+inserted_at a [] = refl
+inserted_at a (x ∷ xs) = go (stays a x) refl (inserted_at a xs)
+  where
+    p : ℕ
+    p = prefix_len (stays a) xs
 
--- what a place of the row is for which there is none
-abbrev pub no_arrival : Arrival
-no_arrival = arrival_of 0 0 0 0
+    one_more : take (1 + p) (x ∷ xs) ++ (a ∷ drop (1 + p) (x ∷ xs)) ≡ x ∷ (take p xs ++ (a ∷ drop p xs))
+    one_more = let next : 1 + p ≡ suc p = omega arith in ap (λ n. take n (x ∷ xs) ++ (a ∷ drop n (x ∷ xs))) next
 
-onward_stays :
-    (moved : Bool) (held x : Arrival) (left : List Arrival) → (moved || ltb held.time.0 x.time.0) ≡ false
-    → onward moved held (x ∷ left) ≡ x ∷ onward moved held left
-onward_stays true held x left e = absurd (true≢false e)
-onward_stays false held x left e = rw e
+    go :
+        (t : Bool) → stays a x ≡ t → inserted a xs ≡ take p xs ++ (a ∷ drop p xs)
+        → cond (ltb a.time.0 x.time.0) (a ∷ x ∷ xs) (x ∷ inserted a xs)
+        ≡ take (cond t (1 + p) 0) (x ∷ xs) ++ (a ∷ drop (cond t (1 + p) 0) (x ∷ xs))
+    go true e more =
+        ap₂ (λ t (l : List Arrival). cond t (a ∷ x ∷ xs) (x ∷ l)) (le-ltb a.time.0 x.time.0 (leb-true x.time.0 a.time.0 e)) more ∙ sym one_more
+    go false e more = ap (λ t. cond t (a ∷ x ∷ xs) (x ∷ inserted a xs)) (lt-ltb a.time.0 x.time.0 (leb-false x.time.0 a.time.0 e))
 
-onward_moves :
-    (moved : Bool) (held x : Arrival) (left : List Arrival) → (moved || ltb held.time.0 x.time.0) ≡ true
-    → onward moved held (x ∷ left) ≡ held ∷ x ∷ left
-onward_moves true held x left e = refl
-onward_moves false held x left e = rw e
+-- the places from one on turned by one, and it is stored there
+module _ (xs ys : List Arrival) (p : ℕ) (a : Arrival) (h : p < length xs) where
+  abbrev long : ℕ
+  long = length xs - p
 
-onward_last : (moved : Bool) (held : Arrival) → onward moved held [] ≡ held ∷ []
-onward_last true held = refl
-onward_last false held = refl
+  abbrev mid : List Arrival
+  mid = take long (drop p xs)
 
--- the row of which n places are filled, before place i: all that is to stand in it
-abbrev pub standing : ℕ → List Arrival → Arrival → Bool → ℕ → List Arrival
-standing n rows held moved i = take i rows ++ onward moved held (slice i n rows)
+  whole : mid ≡ drop p xs
+  whole = take_all long (drop p xs) (omega (arith, length-drop p xs))
 
-module _ (n : ℕ) (rows : List Arrival) (held : Arrival) (moved : Bool) (i : ℕ) where
-  module _ (h : i < n) (k : n ≤ length rows) where
-    abbrev x : Arrival
-    x = get_or rows i no_arrival
+  last : drop (long - 1) (drop p xs) ≡ get_or (drop p xs) (long - 1) (arrival_of 0 0 0 0) ∷ []
+  last =
+      drop-cons (drop p xs) (long - 1) (arrival_of 0 0 0 0) (omega (arith, length-drop p xs))
+      ∙ ap (λ (l : List Arrival). get_or (drop p xs) (long - 1) (arrival_of 0 0 0 0) ∷ l) (drop_all (suc (long - 1)) (drop p xs) (omega (arith, length-drop p xs)))
 
-    abbrev left : List Arrival
-    left = slice (i + 1) n rows
+  stored :
+      ys ≡ drop (length mid - 1) mid ++ take (length mid - 1) mid
+      → set (put_mid p long xs ys) p a ≡ take p xs ++ (a ∷ take (long - 1) (drop p xs))
+  stored e =
+      let n : length mid - 1 ≡ long - 1 = omega (arith, ap length whole, length-drop p xs) in
+      let turned : ys ≡ (get_or (drop p xs) (long - 1) (arrival_of 0 0 0 0) ∷ []) ++ take (long - 1) (drop p xs)
+      = e ∙ ap₂ (λ n (l : List Arrival). drop n l ++ take n l) n whole ∙ ap (λ (l : List Arrival). l ++ take (long - 1) (drop p xs)) last in
+      let over : drop long (drop p xs) ≡ [] = drop_all long (drop p xs) (omega (arith, length-drop p xs)) in
+      ap₂
+      (λ (l r : List Arrival). set (take p xs ++ (l ++ r)) p a)
+      turned
+      over
+      ∙ ap
+      (λ n. set (take p xs ++ (get_or (drop p xs) (long - 1) (arrival_of 0 0 0 0) ∷ (take (long - 1) (drop p xs) ++ []))) n a)
+      (sym (length-take-le p xs (omega arith)))
+      ∙ set-append_seam (take p xs) _ _ a
+      ∙ ap (λ (l : List Arrival). take p xs ++ (a ∷ l)) (append-nil (take (long - 1) (drop p xs)))
 
-    turn : standing n rows held moved i ≡ take i rows ++ onward moved held (x ∷ left)
-    turn = ap (λ xs. take i rows ++ onward moved held xs) (left_turn n rows i no_arrival h k)
-
-    pub standing_stays : (moved || ltb held.time.0 x.time.0) ≡ false → standing n rows held moved i ≡ standing n rows held moved (i + 1)
-    standing_stays e =
-        turn ∙ ap (λ xs. take i rows ++ xs) (onward_stays moved held x left e) ∙ sym (append_snoc (take i rows) x (onward moved held left))
-        ∙ ap (λ xs. xs ++ onward moved held left) (sym (take-suc rows i no_arrival (omega arith)) ∙ ap (λ k. take k rows) (sym (add-one i)))
-
-    pub standing_moves :
-        (moved || ltb held.time.0 x.time.0) ≡ true → standing n rows held moved i ≡ standing n (set rows i held) x true (i + 1)
-    standing_moves e =
-        turn ∙ ap (λ xs. take i rows ++ xs) (onward_moves moved held x left e) ∙ sym (append_snoc (take i rows) held (x ∷ left))
-        ∙ ap₂
-        (λ xs ys. xs ++ x ∷ ys)
-        (sym (take-suc-set rows i held (omega arith)) ∙ ap (λ k. take k (set rows i held)) (sym (add-one i)))
-        (sym (drop-set-lt (i + 1) (take n rows) i held (omega arith)) ∙ ap (drop (i + 1)) (sym (take-set-lt n rows i held h)))
-
-  -- at the end what is held has the next place
-  pub standing_end : i ≡ n → n < length rows → standing n rows held moved i ≡ take (suc n) (set rows n held)
-  standing_end e h =
-      ap₂ (λ k xs. take k rows ++ onward moved held xs) e (left_end n rows i (omega arith))
-      ∙ ap (λ last. take n rows ++ last) (onward_last moved held) ∙ sym (take-suc-set rows n held h)
+  -- it is inserted among those before the last place
+  pub inserted_there :
+      ys ≡ drop (length mid - 1) mid ++ take (length mid - 1) mid → p ≡ length (take_while (stays a) (take (length xs - 1) xs))
+      → set (put_mid p long xs ys) p a ≡ inserted a (take (length xs - 1) xs)
+  inserted_there e f =
+      let others = take (length xs - 1) xs in
+      let first : p ≡ prefix_len (stays a) others = f ∙ length-prefix_len (stays a) others in
+      let split : length xs - 1 ≡ p + (long - 1) = omega arith in
+      stored e
+      ∙ ap₂
+      (λ (l r : List Arrival). l ++ (a ∷ r))
+      (sym (take-take p (length xs - 1) xs (omega arith)))
+      (sym (ap (λ n. drop p (take n xs)) split ∙ drop-take p (long - 1) xs))
+      ∙ ap (λ n. take n others ++ (a ∷ drop n others)) first
+      ∙ sym (inserted_at a others)
 
 -- ---- an arrival every so many slots
-
-module _ (discipline value time : ℕ) where
-  pub value_after : discipline ≡ 1 → value_at discipline value time ≡ time + value
-  value_after e = rw (eq-eqb discipline 1 e)
-
-  pub value_same : (discipline ≡ 1 → ⊥) → value_at discipline value time ≡ value
-  value_same e = rw (ne_eqb discipline 1 e)
 
 -- a later one's value is not below
 pub value_up : (discipline value time last : ℕ) → time ≤ last → value_at discipline value time ≤ value_at discipline value last
@@ -104,20 +104,6 @@ value_up discipline value time last h = up (eqb discipline 1)
     up : (datagram : Bool) → cond datagram (time + value) value ≤ cond datagram (last + value) value
     up true = omega arith
     up false = omega arith
-
--- the arrival at a time
-abbrev pub arrival_at : ℕ → ℕ → ℕ → ℕ → ℕ → Arrival
-arrival_at discipline address value long time = arrival_of time address (value_at discipline value time) long
-
--- one of them inserted: those after it are left
-pub every_turn :
-    (n time every : ℕ) (at : ℕ → Arrival) (xs : List Arrival) {ys : List Arrival} {a : Arrival} → a ≡ at time → ys ≡ inserted a xs
-    → inserted_all (repeated (suc n) time every at) xs ≡ inserted_all (repeated n (time + every) every at) ys
-every_turn n time every at xs same e = ap (inserted_all (repeated n (time + every) every at)) (ap (λ a. inserted a xs) (sym same) ∙ sym e)
-
--- one less left
-pub one_less : (n every : ℕ) → 0 < n → n * every ≡ (n - 1) * every + every
-one_less n every h = let e : n ≡ suc (n - 1) = omega arith in ap (λ k. k * every) e ∙ suc-mul (n - 1) every
 
 -- the last is not past the second slot
 pub last_within : (every from to : ℕ) → from ≤ to → from + later every from to * every ≤ to

@@ -2,7 +2,7 @@
 use Prim.Native.Nat.{ℕ, zero, suc, ◌+◌, ◌*◌, ◌-◌, ◌≤◌, ◌<◌}
 use mathlib.Core.Path.{◌≡◌, refl, sym, ap, subst, ◌∙◌}
 use mathlib.Core.Bool.{Bool, true, false, ◌||◌, cond}
-use mathlib.Core.Option.{Option, none, some}
+use Rattle.std.specs.Prelude.{Option, Some, None}
 use mathlib.Core.List.{List, [], ◌∷◌}
 use native.Mathlib.Nat.{div-mul-le_self}
 use native.Mathlib.Omega.{arith}
@@ -50,8 +50,8 @@ values_small (label ∷ labels) rest =
     go :
         (t : Bool) (number : Option ℕ) → number_of (first_word (after_word rest)) ≡ number → All Small x.values
         → All Small (cond t (field_in label number x) (faulty (word_missing label))).values
-    go true none e more = all_nil Small
-    go true (some n) e more = all_cons n (number_small (first_word (after_word rest)) n e) more
+    go true None e more = all_nil Small
+    go true (Some n) e more = all_cons n (number_small (first_word (after_word rest)) n e) more
     go false number e more = all_nil Small
 
 number_at : (values : List ℕ) → All Small values → (i : ℕ) → Small (get_or values i 0)

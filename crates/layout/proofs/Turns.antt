@@ -1,17 +1,16 @@
 -- One line of a text after the other. Assumes nothing.
-use Prim.Native.Nat.{ℕ, suc, ◌+◌, ◌≤◌}
+use Prim.Native.Nat.{ℕ, suc, ◌+◌, ◌-◌, ◌≤◌, ◌<◌}
 use mathlib.Core.Path.{◌≡◌, refl, sym, ap, ◌∙◌}
 use mathlib.Core.Bool.{Bool, true, false, cond}
 use mathlib.Core.List.{List, [], ◌∷◌}
 use native.Mathlib.Numerals.{add-one}
+use native.Mathlib.Omega.{arith}
 use borrow.Author.Tests.{eq-eqb, ne_eqb, ltb-true, ltb-false}
 use lib.Dec.{ltb, eqb}
-use lib.ListN.{length, drop}
+use lib.ListN.{length, take, drop}
 use Rattle.words.specs.Words.{lines_of, first_line}
-use Rattle.words.proofs.Lines.{lines_on, lines_end}
-use Rattle.layout.specs.declared.plan.Plan as Coded
-use Rattle.layout.specs.Layout.{Plan, Taken, take_line, wrong, says, request_in, read_lines}
-use Rattle.layout.specs.Parts.{plan_of}
+use Rattle.words.proofs.Lines.{end_within, line_taken, lines_on, lines_end}
+use Rattle.layout.specs.Layout.{Plan, Taken, take_line, wrong, read_lines}
 
 -- what a line that was taken makes of the lines from it on
 module _ (line : ℕ) (p : Plan) (text : List ℕ) (rest : List (List ℕ)) (t : Taken) (e : t ≡ take_line p text) where
@@ -37,16 +36,16 @@ lines-first text at end h e = go (ltb end (length text)) refl
     go true f = (lines_of (drop (suc end) text), lines_on text at end h e (ltb-true end (length text) f))
     go false f = ([], lines_end text at end h e (ltb-false end (length text) f))
 
--- what has been read with a fault says it
-pub saying_wrong :
-    (fault line : ℕ) (p : Coded.Plan) → (fault ≡ 0 → ⊥)
-    → cond (eqb fault 0) (says (request_in (plan_of p)) (plan_of p).arrivals p.steps) (wrong line fault) ≡ wrong line fault
-saying_wrong fault line p h =
-    ap (λ t. cond t (says (request_in (plan_of p)) (plan_of p).arrivals p.steps) (wrong line fault)) (ne_eqb fault 0 h)
+-- the first line of what is left of a text, where `end` is what `line_end` answers
+module _ (rest : List ℕ) (end : ℕ) (e : end ≡ 0 + length (first_line rest)) where
+  pub ends_within : end ≤ length rest
+  ends_within = end_within rest 0 end (omega arith) e
 
-pub saying_right :
-    (fault line : ℕ) (p : Coded.Plan) → fault ≡ 0
-    → cond (eqb fault 0) (says (request_in (plan_of p)) (plan_of p).arrivals p.steps) (wrong line fault)
-    ≡ says (request_in (plan_of p)) (plan_of p).arrivals p.steps
-saying_right fault line p h =
-    ap (λ t. cond t (says (request_in (plan_of p)) (plan_of p).arrivals p.steps) (wrong line fault)) (eq-eqb fault 0 h)
+  pub taken_first : take end rest ≡ first_line rest
+  taken_first = let whole : end ≡ end - 0 = omega arith in ap (λ n. take n rest) whole ∙ line_taken rest 0 end (omega arith) e
+
+  pub lines_later : end < length rest → lines_of rest ≡ first_line rest ∷ lines_of (drop (end + 1) rest)
+  lines_later h = lines_on rest 0 end (omega arith) e h ∙ ap (λ n. first_line rest ∷ lines_of (drop n rest)) (sym (add-one end))
+
+  pub lines_over : length rest ≤ end → lines_of rest ≡ first_line rest ∷ []
+  lines_over = lines_end rest 0 end (omega arith) e

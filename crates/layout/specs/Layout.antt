@@ -1,7 +1,6 @@
 -- A layout: a scenario as lines of words (docs/LAYOUT.md). What a text says is a good scenario, or the line that is wrong and its fault.
 -- Assumes nothing.
-use Rattle.std.specs.Prelude.{ℕ, zero, suc, ◌+◌, ◌*◌, ◌/◌, ◌-◌, Bool, not, ◌||◌, cond, List, [], ◌∷◌, ◌++◌, ltb, leb, eqb, length, get_or}
-use Rattle.std.proofs.Math.Option.{Option, none, some}
+use Rattle.std.specs.Prelude.{ℕ, Option, Some, None, zero, suc, ◌+◌, ◌*◌, ◌/◌, ◌-◌, Bool, not, ◌||◌, cond, List, [], ◌∷◌, ◌++◌, ltb, leb, eqb, length, get_or}
 use Rattle.rules.specs.Lists.{first_of}
 use Rattle.rules.specs.declared.Discipline.TheVariants.{RTDG, RTVC}
 use Rattle.rules.specs.Bus.{most_stations, code}
@@ -192,8 +191,8 @@ with_value value x = record { fault = x.fault; values = value ∷ x.values }
 
 -- the number after a word, before the later ones
 abbrev pub field_in : ℕ → Option ℕ → Fields → Fields
-field_in label none x = faulty (number_missing label)
-field_in label (some n) x = with_value n x
+field_in label None x = faulty (number_missing label)
+field_in label (Some n) x = with_value n x
 
 -- whether what is left of a line has no word
 abbrev pub wordless : List ℕ → Bool

@@ -1,5 +1,6 @@
 -- The modules of the definitions. Assumes nothing.
 pub mod Layout
+pub mod Faults
 pub mod Answers
 pub mod Parts
 pub mod Said

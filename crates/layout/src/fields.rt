@@ -1,112 +1,58 @@
 // The words and numbers of a line after its first.
-ghost use Rattle.std.specs.Prelude.{ℕ, ◌≤◌, ◌≡◌, List, ◌∷◌, length, drop};
-ghost use Rattle.words.specs.Words.{same};
-ghost use Rattle.layout.specs.Layout.{label_bytes, labels_of, wordless, fields_in};
-ghost use Rattle.layout.specs.Parts.{field_said, padded};
+ghost use Rattle.std.specs.Prelude.{ℕ, ◌≤◌, ◌≡◌, List, ◌∷◌, map, length};
+ghost use Rattle.words.specs.Words.{first_word, after_word};
+ghost use Rattle.layout.specs.Layout.{wordless, fields_in};
+ghost use Rattle.layout.specs.Faults.{label_number};
+ghost use Rattle.layout.specs.Parts.{field_said, FieldsSaid};
 
-use crate::labels;
+use crate::faults::Fault;
+use crate::labels::Label;
 
-// The line goes on after its last number.
-const GOES_ON: u32 = 300;
-
-// A word with its number: the fault, or 0; the number; and the offset past it.
-#[derive(Clone, Copy)]
-pub struct Field {
-    pub fault: u32,
-    pub value: u32,
-    pub next: usize,
-}
-
-// The numbers of a line in the order of its words, and zeros past them; or its fault.
-#[derive(Clone, Copy)]
-pub struct Numbers {
-    pub fault: u32,
-    pub values: [u32; 6],
-}
-
-// Whether a word is the one before a number.
-fn is_label(word: &[u8], code: u32) -> bool
-    ensures { result ≡ same word.now (label_bytes code) }
+// The first word of what is left of a line, and what is left after it.
+pub fn parted(line: &[u8]) -> (&[u8], &[u8])
+    ensures word { result.0.now ≡ first_word line.now }
+    ensures after { result.1.now ≡ after_word line.now }
 {
-    let label = labels::label(code);
-    let letters = label.letters;
-    let length = label.length;
-    words::same(word, &letters[..length])
+    let word = words::word_at(line, 0);
+    (&line[word.from..word.to], &line[word.to..])
 }
 
-// Whether what is left of a line from an offset on has no word.
-pub fn is_wordless(line: &[u8], at: usize) -> bool
-    requires { at ≤ length line.now }
-    ensures { result ≡ wordless (drop at line.now) }
+// Whether what is left of a line has no word.
+fn is_wordless(line: &[u8]) -> bool
+    ensures { result ≡ wordless line.now }
 {
-    let word = words::word_at(line, at);
-    word.from == word.to
+    let (word, _) = parted(line);
+    words::same(word, b"")
 }
 
-// A word and its number from an offset of the line on.
-fn field_at(line: &[u8], at: usize, code: u32) -> Field
-    requires at_in_bounds { at ≤ length line.now }
-    requires code_bound { code ≤ 13 }
-    ensures next_in_bounds { result.next ≤ length line.now }
-    ensures by_index { (later : List ℕ) → fields_in (code ∷ later) (drop at line.now) ≡ field_said result (fields_in later (drop result.next line.now)) }
+// A word and its number: the number, and what is left of the line after it.
+fn field_in(line: &[u8], label: Label) -> Result<(u32, &[u8]), Fault>
+    ensures { (later : List ℕ) → fields_in (label_number label ∷ later) line.now ≡ field_said result later }
 {
-    let word = words::word_at(line, at);
-    let start = word.from;
-    let end = word.to;
-    if !is_label(&line[start..end], code) {
-        return Field {
-            fault: 100 + code,
-            value: 0,
-            next: at,
-        };
+    let (word, after) = parted(line);
+    if !words::same(word, label.letters()) {
+        return Err(Fault::WordMissing(label));
     }
-    let digits = words::word_at(line, end);
-    let first = digits.from;
-    let next = digits.to;
-    let number = words::number_of(&line[first..next]);
-    if !number.known {
-        return Field {
-            fault: 200 + code,
-            value: 0,
-            next: at,
-        };
-    }
-    Field {
-        fault: 0,
-        value: number.value,
-        next,
+    let (digits, rest) = parted(after);
+    match words::number_of(digits) {
+        Some(number) => Ok((number, rest)),
+        None => Err(Fault::NumberMissing(label)),
     }
 }
 
-// The words and numbers from an offset of the line on, by its kind and the discipline, up to the end of the line.
-pub fn fields_in(line: &[u8], from: usize, kind: u32, discipline: u32) -> Numbers
-    requires { from ≤ length line.now }
-    ensures fault_value { result.fault ≡ (fields_in (labels_of kind discipline) (drop from line.now)).fault }
-    ensures values_value { result.fault ≡ 0 → result.values ≡ padded (fields_in (labels_of kind discipline) (drop from line.now)).values }
+// The numbers after these words of a line, up to its end, in the order of the words, and zeros past them.
+pub fn fields_in(line: &[u8], labels: &[Label]) -> Result<[u32; 6], Fault>
+    requires { length labels.now ≤ 6 }
+    ensures { FieldsSaid result (fields_in (map label_number labels.now) line.now) }
 {
-    let labels = labels::labels_of(kind, discipline);
-    let codes = labels.codes;
-    let count = labels.count;
     let mut values = [0; 6];
-    let mut at = from;
-    let mut i = 0;
-    while i < count {
-        let field = field_at(line, at, codes[i]);
-        if field.fault != 0 {
-            return Numbers {
-                fault: field.fault,
-                values,
-            };
-        }
-        values[i] = field.value;
-        at = field.next;
-        i += 1;
+    let mut rest = line;
+    for (i, label) in labels.iter().enumerate() {
+        (values[i], rest) = field_in(rest, *label)?;
     }
-    if !is_wordless(line, at) {
-        return Numbers {
-            fault: GOES_ON,
-            values,
-        };
+    if is_wordless(rest) {
+        Ok(values)
+    } else {
+        Err(Fault::GoesOn)
     }
-    Numbers { fault: 0, values }
 }

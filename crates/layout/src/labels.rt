@@ -1,223 +1,196 @@
 // The words of a layout: the kinds of lines, the disciplines, and the words before numbers.
-ghost use Rattle.std.specs.Prelude.{◌≡◌};
+ghost use Rattle.std.specs.Prelude.{◌≡◌, map};
+ghost use Rattle.rules.specs.Bus.{code};
 ghost use Rattle.layout.specs.Layout.{kind_of, discipline_named, station_labels, repeated_label, labels_of, label_bytes};
-ghost use Rattle.layout.specs.Answers.{label_form};
-ghost use Rattle.layout.specs.Parts.{labels_form};
+ghost use Rattle.layout.specs.Faults.{kind_in, kind_number, discipline_in, label_number};
 
-use crate::Label;
-use sorts::disciplines;
+use rules::Discipline;
 
 // The kinds of lines.
-pub const BUS: u32 = 1;
-
-pub const STATION: u32 = 2;
-
-pub const ARRIVAL: u32 = 3;
-
-pub const ARRIVALS: u32 = 4;
-
-pub const ATTEMPT: u32 = 5;
-
-pub const RUN: u32 = 6;
-
-// No discipline.
-pub const UNNAMED: u32 = 3;
-
-// The words before numbers.
-const D: u32 = 1;
-
-const A: u32 = 2;
-
-const Q: u32 = 3;
-
-const ADDRESS: u32 = 4;
-
-const CAPABILITY: u32 = 5;
-
-const TIME: u32 = 6;
-
-const VALUE: u32 = 7;
-
-const LENGTH: u32 = 8;
-
-const EVERY: u32 = 9;
-
-const FROM: u32 = 10;
-
-const TO: u32 = 11;
-
-const LAXITY: u32 = 12;
-
-const STEPS: u32 = 13;
-
-// The words of a kind of line, in order: the first `count` of the places.
-#[derive(Clone, Copy)]
-pub struct Labels {
-    pub codes: [u32; 6],
-    pub count: usize,
+#[derive(Clone, Copy, PartialEq, Eq)]
+pub enum Kind {
+    Bus,
+    Station,
+    Arrival,
+    Arrivals,
+    Attempt,
+    Run,
 }
 
-// The kind of a line by its first word; 0 for none.
-pub fn kind_of(word: &[u8]) -> u32
-    ensures { result ≡ kind_of word.now }
+// The words before numbers.
+#[derive(Clone, Copy)]
+pub enum Label {
+    D,
+    A,
+    Q,
+    Address,
+    Capability,
+    Time,
+    Value,
+    Length,
+    Every,
+    From,
+    To,
+    Laxity,
+    Steps,
+}
+
+impl Label {
+    // All of them, by their numbers from 1 on.
+    pub const ALL: [Label; 13] = [
+        Label::D,
+        Label::A,
+        Label::Q,
+        Label::Address,
+        Label::Capability,
+        Label::Time,
+        Label::Value,
+        Label::Length,
+        Label::Every,
+        Label::From,
+        Label::To,
+        Label::Laxity,
+        Label::Steps,
+    ];
+
+    // Its number in the table.
+    pub fn number(self) -> u32
+        ensures { result ≡ label_number self }
+    {
+        match self {
+            Label::D => 1,
+            Label::A => 2,
+            Label::Q => 3,
+            Label::Address => 4,
+            Label::Capability => 5,
+            Label::Time => 6,
+            Label::Value => 7,
+            Label::Length => 8,
+            Label::Every => 9,
+            Label::From => 10,
+            Label::To => 11,
+            Label::Laxity => 12,
+            Label::Steps => 13,
+        }
+    }
+
+    // Its letters.
+    pub fn letters(self) -> &'static [u8]
+        ensures { result.now ≡ label_bytes (label_number self) }
+    {
+        match self {
+            Label::D => b"D",
+            Label::A => b"A",
+            Label::Q => b"q",
+            Label::Address => b"address",
+            Label::Capability => b"capability",
+            Label::Time => b"time",
+            Label::Value => b"value",
+            Label::Length => b"length",
+            Label::Every => b"every",
+            Label::From => b"from",
+            Label::To => b"to",
+            Label::Laxity => b"laxity",
+            Label::Steps => b"steps",
+        }
+    }
+}
+
+// The kind of a line by its first word.
+pub fn kind_of(word: &[u8]) -> Option<Kind>
+    ensures { kind_in result ≡ kind_of word.now }
 {
+    // a match on the letters was tried: eleven of its goals stay open, a byte pattern each
     if words::same(word, b"bus") {
-        return BUS;
+        Some(Kind::Bus)
+    } else if words::same(word, b"station") {
+        Some(Kind::Station)
+    } else if words::same(word, b"arrival") {
+        Some(Kind::Arrival)
+    } else if words::same(word, b"arrivals") {
+        Some(Kind::Arrivals)
+    } else if words::same(word, b"attempt") {
+        Some(Kind::Attempt)
+    } else if words::same(word, b"run") {
+        Some(Kind::Run)
+    } else {
+        None
     }
-    if words::same(word, b"station") {
-        return STATION;
-    }
-    if words::same(word, b"arrival") {
-        return ARRIVAL;
-    }
-    if words::same(word, b"arrivals") {
-        return ARRIVALS;
-    }
-    if words::same(word, b"attempt") {
-        return ATTEMPT;
-    }
-    if words::same(word, b"run") {
-        return RUN;
-    }
-    0
 }
 
 // The discipline by its name.
-pub fn discipline_named(word: &[u8]) -> u32
-    ensures { result ≡ discipline_named word.now }
+pub fn discipline_named(word: &[u8]) -> Option<Discipline>
+    ensures { discipline_in result ≡ discipline_named word.now }
 {
     if words::same(word, b"PRI") {
-        return disciplines::PRI;
+        Some(Discipline::PRI)
+    } else if words::same(word, b"RTDG") {
+        Some(Discipline::RTDG)
+    } else if words::same(word, b"RTVC") {
+        Some(Discipline::RTVC)
+    } else {
+        None
     }
-    if words::same(word, b"RTDG") {
-        return disciplines::RTDG;
-    }
-    if words::same(word, b"RTVC") {
-        return disciplines::RTVC;
-    }
-    UNNAMED
 }
 
 // 'a station with its address and, in RTVC, its capability'
-fn station_labels(discipline: u32) -> Labels
-    ensures { result ≡ labels_form (station_labels discipline) }
+fn station_labels(discipline: Discipline) -> &'static [Label]
+    ensures { map label_number result.now ≡ station_labels (code discipline) }
 {
-    if discipline == disciplines::RTVC {
-        return Labels {
-            codes: [ADDRESS, CAPABILITY, 0, 0, 0, 0],
-            count: 2,
-        };
-    }
-    Labels {
-        codes: [ADDRESS, 0, 0, 0, 0, 0],
-        count: 1,
+    match discipline {
+        Discipline::RTVC => &[Label::Address, Label::Capability],
+        Discipline::PRI | Discipline::RTDG => &[Label::Address],
     }
 }
 
-// The word before the value of repeated arrivals.
-fn repeated_label(discipline: u32) -> u32
-    ensures { result ≡ repeated_label discipline }
+// The words of repeated arrivals: a datagram's value is given as slots after its time.
+fn repeated_labels(discipline: Discipline) -> &'static [Label]
+    ensures { map label_number result.now ≡ labels_of 4 (code discipline) }
 {
-    if discipline == disciplines::RTDG {
-        LAXITY
-    } else {
-        VALUE
+    match discipline {
+        Discipline::RTDG => &[
+            Label::Every,
+            Label::From,
+            Label::To,
+            Label::Address,
+            Label::Laxity,
+            Label::Length,
+        ],
+        Discipline::PRI | Discipline::RTVC => &[
+            Label::Every,
+            Label::From,
+            Label::To,
+            Label::Address,
+            Label::Value,
+            Label::Length,
+        ],
     }
 }
 
 // The words of a kind of line under a discipline.
-pub fn labels_of(kind: u32, discipline: u32) -> Labels
-    ensures { result ≡ labels_form (labels_of kind discipline) }
+pub fn labels_of(kind: Kind, discipline: Discipline) -> &'static [Label]
+    ensures { map label_number result.now ≡ labels_of (kind_number kind) (code discipline) }
 {
     match kind {
-        BUS => Labels {
-            codes: [D, A, Q, 0, 0, 0],
-            count: 3,
-        },
-        STATION => station_labels(discipline),
-        ARRIVAL => Labels {
-            codes: [TIME, ADDRESS, VALUE, LENGTH, 0, 0],
-            count: 4,
-        },
-        ARRIVALS => Labels {
-            codes: [EVERY, FROM, TO, ADDRESS, repeated_label(discipline), LENGTH],
-            count: 6,
-        },
-        ATTEMPT => Labels {
-            codes: [TIME, ADDRESS, VALUE, LENGTH, 0, 0],
-            count: 4,
-        },
-        RUN => Labels {
-            codes: [STEPS, 0, 0, 0, 0, 0],
-            count: 1,
-        },
-        _ => Labels {
-            codes: [0, 0, 0, 0, 0, 0],
-            count: 0,
-        },
+        Kind::Bus => &[Label::D, Label::A, Label::Q],
+        Kind::Station => station_labels(discipline),
+        Kind::Arrival | Kind::Attempt => &[
+            Label::Time,
+            Label::Address,
+            Label::Value,
+            Label::Length,
+        ],
+        Kind::Arrivals => repeated_labels(discipline),
+        Kind::Run => &[Label::Steps],
     }
 }
 
-// A word before a number.
-pub fn label(code: u32) -> Label
-    ensures { result ≡ label_form (label_bytes code) }
+// The word with this number that stands before a number; none is empty.
+pub fn word_of(code: u32) -> &'static [u8]
+    ensures { result.now ≡ label_bytes code }
 {
     match code {
-        D => Label {
-            letters: *b"D\0\0\0\0\0\0\0\0\0",
-            length: 1,
-        },
-        A => Label {
-            letters: *b"A\0\0\0\0\0\0\0\0\0",
-            length: 1,
-        },
-        Q => Label {
-            letters: *b"q\0\0\0\0\0\0\0\0\0",
-            length: 1,
-        },
-        ADDRESS => Label {
-            letters: *b"address\0\0\0",
-            length: 7,
-        },
-        CAPABILITY => Label {
-            letters: *b"capability",
-            length: 10,
-        },
-        TIME => Label {
-            letters: *b"time\0\0\0\0\0\0",
-            length: 4,
-        },
-        VALUE => Label {
-            letters: *b"value\0\0\0\0\0",
-            length: 5,
-        },
-        LENGTH => Label {
-            letters: *b"length\0\0\0\0",
-            length: 6,
-        },
-        EVERY => Label {
-            letters: *b"every\0\0\0\0\0",
-            length: 5,
-        },
-        FROM => Label {
-            letters: *b"from\0\0\0\0\0\0",
-            length: 4,
-        },
-        TO => Label {
-            letters: *b"to\0\0\0\0\0\0\0\0",
-            length: 2,
-        },
-        LAXITY => Label {
-            letters: *b"laxity\0\0\0\0",
-            length: 6,
-        },
-        STEPS => Label {
-            letters: *b"steps\0\0\0\0\0",
-            length: 5,
-        },
-        _ => Label {
-            letters: [0; 10],
-            length: 0,
-        },
+        1..=13 => Label::ALL[code as usize - 1].letters(),
+        _ => &[],
     }
 }

@@ -2,7 +2,7 @@
 use Prim.Native.Nat.{ℕ, ◌<◌}
 use mathlib.Core.Path.{◌≡◌, refl, ap, ap₂, ◌∙◌}
 use mathlib.Core.Bool.{Bool, true, false, cond}
-use mathlib.Core.Option.{some}
+use Rattle.std.specs.Prelude.{Some}
 use mathlib.Core.List.{List, [], ◌∷◌, ◌++◌}
 use native.Mathlib.Omega.{arith}
 use lib.Dec.{eqb}
@@ -27,7 +27,7 @@ record Written (text : List ℕ) (n : ℕ) : Type 0 where
   some_bytes : 0 < length text
   word : while in_word text ≡ text
   line : while in_line text ≡ text
-  back : number_of text ≡ some n
+  back : number_of text ≡ Some n
 
 number_written : (address : Bool) (n : ℕ) → n < limit address → Written (cond address (label n) (decimal n)) n
 number_written true n h = record { some_bytes = omega arith; word = label_word n; line = label_line n; back = label_back n h }

@@ -1,70 +1,63 @@
 -- `read_lines` meets its contract: line by line.
-use Rattle.std.proofs.Common.{suc, ◌+◌, ◌≤◌, ◌≡◌, sym, ap, ◌∙◌, [], add-one, arith, length, drop}
+use Rattle.std.proofs.Common.{◌+◌, ◌-◌, ◌≡◌, sym, ap, subst, ◌∙◌, [], arith, length, take, drop, length-take-le}
+use Rattle.std.proofs.lemmas.List.{take_all}
+use lib.ListN.{length-drop}
 use Rattle.words.specs.Words.{lines_of, first_line}
-use Rattle.words.proofs.Lines.{end_within, line_taken, lines_on, lines_end}
-use Rattle.layout.specs.Layout.{take_line, read_lines}
+use Rattle.layout.specs.Layout.{take_line, wrong, read_lines}
+use Rattle.layout.specs.Faults.{fault_in}
 use Rattle.layout.specs.Parts.{plan_of, taken_of}
-use Rattle.layout.proofs.Turns.{turn_right, turn_wrong, lines-first, saying_wrong}
+use Rattle.layout.proofs.Faulty.{fault_some}
+use Rattle.layout.proofs.Turns.{turn_right, turn_wrong, lines-first, ends_within, taken_first, lines_later, lines_over}
+use Rattle.layout.proofs.read_lines.Invariants.{Going}
 use Rattle.layout.proofs.read_lines.Goals as goal
-use Rattle.layout.proofs.read_lines.Goals.{After-line_end-end, After-take-taken}
-
--- where the line ends
-ends_within : (c : After-line_end-end) → c.line_end-end.result ≤ length c.args.text.now
-ends_within c =
-    end_within c.args.text.now c.loop-plan.at c.line_end-end.result c.loop-plan.invariant.within c.line_end-end.ensures
+use Rattle.layout.proofs.read_lines.Goals.{After-take}
 
 pub slice_bounds-take-end : goal.slice_bounds-take-end
-slice_bounds-take-end c = ends_within c
+slice_bounds-take-end c =
+    let rest = c.loop-fault.rest.now in
+    sym (length-take-le c.line_end-end.result rest (ends_within rest c.line_end-end.result c.line_end-end.ensures))
 
--- what becomes of the plan by it
-taken_here :
-    (c : After-take-taken) → let text = c.args.text.now in
-    taken_of c.take-taken.result ≡ take_line (plan_of c.loop-plan.plan) (first_line (drop c.loop-plan.at text))
+-- what becomes of the plan by the first line that is left
+taken_here : (c : After-take) → taken_of c.take.result c.take.new.self ≡ take_line (plan_of c.loop-fault.plan) (first_line c.loop-fault.rest.now)
 taken_here c =
-    let text = c.args.text.now in
-    c.take-taken.ensures.result_value
-    ∙ ap
-    (take_line (plan_of c.loop-plan.plan))
-    (line_taken text c.loop-plan.at c.line_end-end.result c.loop-plan.invariant.within c.line_end-end.ensures)
+    c.take.ensures ∙ ap (take_line (plan_of c.loop-fault.plan)) (taken_first c.loop-fault.rest.now c.line_end-end.result c.line_end-end.ensures)
 
-pub returns-then-taken-ne0 : goal.returns-then-taken-ne0
-returns-then-taken-ne0 c =
-    let text = c.args.text.now in
-    let first = lines-first text c.loop-plan.at c.line_end-end.result c.loop-plan.invariant.within c.line_end-end.ensures in
-    record {
-      result_value = saying_wrong _ _ c.take-taken.result.plan c.if-taken-ne0.true
-          ∙ turn_wrong c.loop-plan.line (plan_of c.loop-plan.plan) (first_line (drop c.loop-plan.at text)) first.0 (taken_of c.take-taken.result) (taken_here (goal.at.returns-then-taken-ne0 c).After-take-taken) c.if-taken-ne0.true
-          ∙ ap (read_lines c.loop-plan.line (plan_of c.loop-plan.plan)) (sym first.1)
-          ∙ sym c.loop-plan.invariant.left;
-      plan_fits = c.take-taken.ensures.plan_fits;
-    }
+pub returns-in-Err : goal.returns-in-Err
+returns-in-Err c =
+    let rest = c.loop-fault.rest.now in
+    let p = plan_of c.loop-fault.plan in
+    let line = c.loop-fault.line in
+    let first = lines-first rest 0 c.line_end-end.result (omega arith) c.line_end-end.ensures in
+    ap (wrong (line + 1)) (c.from.ensures ∙ sym (ap fault_in c.in-Err.is))
+    ∙ turn_wrong line p (first_line rest) first.0 (taken_of c.take.result c.take.new.self) (taken_here (goal.at.returns-in-Err c).After-take) (λ z. fault_some c.in-Err.fault (sym (ap fault_in c.in-Err.is) ∙ z))
+    ∙ ap (read_lines line p) (sym first.1)
+    ∙ sym c.loop-fault.invariant.left
 
-pub returns-then-end-text : goal.returns-then-end-text
-returns-then-end-text c =
-    let text = c.args.text.now in
-    record {
-      result_value = c.at_end.ensures.result_value
-          ∙ turn_right c.loop-plan.line (plan_of c.loop-plan.plan) (first_line (drop c.loop-plan.at text)) [] (taken_of c.take-taken.result) (taken_here (goal.at.returns-then-end-text c).After-take-taken) c.if-taken-ne0.false
-          ∙ ap
-          (read_lines c.loop-plan.line (plan_of c.loop-plan.plan))
-          (sym (lines_end text c.loop-plan.at c.line_end-end.result c.loop-plan.invariant.within c.line_end-end.ensures c.if-end-text.true))
-          ∙ sym c.loop-plan.invariant.left;
-      plan_fits = c.at_end.ensures.plan_fits;
-    }
+pub returns-then-end-rest : goal.returns-then-end-rest
+returns-then-end-rest c =
+    let rest = c.loop-fault.rest.now in
+    let p = plan_of c.loop-fault.plan in
+    let line = c.loop-fault.line in
+    c.at_end.ensures
+    ∙ turn_right line p (first_line rest) [] (taken_of c.take.result c.take.new.self) (taken_here (goal.at.returns-then-end-rest c).After-take) (ap fault_in c.in_default.is)
+    ∙ ap (read_lines line p) (sym (lines_over rest c.line_end-end.result c.line_end-end.ensures c.if-end-rest.true))
+    ∙ sym c.loop-fault.invariant.left
 
-pub loop-plan-preserved : goal.loop-plan-preserved
-loop-plan-preserved c =
-    let text = c.args.text.now in
-    let g = c.loop-plan.invariant in
-    record {
-      within = omega (arith, c.if-end-text.false);
-      few = omega (arith, g.few, c.line_end-end.ensures);
-      fits = c.take-taken.ensures.plan_fits;
+pub loop-fault-preserved : goal.loop-fault-preserved
+loop-fault-preserved c =
+    let rest = c.loop-fault.rest.now in
+    let p = plan_of c.loop-fault.plan in
+    let line = c.loop-fault.line in
+    let next = c.line_end-end.result + 1 in
+    let long = length-drop next rest in
+    let whole : take (length rest - next) (drop next rest) ≡ drop next rest = take_all (length rest - next) (drop next rest) (omega (arith, long)) in
+    subst
+    (λ later. Going c.args.text.now later c.take.new.self (line + 1))
+    (sym whole)
+    (record {
+      few = omega (arith, c.loop-fault.invariant.few, long, c.if-end-rest.false);
       left =
-          g.left
-          ∙ ap
-          (read_lines c.loop-plan.line (plan_of c.loop-plan.plan))
-          (lines_on text c.loop-plan.at c.line_end-end.result g.within c.line_end-end.ensures c.if-end-text.false)
-          ∙ sym (turn_right c.loop-plan.line (plan_of c.loop-plan.plan) (first_line (drop c.loop-plan.at text)) (lines_of (drop (suc c.line_end-end.result) text)) (taken_of c.take-taken.result) (taken_here (goal.at.loop-plan-preserved c).After-take-taken) c.if-taken-ne0.false)
-          ∙ ap (λ k. read_lines (c.loop-plan.line + 1) (plan_of c.take-taken.result.plan) (lines_of (drop k text))) (sym (add-one c.line_end-end.result));
-    }
+          c.loop-fault.invariant.left
+          ∙ ap (read_lines line p) (lines_later rest c.line_end-end.result c.line_end-end.ensures c.if-end-rest.false)
+          ∙ sym (turn_right line p (first_line rest) (lines_of (drop next rest)) (taken_of c.take.result c.take.new.self) (taken_here (goal.at.loop-fault-preserved c).After-take) (ap fault_in c.in_default.is));
+    })
