@@ -4,7 +4,9 @@
 
 ghost use Rattle.std.specs.Prelude.{◌≤◌, ◌≡◌, length};
 
-use std::io::{ErrorKind, Read};
+use scenario::Refused;
+use std::io::{Error, ErrorKind, Read};
+use text::Writer;
 
 // Standard input and standard error.
 const STDIN: i32 = 0;
@@ -14,36 +16,14 @@ const STDERR: i32 = 2;
 // The bytes that there is space for.
 const SPACE: usize = 65_537;
 
-// What became of a text: all of it was written, its reader has closed it, or it could not be written.
-#[derive(Clone, Copy)]
-enum Written {
-    Whole,
-    Closed,
-    Failed,
-}
-
-// Writes a text.
-fn write(rt: &HostRuntime, text: &[u8]) -> Written {
-    match rt.write_all(text) {
-        Ok(()) => Written::Whole,
-        Err(e) => {
-            if e.kind() == ErrorKind::BrokenPipe {
-                Written::Closed
-            } else {
-                Written::Failed
-            }
-        }
-    }
-}
-
-// Writes the first bytes of the room, if there are any to write; what became of them.
-fn write_first(rt: &HostRuntime, room: &[u8], count: usize) -> Written
+// Writes the first bytes of the room, if there are any to write.
+fn write_first(rt: &HostRuntime, room: &[u8], count: usize) -> Result<(), Error>
     requires { count ≤ length room.now }
 {
     if count == 0 {
-        return Written::Whole;
+        return Ok(());
     }
-    write(rt, &room[..count])
+    rt.write_all(&room[..count])
 }
 
 // Room for the text of a turn.
@@ -53,52 +33,45 @@ fn room() -> [u8; 65536]
     [0; 65536]
 }
 
-// What became of a run: whether the scenario is refused, and whether all of the text could be written.
-#[derive(Clone, Copy)]
-struct Played {
-    pub refused: bool,
-    pub written: Written,
-}
-
 // Plays the scenario turn by turn as long as the run goes on and its text can be written.
-fn play(rt: &HostRuntime, input: &[u8]) -> Played {
+fn play(rt: &HostRuntime, input: &[u8]) -> Result<(), Error> {
     let mut room = room();
     let mut turn = listing::open(input, &mut room);
-    let mut written = write_first(rt, &room, turn.length);
+    write_first(rt, &room, turn.length)?;
     let mut play = turn.play;
-    let refused = !play.going;
     while play.going {
-        if !matches!(written, Written::Whole) {
-            return Played { refused, written };
-        }
         turn = listing::next(input, play, &mut room);
-        written = write_first(rt, &room, turn.length);
+        write_first(rt, &room, turn.length)?;
         play = turn.play;
     }
-    Played { refused, written }
+    Ok(())
 }
 
 // Says on standard error, in one line, what went wrong.
 fn say(words: &[u8]) {
-    let mut line = room();
-    let named = text::letters(&mut line, 0, b"busrun: ");
-    let said = text::letters(&mut line, named, words);
-    let end = text::put(&mut line, said, b'\n');
-    io::write_all(STDERR, &line[..end]);
+    let mut room = room();
+    let mut line = Writer {
+        room: &mut room,
+        at: 0,
+    };
+    line.letters(b"busrun: ");
+    line.letters(words);
+    line.put(b'\n');
+    let end = line.at;
+    io::write_all(STDERR, &room[..end]);
 }
 
 // Says what refuses the scenario, and which record.
-fn say_refused(input: &[u8]) {
-    if let Err(e) = scenario::read(input) {
-        let mut room = room();
-        let length = meanings::refused(input, u32::from(e.refusal), e.offset, &mut room);
-        say(&room[..length]);
-    }
+fn say_refused(input: &[u8], refused: Refused) {
+    let mut room = room();
+    let number = u32::from(refused.refusal);
+    let length = meanings::refused(input, number, refused.offset, &mut room);
+    say(&room[..length]);
 }
 
-// Says that the text could not be written, unless it was or its reader has closed it.
-fn say_unwritten(written: Written) {
-    if matches!(written, Written::Failed) {
+// Says that the text could not be written, unless its reader has closed it.
+fn say_unwritten(kind: ErrorKind) {
+    if kind != ErrorKind::BrokenPipe {
         say(b"the output cannot be written");
     }
 }
@@ -111,29 +84,26 @@ fn space() -> [u8; 65537]
 }
 
 // Whether the input, of which so many bytes were read, was read without a failure: they fill the space, or a further read finds the end there.
+// Each program has this for itself: no contract can say what a file gives, so that a library of it would promise nothing.
 fn is_read(rt: &HostRuntime, got: usize) -> bool {
-    if got == SPACE {
-        return true;
-    }
     let mut more = [0u8; 1];
-    match rt.stdin().read(&mut more) {
-        Ok(count) => count == 0,
-        Err(_) => false,
-    }
+    got == SPACE || matches!(rt.stdin().read(&mut more), Ok(0))
 }
 
 // Plays the input, of which a part could be read or all, and says what went wrong, if anything did.
 fn run(rt: &HostRuntime, input: &[u8], read: bool) {
-    let played = play(rt, input);
+    let written = play(rt, input);
     if !read {
         say(b"the input cannot be read");
         return;
     }
-    if played.refused {
-        say_refused(input);
+    if let Err(refused) = scenario::read(input) {
+        say_refused(input, refused);
         return;
     }
-    say_unwritten(played.written);
+    if let Err(e) = written {
+        say_unwritten(e.kind());
+    }
 }
 
 fn main(rt: HostRuntime) {
