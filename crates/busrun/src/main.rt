@@ -39,7 +39,7 @@ fn play(rt: &HostRuntime, input: &[u8]) -> Result<(), Error> {
     let mut turn = listing::open(input, &mut room);
     write_first(rt, &room, turn.length)?;
     let mut play = turn.play;
-    while play.going {
+    while play.steps.is_some() {
         turn = listing::next(input, play, &mut room);
         write_first(rt, &room, turn.length)?;
         play = turn.play;

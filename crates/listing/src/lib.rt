@@ -2,7 +2,7 @@
 // any play.
 #![tactic(auto)]
 
-ghost use Rattle.std.specs.Prelude.{◌*◌, ◌≤◌, ◌≡◌, drop, false, length};
+ghost use Rattle.std.specs.Prelude.{◌*◌, ◌≤◌, ◌≡◌, drop, None, length};
 ghost use Rattle.bus.specs.Coded.{totals_of};
 ghost use Rattle.text.specs.Room.{room_bytes, room_with};
 ghost use Rattle.text.specs.Parts.{Wrote, roomy};
@@ -30,13 +30,12 @@ const NO_ARRIVAL: Arrival = Arrival {
     length: 0,
 };
 
-// A run that is played: the state, the offset of the record that is next in the input, the steps that are left, and whether it goes on.
+// A run that is played: the state, the offset of the record that is next in the input, and the steps that are left if it goes on.
 #[derive(Clone, Copy)]
 pub struct Play {
     pub state: State,
     pub at: usize,
-    pub steps: u32,
-    pub going: bool,
+    pub steps: Option<u32>,
 }
 
 // What a turn hands out: how many bytes of text it has put at the start of the room, and the run as it goes on.
@@ -48,13 +47,12 @@ pub struct Turn {
 
 // A run that is over.
 fn over(state: State) -> Play
-    ensures { result ≡ record { state = state; at = 0; steps = 0; going = false } }
+    ensures { result ≡ record { state = state; at = 0; steps = None } }
 {
     Play {
         state,
         at: 0,
-        steps: 0,
-        going: false,
+        steps: None,
     }
 }
 
@@ -69,8 +67,7 @@ pub fn open(input: &[u8], room: &mut [u8; 65536]) -> Turn
             let play = Play {
                 state: s.state,
                 at: s.at,
-                steps: s.steps,
-                going: true,
+                steps: Some(s.steps),
             };
             Turn { length: 0, play }
         }
@@ -157,26 +154,22 @@ fn close(state: State, room: &mut [u8; 65536]) -> Turn
     }
 }
 
-// A stretch of the run.
-fn go_on(input: &[u8], play: Play, room: &mut [u8; 65536]) -> Turn
-    ensures { TurnTold room.old room.new result (stretched input.now play) }
+// A stretch of the run from a state on, by the arrivals that stand in the input from an offset on and the steps that are left.
+fn go_on(input: &[u8], state: State, at: usize, steps: u32, room: &mut [u8; 65536]) -> Turn
+    ensures { TurnTold room.old room.new result (stretched input.now state at steps) }
 {
-    let at = play.at;
     let arrivals = gather(input, at);
-    let state = play.state;
-    let stretch = bus::play(state, arrivals, play.steps);
+    let stretch = bus::play(state, arrivals, steps);
     let mut out = Writer { room, at: 0 };
     tell_all(&mut out, &stretch.reports[..stretch.made]);
-    let reached = stretch.state;
-    let next = Play {
-        state: reached,
+    let play = Play {
+        state: stretch.state,
         at: at + ARRIVAL_BYTES * stretch.taken,
-        steps: stretch.left,
-        going: true,
+        steps: Some(stretch.left),
     };
     Turn {
         length: out.at,
-        play: next,
+        play,
     }
 }
 
@@ -187,12 +180,11 @@ pub fn next(input: &[u8], play: Play, room: &mut [u8; 65536]) -> Turn
     ensures room_after { room.new ≡ room_with (turn input.now play).text room.old }
     ensures length_bound { result.length ≤ room_bytes }
 {
-    if !play.going {
+    let Some(steps) = play.steps else {
         return Turn { length: 0, play };
+    };
+    if steps == 0 {
+        return close(play.state, room);
     }
-    if play.steps == 0 {
-        let state = play.state;
-        return close(state, room);
-    }
-    go_on(input, play, room)
+    go_on(input, play.state, play.at, steps, room)
 }
