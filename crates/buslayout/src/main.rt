@@ -5,8 +5,9 @@
 ghost use Rattle.std.specs.Prelude.{◌≡◌, length};
 
 use layout::WrongLine;
+use scenario::Refused;
 use std::env::{Env, FillError};
-use std::io::{ErrorKind, Read};
+use std::io::{Error, ErrorKind, Read};
 
 // Standard input and standard error.
 const STDIN: i32 = 0;
@@ -33,10 +34,9 @@ fn say_line(words: &[u8]) {
 
 // Says that the text could not be written, unless its reader has closed it.
 fn say_unwritten(kind: ErrorKind) {
-    if kind == ErrorKind::BrokenPipe {
-        return;
+    if kind != ErrorKind::BrokenPipe {
+        say_line(b"the output cannot be written");
     }
-    say_line(b"the output cannot be written");
 }
 
 // Says a word that stands before a number.
@@ -47,7 +47,7 @@ fn say_word(code: u32) {
 // Says a refusal's number and what it means.
 fn say_refusal(number: u32) {
     say(b"refused, number ");
-    io::print_decimal(STDERR, number as u64);
+    io::print_decimal(STDERR, u64::from(number));
     say(b": ");
     let mut room = io::large_buffer();
     let end = meanings::meaning(&mut room, 0, number);
@@ -85,26 +85,18 @@ fn say_other(fault: u32) {
     }
 }
 
-// Says what a fault is.
+// Says what a fault is, by its number (`WrongLine` of layout): a refusal's below 100, and from 100 and from 200 on those of the words.
 fn say_fault(fault: u32) {
-    if fault == 2 {
-        say_refusal(fault);
-        say(b"; expected 'PRI', 'RTDG' or 'RTVC'");
-        return;
+    match fault {
+        2 => {
+            say_refusal(fault);
+            say(b"; expected 'PRI', 'RTDG' or 'RTVC'");
+        }
+        ..100 => say_refusal(fault),
+        100..200 => say_expected(fault - 100),
+        200..300 => say_number_expected(fault - 200),
+        _ => say_other(fault),
     }
-    if fault < 100 {
-        say_refusal(fault);
-        return;
-    }
-    if fault < 200 {
-        say_expected(fault - 100);
-        return;
-    }
-    if fault < 300 {
-        say_number_expected(fault - 200);
-        return;
-    }
-    say_other(fault);
 }
 
 // Says which line of a layout is wrong, and its fault.
@@ -131,26 +123,16 @@ fn scenario_space() -> [u8; 65537]
 }
 
 // Whether the input, of which so many bytes were read into so much space, was read without a failure: they fill the space, or a further read
-// finds the end there.
+// finds the end there. Each program has this for itself: no contract can say what a file gives, so that a library of it would promise nothing.
 fn is_read(rt: &HostRuntime, got: usize, space: usize) -> bool {
-    if got == space {
-        return true;
-    }
     let mut more = [0u8; 1];
-    match rt.stdin().read(&mut more) {
-        Ok(count) => count == 0,
-        Err(_) => false,
-    }
+    got == space || matches!(rt.stdin().read(&mut more), Ok(0))
 }
 
-// Writes a text, or says that it could not be written; whether it was.
-fn write_text(rt: &HostRuntime, text: &[u8]) -> bool {
-    match rt.write_all(text) {
-        Ok(()) => true,
-        Err(e) => {
-            say_unwritten(e.kind());
-            false
-        }
+// Writes a text, or says that it could not be written.
+fn write_text(rt: &HostRuntime, text: &[u8]) {
+    if let Err(e) = rt.write_all(text) {
+        say_unwritten(e.kind());
     }
 }
 
@@ -158,9 +140,7 @@ fn write_text(rt: &HostRuntime, text: &[u8]) -> bool {
 fn lay_out(rt: &HostRuntime, text: &[u8]) {
     let mut room = io::large_buffer();
     match layout::read(text, &mut room) {
-        Ok(length) => {
-            write_text(rt, &room[..length]);
-        },
+        Ok(length) => write_text(rt, &room[..length]),
         Err(wrong) => say_wrong(wrong),
     }
 }
@@ -180,41 +160,42 @@ fn from_layout(rt: &HostRuntime) {
     lay_out(rt, &text[..got]);
 }
 
-// Writes the line of the record at an offset; the offset of the next record, or 0 where there is none or it could not be written.
-fn show_record(rt: &HostRuntime, input: &[u8], at: usize) -> usize {
+// Writes the line of the record at an offset; the offset of the next record, or 0 where there is none.
+fn show_record(rt: &HostRuntime, input: &[u8], at: usize) -> Result<usize, Error> {
     let mut room = io::large_buffer();
     let shown = shown::show(input, at, &mut room);
-    let length = shown.length;
-    let written = write_text(rt, &room[..length]);
-    if !written {
-        return 0;
-    }
-    shown.next
+    rt.write_all(&room[..shown.length])?;
+    Ok(shown.next)
 }
 
 // Writes the lines of a good scenario, a record a turn; it has no more records than bytes.
-fn show_records(rt: &HostRuntime, input: &[u8]) {
-    let mut at = show_record(rt, input, 0);
-    for turn in 0..SCENARIO_SPACE {
+fn show_records(rt: &HostRuntime, input: &[u8]) -> Result<(), Error> {
+    let mut at = show_record(rt, input, 0)?;
+    for _ in 0..SCENARIO_SPACE {
         if at == 0 {
-            return;
+            break;
         }
-        at = show_record(rt, input, at);
+        at = show_record(rt, input, at)?;
     }
+    Ok(())
 }
 
 // Says what refuses a scenario, and which record.
-fn say_refused(input: &[u8], number: u32, offset: usize) {
+fn say_refused(input: &[u8], refused: Refused) {
     let mut room = io::large_buffer();
-    let length = meanings::refused(input, number, offset, &mut room);
+    let number = u32::from(refused.refusal);
+    let length = meanings::refused(input, number, refused.offset, &mut room);
     say_line(&room[..length]);
 }
 
 // Writes a scenario as a layout, or says what refuses it.
 fn show_all(rt: &HostRuntime, input: &[u8]) {
-    match scenario::read(input) {
-        Ok(_) => show_records(rt, input),
-        Err(e) => say_refused(input, u32::from(e.refusal), e.offset),
+    if let Err(refused) = scenario::read(input) {
+        say_refused(input, refused);
+        return;
+    }
+    if let Err(e) = show_records(rt, input) {
+        say_unwritten(e.kind());
     }
 }
 
@@ -232,11 +213,7 @@ fn from_scenario(rt: &HostRuntime) {
 // Whether there is such an argument; the first is the program's own name.
 fn is_argument(rt: &HostRuntime, i: usize) -> bool {
     let mut first = [0u8; 1];
-    match rt.arg(i, &mut first) {
-        Ok(_) => true,
-        Err(FillError::TooLong) => true,
-        Err(FillError::NotPresent) => false,
-    }
+    !matches!(rt.arg(i, &mut first), Err(FillError::NotPresent))
 }
 
 // Whether the argument asks for a layout.
@@ -251,13 +228,9 @@ fn is_show(rt: &HostRuntime) -> bool {
 fn main(rt: HostRuntime) {
     if !is_argument(&rt, 1) {
         from_layout(&rt);
-        return;
+    } else if !is_argument(&rt, 2) && is_show(&rt) {
+        from_scenario(&rt);
+    } else {
+        say_line(b"usage: buslayout [--show]");
     }
-    if !is_argument(&rt, 2) {
-        if is_show(&rt) {
-            from_scenario(&rt);
-            return;
-        }
-    }
-    say_line(b"usage: buslayout [--show]");
 }
