@@ -17,8 +17,8 @@ fn lying_in(w: Window, row: &[u64; 64]) -> u64
     ensures { result ≡ word_of (λ i. in_window w (get_or row.now i 0)) 64 }
 {
     let mut found = 0;
-    for i in 0..64 {
-        if window::in_window(w, row[i]) {
+    for (i, &number) in row.iter().enumerate() {
+        if window::in_window(w, number) {
             found = word::set(found, i);
         }
     }
@@ -30,8 +30,8 @@ fn in_time(slot: Slot, values: &[u32; 64]) -> u64
     ensures { result ≡ word_of (λ i. not (ltb (get_or values.now i 0) slot.0)) 64 }
 {
     let mut found = 0;
-    for i in 0..64 {
-        if !sorts::before(Slot(values[i]), slot) {
+    for (i, &latest) in values.iter().enumerate() {
+        if !sorts::before(Slot(latest), slot) {
             found = word::set(found, i);
         }
     }
@@ -42,9 +42,8 @@ fn in_time(slot: Slot, values: &[u32; 64]) -> u64
 pub fn addresses_of(listed: [Listed; 64]) -> [u64; 64]
     ensures { result ≡ addresses_of listed }
 {
-    let mut addresses = [0u64; 64];
-    for i in 0..64 {
-        let l = listed[i];
+    let mut addresses = [0; 64];
+    for (i, l) in listed.iter().enumerate() {
         addresses[i] = l.address.number();
     }
     addresses
