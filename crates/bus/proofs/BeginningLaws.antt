@@ -9,6 +9,8 @@ use native.Mathlib.Omega.{arith}
 use lib.Dec.{eqb, ltb}
 use lib.ListN.{length, get_or, take, set}
 use borrow.Author.Tests.{eqb-true, eqb-false, ltb-true, ltb-false, lt-ltb, le-ltb, not-true}
+use Rattle.std.proofs.lemmas.Option.{none-some, cond_some}
+use Rattle.std.specs.Prelude.{Some}
 use Rattle.rules.specs.Lists.{keep, count, total}
 use Rattle.rules.specs.declared.Discipline.{Discipline}
 use Rattle.rules.specs.declared.Discipline.TheVariants.{PRI, RTDG, RTVC}
@@ -16,7 +18,7 @@ use Rattle.rules.specs.Bus.{Offer, Station, Bus, most_admitted, late}
 use Rattle.rules.specs.SetUp.{discipline_of}
 use Rattle.rules.specs.Standing.{OfferStands}
 use Rattle.rules.specs.Begin.{sits_out, parameter_of, offers, chosen, goes_before, choice, entered, drops_of, begin}
-use Rattle.rules.proofs.Laws.{and-true, true-and, keep_all, kept_failed, count-le, total_mono}
+use Rattle.rules.proofs.Laws.{and-true, true-and, kept_failed, count-le, total_mono}
 use Rattle.word.specs.Word.{bit_at, set_at}
 use Rattle.word.proofs.Laws.{bit_word, word_same}
 use Rattle.bus.specs.Types.{Slot, Settings, Listed, Contender, Contention, Round, Segment, Queues, State, Packet, Queue}
@@ -43,22 +45,14 @@ before_more j i n = go (ltb j i) refl
 -- ---- a station's place among the contenders
 
 -- it contends if a packet is found and it does not sit out
-pub contender_still_on :
-    (g : Settings) (clock : Slot) (round : Round) (l : Listed) (o : Option Packet)
-    → contender_on g clock round l o
-    ≡ cond
-    (chosen_form o).found
-    (cond
-    (sits_out (discipline_of g.discipline) (last_of round) l.capability.0)
-    no_contender
-    (record {
-      contends = true;
-      parameter = parameter_for (discipline_of g.discipline) g clock l.capability (chosen_form o).packet;
-      packet = (chosen_form o).packet;
-    }))
-    no_contender
-contender_still_on g clock round l none = refl
-contender_still_on g clock round l (some p) = refl
+pub contender_found :
+    (g : Settings) (clock : Slot) (round : Round) (l : Listed) (o : Option Packet) (p : Packet) → chosen_form o ≡ Some p
+    → sits_out (discipline_of g.discipline) (last_of round) l.capability.0 ≡ false
+    → record { contends = true; parameter = parameter_for (discipline_of g.discipline) g clock l.capability p; packet = p }
+    ≡ contender_on g clock round l o
+contender_found g clock round l none p e sits = absurd (none-some p e)
+contender_found g clock round l (some q) p e sits =
+    sym (rw sits (ap (λ (r : Packet). record { contends = true; parameter = parameter_for (discipline_of g.discipline) g clock l.capability r; packet = r }) ((cond_some true q p e).1)))
 
 -- it does not if it sits out
 sitting :

@@ -1,5 +1,7 @@
 -- The parts that the calls are made of, as functions: what the contracts of the private functions cite. Assumes nothing.
 use Rattle.std.specs.Prelude.{ℕ, zero, suc, ◌≡◌, ◌<◌, ◌+◌, ◌-◌, ◌*◌, ◌/◌, ◌^◌, min, Bool, true, false, not, ◌&&◌, cond, List, [], ◌∷◌, ◌++◌, leb, ltb, eqb, length, get_or, set, take, drop, replicate}
+use Rattle.std.specs.Prelude as Returned
+use Rattle.std.specs.Prelude.{Some, None}
 use Rattle.std.proofs.Math.Option.{Option, none, some}
 use Rattle.window.specs.declared.Side.{Side}
 use Rattle.window.specs.declared.Side.TheVariants.{Left, Right}
@@ -21,7 +23,6 @@ use Rattle.state.specs.State.{Recorded, recorded_in, recorded_at, recorded, no_p
 use Rattle.bus.specs.Coded.{Admission, Begun, Stepped, step_result, Answer, Parameter, Tie, Event, Idle, Collision, Success}
 pub use Rattle.bus.specs.declared.Leaving.{Leaving}
 pub use Rattle.bus.specs.declared.Leaving.TheVariants.{Late, Sent}
-pub use Rattle.bus.specs.declared.Chosen.{Chosen}
 pub use Rattle.bus.specs.declared.Asked.{Asked}
 pub use Rattle.bus.specs.declared.Progress.{Progress}
 pub use Rattle.bus.specs.declared.Moved.{Moved}
@@ -61,9 +62,10 @@ abbrev pub stays : Leaving → Packet → Bool
 stays (Late d slot) p = not (late (discipline_of d) slot.0 p.value)
 stays (Sent number) p = not (eqb number p.number)
 
-abbrev pub chosen_form : Option Packet → Chosen
-chosen_form none = record { found = false; packet = no_packet }
-chosen_form (some p) = record { found = true; packet = p }
+-- a packet that is offered, if one is, as the functions return it
+abbrev pub chosen_form : Option Packet → Returned.Option Packet
+chosen_form none = None
+chosen_form (some p) = Some p
 
 -- ---- searching the places of stations
 

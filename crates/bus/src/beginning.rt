@@ -6,13 +6,12 @@ ghost use Rattle.state.specs.State.{last_of, waiting_in};
 ghost use Rattle.state.specs.State.{Held, standing, meaning, form};
 ghost use Rattle.rules.specs.Begin.{begin, drops_of};
 ghost use Rattle.bus.specs.Parts.{offering_all, AllInTime, contender_for, opening_of, offers_of, begun_with, contending_of, shown_of};
-ghost use Rattle.state.specs.Parts.{packets_of};
 
 use crate::{Begun, offering, waiting};
-use rules::Slot;
+use rules::{Packet, Slot};
 use sorts::{Address, Capability};
 use state::{
-    Contender, Contention, Listed, Queue, Queues, Round, Segment, Settings, State, standing, zeros,
+    Contender, Contention, Listed, Queues, Round, Segment, Settings, State, standing, zeros,
 };
 
 // Whether a station has no packet, or sits out.
@@ -31,19 +30,16 @@ fn contender_for(
     clock: Slot,
     round: Round,
     l: Listed,
-    queue: Queue,
+    queue: &[Packet],
 ) -> Contender
-    requires length_bound { queue.length ≤ 16 }
     requires q_positive { 1 ≤ settings.q }
     requires d_positive { 1 ≤ settings.d }
     requires takes_part { sits_out (discipline_of settings.discipline) (last_of round) l.capability.0 ≡ false }
-    ensures { result ≡ contender_for settings clock round l (packets_of queue) }
+    ensures { result ≡ contender_for settings clock round l queue.now }
 {
-    let chosen = waiting::chosen(queue, settings.discipline);
-    if !chosen.found {
+    let Some(packet) = waiting::chosen(queue, settings.discipline) else {
         return zeros::NO_CONTENDER;
-    }
-    let packet = chosen.packet;
+    };
     let parameter = offering::parameter(settings, clock, l.capability, packet);
     Contender {
         contends: true,
@@ -81,16 +77,8 @@ fn offers_of(g: Segment, queues: Queues) -> Segment
         if offers_nothing(settings.discipline, round, l.capability, length) {
             continue;
         }
-        let mut places = [zeros::NO_PACKET; 16];
         let first = 16 * i;
-        for j in 0..16 {
-            let at = first + j;
-            places[j] = queues.packets[at];
-        }
-        let queue = Queue {
-            packets: places,
-            length,
-        };
+        let queue = &queues.packets[first..first + length];
         let c = contender_for(settings, g.clock, round, l, queue);
         let p = c.packet;
         let admission = p.admission;

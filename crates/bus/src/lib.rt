@@ -191,13 +191,6 @@ enum Leaving {
     Sent(u32),
 }
 
-// The packet that a station offers, if it has one.
-#[derive(Clone, Copy)]
-struct Chosen {
-    pub found: bool,
-    pub packet: Packet,
-}
-
 // The answer to an admission, and its station's place where it is accepted.
 #[derive(Clone, Copy)]
 struct Asked {

@@ -4,13 +4,13 @@ ghost use Rattle.rules.specs.Lists.{keep};
 ghost use Rattle.rules.specs.SetUp.{discipline_of};
 ghost use Rattle.rules.specs.Begin.{choice};
 ghost use Rattle.state.specs.State.{queue_at};
-ghost use Rattle.state.specs.Parts.{queue_of, packets_of};
+ghost use Rattle.state.specs.Parts.{queue_of};
 ghost use Rattle.bus.specs.Parts.{IsRow, queue_form, with_queue, stays, Late, chosen_form};
 
-use crate::{Chosen, Leaving, offering};
+use crate::{Leaving, offering};
 use rules::{Packet, Slot};
 use sorts::disciplines;
-use state::{Queue, Queues, zeros};
+use state::{Queues, zeros};
 
 // Whether a packet stays in its queue.
 fn stays(leaving: Leaving, p: Packet) -> bool
@@ -61,31 +61,18 @@ pub fn drop_late(queues: &mut Queues, n: usize, discipline: u32, slot: Slot)
     }
 }
 
-// 'Each station then offers one packet': the search takes the places out of the queue, walks them, carries the place of the best packet so
-// far, and fetches that packet at its end.
-pub fn chosen(queue: Queue, discipline: u32) -> Chosen
-    requires { queue.length ≤ 16 }
-    ensures { result ≡ chosen_form (choice (discipline_of discipline) (packets_of queue)) }
+// 'Each station then offers one packet': the one of a queue that none goes before.
+pub fn chosen(queue: &[Packet], discipline: u32) -> Option<Packet>
+    ensures { result ≡ chosen_form (choice (discipline_of discipline) queue.now) }
 {
-    let length = queue.length;
-    if length == 0 {
-        return Chosen {
-            found: false,
-            packet: zeros::NO_PACKET,
-        };
+    if queue.is_empty() {
+        return None;
     }
-    let packets = queue.packets;
-    let mut place = 0;
-    for j in 1..length {
-        let p = packets[j];
-        let best = packets[place];
-        if offering::goes_before(discipline, p, best) {
-            place = j;
+    let mut best = queue[0];
+    for p in &queue[1..] {
+        if offering::goes_before(discipline, *p, best) {
+            best = *p;
         }
     }
-    let packet = packets[place];
-    Chosen {
-        found: true,
-        packet,
-    }
+    Some(best)
 }

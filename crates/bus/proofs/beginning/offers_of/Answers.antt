@@ -1,10 +1,11 @@
--- `beginning::offers_of` meets its contract. That of the loop in it: the first j of station i's places are copied.
-use Rattle.std.proofs.Common.{◌<◌, ◌≡◌, sym, ap, ◌∙◌, arith, rules, eqb, get_or, length-take-le}
+-- `beginning::offers_of` meets its contract.
+use Rattle.std.proofs.Common.{◌<◌, ◌≡◌, sym, ap, ◌∙◌, ◌+◌, ◌-◌, ◌*◌, arith, eqb, get_or, take, drop, length-take-le}
+use Rattle.std.proofs.lemmas.List.{take-take}
 use borrow.Author.Tests.{eqb-false}
 use Rattle.rules.proofs.Laws.{or-false}
 use Rattle.state.specs.State.{nobody, places_at, queue_at}
 use Rattle.state.proofs.Contenders.{none_recorded}
-use Rattle.state.proofs.Places.{queues_arrays, places_count, taken_one, taken_all}
+use Rattle.state.proofs.Places.{queues_arrays, places_count}
 use Rattle.bus.proofs.BeginningLaws.{nothing_offered, place_for, places_to, places_none, places_more, places_same, offered_contends}
 use Rattle.bus.proofs.beginning.offers_of.Invariants.{offering_with}
 use Rattle.bus.proofs.beginning.offers_of.Goals as goal
@@ -19,18 +20,11 @@ loop-i-preserved-then-offers_nothing c =
     let still = nothing_offered g qs c.loop-i.i (sym c.offers_nothing.ensures ∙ c.if-offers_nothing.true) in
     (omega arith, c.loop-i.invariant.1 ∙ ap (offering_with g) (places_same (place_for g qs) c.loop-i.i still))
 
-pub loop-j-preserved : goal.loop-j-preserved
-loop-j-preserved c =
-    let qs = c.args.queues in
-    let row = (queues_arrays qs _ c.well_formed.1.0).1 in
-    (search rules, taken_one qs c.loop-i.i c.loop-j.j (omega arith) row (omega arith) c.loop-j.invariant.1)
-
 pub contender_for-c-requires : goal.contender_for-c-requires
 contender_for-c-requires c =
     let none = eqb (get_or c.args.queues.lengths c.loop-i.i 0) 0 in
     let sits = (or-false none _ (sym c.offers_nothing.ensures ∙ c.if-offers_nothing.false)).1 in
     record {
-      length_bound = c.requires.lengths_bound c.loop-i.i (omega arith);
       q_positive = c.requires.q_positive;
       d_positive = c.requires.d_positive;
       takes_part = sits;
@@ -43,7 +37,9 @@ loop-i-preserved c =
     let i = c.loop-i.i in
     let here : i < 64 = omega (arith, c.requires.n_bound) in
     let row = (queues_arrays qs _ c.well_formed.1.0).1 in
-    let all = taken_all qs i c.loop-j.j (omega arith) row (omega arith) c.loop-j.invariant.1 in
+    let many : 16 * i + get_or qs.lengths i 0 - 16 * i ≡ get_or qs.lengths i 0 = omega arith in
+    let all : take (16 * i + get_or qs.lengths i 0 - 16 * i) (drop (16 * i) qs.packets) ≡ queue_at qs i =
+    ap (λ k. take k (drop (16 * i) qs.packets)) many ∙ sym (take-take (get_or qs.lengths i 0) 16 (drop (16 * i) qs.packets) (c.requires.lengths_bound i (omega arith))) in
     let none = eqb (get_or qs.lengths i 0) 0 in
     let told = or-false none _ (sym c.offers_nothing.ensures ∙ c.if-offers_nothing.false) in
     let waits = eqb-false (get_or qs.lengths i 0) 0 told.0 in
