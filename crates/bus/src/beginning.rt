@@ -18,10 +18,7 @@ use state::{
 pub fn offers_nothing(discipline: u32, round: Round, capability: Capability, length: usize) -> bool
     ensures { result ≡ (eqb length 0 || sits_out (discipline_of discipline) (last_of round) capability.0) }
 {
-    if length == 0 {
-        return true;
-    }
-    offering::sits_out(discipline, round, capability)
+    length == 0 || offering::sits_out(discipline, round, capability)
 }
 
 // A station's place among the contenders, of the packets that it has in time, where it does not sit out.

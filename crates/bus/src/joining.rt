@@ -2,10 +2,11 @@
 ghost use Rattle.std.specs.Prelude.{◌≤◌, ◌≡◌, true, eqb, get_or};
 ghost use Rattle.state.specs.State.{Held, standing, nobody};
 ghost use Rattle.bus.specs.Coded.{coded_admit, admission_result, arrival_of};
+ghost use Rattle.rules.specs.Refusals.{answered};
 ghost use Rattle.bus.specs.Parts.{first_place, refusal_at, asked_if, admission_to};
 
 use crate::Asked;
-use rules::{Admitted, Packet, Slot};
+use rules::{Admitted, Packet, Refusal, Slot};
 use sorts::{Address, counts, disciplines};
 use state::{Listed, Settings, State, standing};
 
@@ -23,8 +24,8 @@ fn station_of(listed: [Listed; 64], n: usize, address: Address) -> usize
     n
 }
 
-// The first of 11 to 16 that holds, or 0, for a station's place, or N where no station has the address.
-fn refusal(
+// The first of 11 to 16 that holds, for a station's place, or N where no station has the address.
+fn may_join(
     settings: Settings,
     clock: Slot,
     admitted: u64,
@@ -32,29 +33,29 @@ fn refusal(
     place: usize,
     value: u32,
     length: u32,
-) -> u32
+) -> Result<(), Refusal>
     requires { settings.n ≤ 64 }
-    ensures { result ≡ refusal_at settings clock admitted lengths place value length }
+    ensures { answered result ≡ refusal_at settings clock admitted lengths place value length }
 {
     if settings.n <= place {
-        return 11;
+        return Err(Refusal::NoStation);
     }
     if !disciplines::value_fits(settings.discipline, settings.d, value) {
-        return 12;
+        return Err(Refusal::ValueRange);
     }
     if !disciplines::length_fits(length) {
-        return 13;
+        return Err(Refusal::LengthRange);
     }
     if disciplines::late(settings.discipline, clock, value) {
-        return 14;
+        return Err(Refusal::Late);
     }
     if 16 <= lengths[place] {
-        return 15;
+        return Err(Refusal::Filled);
     }
     if standing::MOST_ADMITTED <= admitted {
-        return 16;
+        return Err(Refusal::AllNumbered);
     }
-    0
+    Ok(())
 }
 
 // The answer to an admission: 'Admission tries 1, then 11 to 16'; 'An accepted packet is numbered 1, 2, 3 and so on; the number is the
@@ -81,14 +82,15 @@ pub fn asked(
         return Asked { place: 0, answer };
     }
     let place = station_of(listed, settings.n, address);
-    let refusal = refusal(settings, clock, admitted, lengths, place, value, length);
-    if refusal != 0 {
-        let answer = Admitted { refusal, number: 0 };
-        return Asked { place, answer };
-    }
-    let answer = Admitted {
-        refusal: 0,
-        number: (admitted + 1) as u32,
+    let answer = match may_join(settings, clock, admitted, lengths, place, value, length) {
+        Ok(()) => Admitted {
+            refusal: 0,
+            number: (admitted + 1) as u32,
+        },
+        Err(refusal) => Admitted {
+            refusal: u32::from(refusal),
+            number: 0,
+        },
     };
     Asked { place, answer }
 }

@@ -6,7 +6,7 @@ ghost use Rattle.rules.specs.Begin.{smaller, goes_before, sits_out};
 ghost use Rattle.state.specs.State.{last_of};
 ghost use Rattle.bus.specs.Parts.{parameter_for, rank_of};
 
-use rules::{Packet, Slot};
+use rules::{Discipline, Packet, Slot};
 use sorts::{Capability, Windowed, disciplines};
 use state::{Round, Settings};
 
@@ -14,30 +14,24 @@ use state::{Round, Settings};
 fn smaller(p: Packet, o: Packet) -> bool
     ensures { result ≡ smaller p o }
 {
-    if p.value < o.value {
-        return true;
-    }
-    if o.value < p.value {
-        return false;
-    }
-    p.number < o.number
+    p.value < o.value || (p.value == o.value && p.number < o.number)
 }
 
 // Whether p is offered before o.
 pub fn goes_before(discipline: u32, p: Packet, o: Packet) -> bool
     ensures { result ≡ goes_before (discipline_of discipline) p o }
 {
-    if discipline < disciplines::RTVC {
-        return smaller(p, o);
+    match Discipline::from(discipline) {
+        Discipline::PRI | Discipline::RTDG => smaller(p, o),
+        Discipline::RTVC => p.number < o.number,
     }
-    p.number < o.number
 }
 
 // The order of offers in PRI and RTDG as one number: the value above, the packet number below.
 pub fn rank(p: Packet) -> u64
     ensures { result ≡ rank_of p }
 {
-    ((p.value as u64) << 32) | (p.number as u64)
+    (u64::from(p.value) << 32) | u64::from(p.number)
 }
 
 // How many of a queue's packets are looked at for its offer: in RTVC the first, which has the lowest number, because numbers rise.
@@ -45,19 +39,17 @@ pub fn looked_at(discipline: u32, length: usize) -> usize
     ensures { result ≡ cond (ltb discipline 2) length 1 }
 {
     if discipline < disciplines::RTVC {
-        return length;
+        length
+    } else {
+        1
     }
-    1
 }
 
 // Whether a packet that is offered is late: this one, or one before it.
 pub fn late_offered(already: bool, discipline: u32, clock: Slot, value: u32) -> bool
     ensures { result ≡ (already || late (discipline_of discipline) clock.0 value) }
 {
-    if already {
-        return true;
-    }
-    disciplines::late(discipline, clock, value)
+    already || disciplines::late(discipline, clock, value)
 }
 
 // '(latest start - T) divided by q, rounded down, and D - 1 where that is larger'
@@ -66,12 +58,7 @@ fn laxity(settings: Settings, clock: Slot, latest: Slot) -> u32
     requires d_positive { 1 ≤ settings.d }
     ensures { result ≡ min ((latest.0 - clock.0) / settings.q) (settings.d - 1) }
 {
-    let most = settings.d - 1;
-    let steps = sorts::slots_until(clock, latest) / settings.q;
-    if most < steps {
-        return most;
-    }
-    steps
+    (sorts::slots_until(clock, latest) / settings.q).min(settings.d - 1)
 }
 
 // The parameter of a packet that a station of this capability offers now.
@@ -80,27 +67,19 @@ pub fn parameter(settings: Settings, clock: Slot, capability: Capability, packet
     requires d_positive { 1 ≤ settings.d }
     ensures { result ≡ parameter_for (discipline_of settings.discipline) settings clock capability packet }
 {
-    let discipline = settings.discipline;
-    if discipline == disciplines::PRI {
-        return sorts::wide(packet.value);
+    match Discipline::from(settings.discipline) {
+        Discipline::PRI => u64::from(packet.value),
+        Discipline::RTDG => u64::from(laxity(settings, clock, Slot(packet.value))),
+        Discipline::RTVC => capability.number(),
     }
-    if discipline == disciplines::RTDG {
-        let l = laxity(settings, clock, Slot(packet.value));
-        return sorts::wide(l);
-    }
-    capability.number()
 }
 
 // 'if no circuit has won in this round or the capability is above the last winner's; otherwise the station sits out'
 pub fn sits_out(discipline: u32, round: Round, capability: Capability) -> bool
     ensures { result ≡ sits_out (discipline_of discipline) (last_of round) capability.0 }
 {
-    if discipline < disciplines::RTVC {
-        return false;
+    match Discipline::from(discipline) {
+        Discipline::PRI | Discipline::RTDG => false,
+        Discipline::RTVC => round.won && capability <= round.last,
     }
-    if !round.won {
-        return false;
-    }
-    let last = round.last;
-    sorts::not_above(capability, last)
 }

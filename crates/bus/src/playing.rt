@@ -24,23 +24,14 @@ const NO_REPORT: Report = Report::Step {
 fn goes_on(made: usize, taken: usize, left: u32) -> bool
     ensures { result ≡ (ltb made most_calls && ltb taken row_places && ltb 0 left) }
 {
-    if MOST_CALLS <= made {
-        return false;
-    }
-    if ROW <= taken {
-        return false;
-    }
-    0 < left
+    made < MOST_CALLS && taken < ROW && 0 < left
 }
 
 // Whether an arrival comes next, at this place of a row of this length, and its time is not above the clock.
 fn is_due(taken: usize, length: usize, time: Slot, clock: Slot) -> bool
     ensures { result ≡ (ltb taken length && leb time.0 clock.0) }
 {
-    if length <= taken {
-        return false;
-    }
-    !sorts::before(clock, time)
+    taken < length && time <= clock
 }
 
 // A step of a state: 'a step tries 1, then 17', begins a contention if none is under way, and probes one slot.

@@ -7,7 +7,7 @@ ghost use Rattle.bus.specs.Parts.{addresses_of, transmitters_of, answer_at, went
 ghost use Rattle.state.specs.State.{Held, standing};
 
 use crate::{Answer, Event, Leaving, Moved, Phase, Progress, waiting};
-use rules::{Packet, Slot};
+use rules::{Discipline, Packet, Slot};
 use sorts::{Address, Capability, Windowed, disciplines};
 use state::{Contention, Listed, Round, Segment, Settings, State, zeros};
 use window::{Side, Window};
@@ -165,10 +165,7 @@ fn split(a: u32, c: Contention) -> Contention
         };
     }
     let first = window::first_window(a);
-    let mut tie = w.start;
-    if c.tied {
-        tie = c.tie;
-    }
+    let tie = if c.tied { c.tie } else { w.start };
     Contention {
         begun: true,
         window: first,
@@ -236,12 +233,12 @@ fn unheard(progress: Progress, drops: u64) -> Moved
 fn round_after(discipline: u32, capability: Capability) -> Round
     ensures { result ≡ round_after (discipline_of discipline) capability }
 {
-    if discipline < disciplines::RTVC {
-        return zeros::NO_ROUND;
-    }
-    Round {
-        won: true,
-        last: capability,
+    match Discipline::from(discipline) {
+        Discipline::PRI | Discipline::RTDG => zeros::NO_ROUND,
+        Discipline::RTVC => Round {
+            won: true,
+            last: capability,
+        },
     }
 }
 
