@@ -8,12 +8,12 @@ ghost use Rattle.bus.specs.Parts.{first_place, refusal_at, asked_if, admission_t
 use crate::Asked;
 use rules::{Admitted, Packet, Refusal, Slot};
 use sorts::{Address, counts, disciplines};
-use state::{Listed, Settings, State, standing};
+use state::{Listed, State, standing};
 
 // The place of the station with an address; n where there is none.
-fn station_of(listed: [Listed; 64], n: usize, address: Address) -> usize
+fn station_of(listed: &[Listed; 64], n: usize, address: Address) -> usize
     requires { n ≤ 64 }
-    ensures { result ≡ first_place (λ i. eqb address.0 (get_or listed i nobody).address.0) 0 n }
+    ensures { result ≡ first_place (λ i. eqb address.0 (get_or listed.now i nobody).address.0) 0 n }
 {
     for i in 0..n {
         let s = listed[i];
@@ -25,18 +25,11 @@ fn station_of(listed: [Listed; 64], n: usize, address: Address) -> usize
 }
 
 // The first of 11 to 16 that holds, for a station's place, or N where no station has the address.
-fn may_join(
-    settings: Settings,
-    clock: Slot,
-    admitted: u64,
-    lengths: [usize; 64],
-    place: usize,
-    value: u32,
-    length: u32,
-) -> Result<(), Refusal>
-    requires { settings.n ≤ 64 }
-    ensures { answered result ≡ refusal_at settings clock admitted lengths place value length }
+fn may_join(s: &State, place: usize, value: u32, length: u32) -> Result<(), Refusal>
+    requires { s.now.segment.settings.n ≤ 64 }
+    ensures { answered result ≡ refusal_at s.now.segment.settings s.now.segment.clock s.now.segment.admitted s.now.queues.lengths place value length }
 {
+    let settings = s.segment.settings;
     if settings.n <= place {
         return Err(Refusal::NoStation);
     }
@@ -46,13 +39,13 @@ fn may_join(
     if !disciplines::length_fits(length) {
         return Err(Refusal::LengthRange);
     }
-    if disciplines::late(settings.discipline, clock, value) {
+    if disciplines::late(settings.discipline, s.segment.clock, value) {
         return Err(Refusal::Late);
     }
-    if 16 <= lengths[place] {
+    if 16 <= s.queues.lengths[place] {
         return Err(Refusal::Filled);
     }
-    if standing::MOST_ADMITTED <= admitted {
+    if standing::MOST_ADMITTED <= s.segment.admitted {
         return Err(Refusal::AllNumbered);
     }
     Ok(())
@@ -60,19 +53,9 @@ fn may_join(
 
 // The answer to an admission: 'Admission tries 1, then 11 to 16'; 'An accepted packet is numbered 1, 2, 3 and so on; the number is the
 // answer.'
-pub fn asked(
-    stands: bool,
-    settings: Settings,
-    listed: [Listed; 64],
-    clock: Slot,
-    admitted: u64,
-    lengths: [usize; 64],
-    address: Address,
-    value: u32,
-    length: u32,
-) -> Asked
-    requires { stands ≡ true → settings.n ≤ 64 }
-    ensures { result ≡ asked_if stands settings listed clock admitted lengths address value length }
+fn asked(s: &State, stands: bool, address: Address, value: u32, length: u32) -> Asked
+    requires { stands ≡ true → s.now.segment.settings.n ≤ 64 }
+    ensures { result ≡ asked_if stands s.now.segment.settings s.now.segment.listed s.now.segment.clock s.now.segment.admitted s.now.queues.lengths address value length }
 {
     if !stands {
         let answer = Admitted {
@@ -81,11 +64,11 @@ pub fn asked(
         };
         return Asked { place: 0, answer };
     }
-    let place = station_of(listed, settings.n, address);
-    let answer = match may_join(settings, clock, admitted, lengths, place, value, length) {
+    let place = station_of(&s.segment.listed, s.segment.settings.n, address);
+    let answer = match may_join(s, place, value, length) {
         Ok(()) => Admitted {
             refusal: 0,
-            number: (admitted + 1) as u32,
+            number: (s.segment.admitted + 1) as u32,
         },
         Err(refusal) => Admitted {
             refusal: u32::from(refusal),
@@ -102,30 +85,18 @@ pub fn admit_in(s: &mut State, stands: bool, address: Address, value: u32, lengt
     ensures admitted { admission_to result s.new ≡ admission_result (coded_admit s.old (arrival_of address value length)) }
     ensures listed { s.new.segment.listed ≡ s.old.segment.listed }
 {
-    let clock = s.segment.clock;
-    let lengths = s.queues.lengths;
-    let asked = asked(
-        stands,
-        s.segment.settings,
-        s.segment.listed,
-        clock,
-        s.segment.admitted,
-        lengths,
-        address,
-        value,
-        length,
-    );
+    let asked = asked(s, stands, address, value, length);
     let answer = asked.answer;
     s.segment.turned = counts::turned_after(answer.refusal, s.segment.turned);
     if answer.refusal == 0 {
         let place = asked.place;
-        let waiting = lengths[place];
+        let waiting = s.queues.lengths[place];
         let at = 16 * place + waiting;
         s.queues.packets[at] = Packet {
             number: answer.number,
             value,
             length,
-            admission: clock,
+            admission: s.segment.clock,
         };
         s.queues.lengths[place] = waiting + 1;
         s.segment.admitted = u64::from(answer.number);

@@ -51,23 +51,18 @@ pub fn addresses_of(listed: [Listed; 64]) -> [u64; 64]
 
 // The word of those who transmit: 'its parameter (in the tie phase: its address) lies in the window and, in RTDG, its latest start is not
 // below the slot being probed'. The rows are lent: nothing that is only read is copied.
-pub fn transmitters<'a>(
-    discipline: u32,
-    clock: Slot,
-    contention: Contention,
-    contenders: u64,
-    parameters: &'a [u64; 64],
-    values: &'a [u32; 64],
-    addresses: &'a [u64; 64],
-) -> u64
-    ensures { result ≡ transmitters_of discipline clock contention contenders parameters.now values.now addresses.now }
+pub fn transmitters(g: &Segment, addresses: &[u64; 64]) -> u64
+    ensures { result ≡ transmitters_of g.now.settings.discipline g.now.clock g.now.contention g.now.contenders g.now.parameters g.now.values addresses.now }
 {
+    let discipline = g.settings.discipline;
+    let contenders = g.contenders;
+    let contention = g.contention;
     if contenders == 0 {
         return 0;
     }
     let mut able = contenders;
     if discipline == disciplines::RTDG {
-        able = contenders & in_time(clock, values);
+        able = contenders & in_time(g.clock, &g.values);
     }
     let window = contention.window;
     if contention.tied {
@@ -77,9 +72,9 @@ pub fn transmitters<'a>(
             size: 1,
             side: Side::Right,
         };
-        return able & lying_in(tie, parameters) & lying_in(window, addresses);
+        return able & lying_in(tie, &g.parameters) & lying_in(window, addresses);
     }
-    able & lying_in(window, parameters)
+    able & lying_in(window, &g.parameters)
 }
 
 // The answer to a probe without a winner.
@@ -335,15 +330,7 @@ pub fn probe_in(s: &mut State, drops: u64, addresses: &[u64; 64]) -> Answer
         round: s.segment.round,
         contention: s.segment.contention,
     };
-    let transmitters = transmitters(
-        settings.discipline,
-        progress.clock,
-        progress.contention,
-        s.segment.contenders,
-        &s.segment.parameters,
-        &s.segment.values,
-        addresses,
-    );
+    let transmitters = transmitters(&s.segment, addresses);
     let heard = word::count(transmitters);
     let mut place = 0;
     let mut listed = zeros::NOBODY;

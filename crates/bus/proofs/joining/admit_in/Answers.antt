@@ -15,53 +15,54 @@ pub asked-asked-requires : goal.asked-asked-requires
 asked-asked-requires c = λ e. (lent_held c.args.s.now c.requires.held (sym c.requires.stands ∙ e)).few
 
 -- the packet's place
-taken! :
-    (c : Then-answer-eq0)
-    → Taken
-    c.args.s.now
-    c.args.address
-    c.args.value
-    c.args.length
-    c.asked-asked.result
+taken! : (c : Then-answer-eq0) → Taken c.args.s.now c.args.address c.args.value c.args.length c.asked-asked.result
 taken! c =
-    let args = c.args in
-    asked_in args.s.now args.address args.value args.length c.args.stands (sound! (goal.at.overflow_mul-at c).Start) c.asked-asked.result c.asked-asked.ensures c.if-answer-eq0.true
-
-pub offset_bounds-lengths-place : goal.offset_bounds-lengths-place
-offset_bounds-lengths-place c =
-    let sound = sound! (goal.at.offset_bounds-lengths-place c).Start in
-    let taken = asked_in c.args.s.now c.args.address c.args.value c.args.length c.args.stands sound c.asked-asked.result c.asked-asked.ensures c.if-answer-eq0.true in
-    let h = taken.within_row in
-    search rules
-
-pub bounds-lengths-place : goal.bounds-lengths-place
-bounds-lengths-place c =
-    let sound = sound! (goal.at.bounds-lengths-place c).Start in
-    (asked_in c.args.s.now c.args.address c.args.value c.args.length c.args.stands sound c.asked-asked.result c.asked-asked.ensures c.if-answer-eq0.true).within_row
-
-pub overflow_mul-at : goal.overflow_mul-at
-overflow_mul-at c = let h = (taken! c).within_row in search rules
-
-pub overflow_add-at : goal.overflow_add-at
-overflow_add-at c = let h = (taken! c).within_row in let k = (taken! c).room in search rules
-
-pub offset_bounds-s-at : goal.offset_bounds-s-at
-offset_bounds-s-at c =
-    let h = (taken! (goal.at.offset_bounds-s-at c).Then-answer-eq0).within_row in let k = (taken! (goal.at.offset_bounds-s-at c).Then-answer-eq0).room in search rules
-
-pub bounds-s-at : goal.bounds-s-at
-bounds-s-at c =
-    let h = (taken! (goal.at.bounds-s-at c).Then-answer-eq0).within_row in let k = (taken! (goal.at.bounds-s-at c).Then-answer-eq0).room in search rules
-
-pub overflow_add-s : goal.overflow_add-s
-overflow_add-s c =
-    let h = (taken! (goal.at.overflow_add-s c).Then-answer-eq0).within_row in let k = (taken! (goal.at.overflow_add-s c).Then-answer-eq0).room in search rules
+    let s = c.args.s.now in
+    let sound = sound_of s c.args.stands c.requires.held (lent_held s c.requires.held) c.requires.stands in
+    asked_in s c.args.address c.args.value c.args.length c.args.stands sound c.asked-asked.result c.asked-asked.ensures c.if-answer-eq0.true
 
 pub offset_bounds-s-place : goal.offset_bounds-s-place
 offset_bounds-s-place c = let h = (taken! (goal.at.offset_bounds-s-place c).Then-answer-eq0).within_row in search rules
 
+pub overflow_mul-at : goal.overflow_mul-at
+overflow_mul-at c = let h = (taken! (goal.at.overflow_mul-at c).Then-answer-eq0).within_row in search rules
+
+pub offset_bounds-s-place-then-answer-eq0 : goal.offset_bounds-s-place-then-answer-eq0
+offset_bounds-s-place-then-answer-eq0 c = let h = (taken! (goal.at.offset_bounds-s-place-then-answer-eq0 c).Then-answer-eq0).within_row in search rules
+
 pub bounds-s-place : goal.bounds-s-place
 bounds-s-place c = (taken! (goal.at.bounds-s-place c).Then-answer-eq0).within_row
+
+pub bounds-s-place-then-answer-eq0 : goal.bounds-s-place-then-answer-eq0
+bounds-s-place-then-answer-eq0 c = (taken! (goal.at.bounds-s-place-then-answer-eq0 c).Then-answer-eq0).within_row
+
+pub overflow_add-at : goal.overflow_add-at
+overflow_add-at c =
+    let taken = taken! (goal.at.overflow_add-at c).Then-answer-eq0 in
+    let h = taken.within_row in
+    let k = taken.room in
+    search rules
+
+pub offset_bounds-s-at : goal.offset_bounds-s-at
+offset_bounds-s-at c =
+    let taken = taken! (goal.at.offset_bounds-s-at c).Then-answer-eq0 in
+    let h = taken.within_row in
+    let k = taken.room in
+    search rules
+
+pub bounds-s-at : goal.bounds-s-at
+bounds-s-at c =
+    let taken = taken! (goal.at.bounds-s-at c).Then-answer-eq0 in
+    let h = taken.within_row in
+    let k = taken.room in
+    search rules
+
+pub overflow_add-s : goal.overflow_add-s
+overflow_add-s c =
+    let taken = taken! (goal.at.overflow_add-s c).Then-answer-eq0 in
+    let h = taken.within_row in
+    let k = taken.room in
+    search rules
 
 pub returns-then-answer-eq0-clause-admitted : goal.returns-then-answer-eq0-clause-admitted
 returns-then-answer-eq0-clause-admitted c =

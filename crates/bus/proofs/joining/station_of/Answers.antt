@@ -9,13 +9,13 @@ use Rattle.bus.proofs.joining.station_of.Goals as goal
 pub loop-i-init : goal.loop-i-init
 loop-i-init c =
     let e : c.args.n ≡ c.args.n - 0 = omega arith in
-    (search rules, ap (first_place (has_it c.args.address c.args.listed) 0) e)
+    (search rules, ap (first_place (has_it c.args.address c.args.listed.now) 0) e)
 
 pub returns-then-same_address : goal.returns-then-same_address
 returns-then-same_address c =
     let i = c.loop-i.i in
     let n = c.args.n in
-    let test = has_it c.args.address c.args.listed in
+    let test = has_it c.args.address c.args.listed.now in
     sym
     (c.loop-i.invariant.1
     ∙ first_place_turn test i n (omega arith)
@@ -25,7 +25,7 @@ pub loop-i-preserved : goal.loop-i-preserved
 loop-i-preserved c =
     let i = c.loop-i.i in
     let n = c.args.n in
-    let test = has_it c.args.address c.args.listed in (
+    let test = has_it c.args.address c.args.listed.now in (
       search rules,
       c.loop-i.invariant.1
           ∙ first_place_turn test i n (omega arith)
@@ -38,4 +38,4 @@ returns c =
     let i = c.loop-i.i in
     let n = c.args.n in
     let e : n ≡ i = omega arith in
-    e ∙ sym (c.loop-i.invariant.1 ∙ first_place_end (has_it c.args.address c.args.listed) i n (omega arith))
+    e ∙ sym (c.loop-i.invariant.1 ∙ first_place_end (has_it c.args.address c.args.listed.now) i n (omega arith))

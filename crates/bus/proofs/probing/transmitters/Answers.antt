@@ -9,28 +9,28 @@ use Rattle.bus.proofs.probing.transmitters.Goals.{Joined-discipline-eq-RTDG, els
 pub returns-then-contenders-eq0 : goal.returns-then-contenders-eq0
 returns-then-contenders-eq0 c =
     let args = c.args in
-    none_transmit args.discipline args.clock args.contenders args.values.now args.contention args.parameters.now
+    none_transmit args.g.now.settings.discipline args.g.now.clock args.g.now.contenders args.g.now.values args.g.now.contention args.g.now.parameters
     args.addresses.now c.if-contenders-eq0.true
 
 -- past the test of the discipline, `able` is the word of the contenders that are in time
 module _ (c : Joined-discipline-eq-RTDG) where
-  able! : c.if-discipline-eq-RTDG.able ≡ word_of (able_at c.args.discipline c.args.clock c.args.contenders c.args.values.now) 64
+  able! : c.if-discipline-eq-RTDG.able ≡ word_of (able_at c.args.g.now.settings.discipline c.args.g.now.clock c.args.g.now.contenders c.args.g.now.values) 64
   able! =
       let args = c.args in
       elim c.if-discipline-eq-RTDG.branch [
-        | then-discipline-eq-RTDG w ↦ w.able-is ∙ ap (bit_and args.contenders) w.in_time.ensures
-            ∙ able_timed args.discipline args.clock args.contenders args.values.now (omega arith) w.if-discipline-eq-RTDG.true
-        | else-discipline-eq-RTDG w ↦ w.able-is ∙ able_untimed args.discipline args.clock args.contenders args.values.now (omega arith) w.if-discipline-eq-RTDG.false
+        | then-discipline-eq-RTDG w ↦ w.able-is ∙ ap (bit_and args.g.now.contenders) w.in_time.ensures
+            ∙ able_timed args.g.now.settings.discipline args.g.now.clock args.g.now.contenders args.g.now.values (omega arith) w.if-discipline-eq-RTDG.true
+        | else-discipline-eq-RTDG w ↦ w.able-is ∙ able_untimed args.g.now.settings.discipline args.g.now.clock args.g.now.contenders args.g.now.values (omega arith) w.if-discipline-eq-RTDG.false
       ]
 
 pub returns-then-contention : goal.returns-then-contention
 returns-then-contention c =
     let args = c.args in
-    tied_transmit args.discipline args.clock args.contenders args.values.now args.contention args.parameters.now
+    tied_transmit args.g.now.settings.discipline args.g.now.clock args.g.now.contenders args.g.now.values args.g.now.contention args.g.now.parameters
     args.addresses.now c.if-contention.true (able! (goal.at.returns-then-contention c).Joined-discipline-eq-RTDG) c.lying_in.ensures c.lying_in-then-contention.ensures
 
 pub returns : goal.returns
 returns c =
     let args = c.args in
-    untied_transmit args.discipline args.clock args.contenders args.values.now args.contention args.parameters.now
+    untied_transmit args.g.now.settings.discipline args.g.now.clock args.g.now.contenders args.g.now.values args.g.now.contention args.g.now.parameters
     args.addresses.now c.if-contention.false (able! (goal.at.returns c).Joined-discipline-eq-RTDG) c.lying_in-2.ensures
