@@ -3,7 +3,6 @@
 #![tactic(auto)]
 
 ghost use Rattle.std.specs.Prelude.{◌≤◌, ◌≡◌, drop};
-ghost use Rattle.state.specs.declared.Settings.{Settings};
 ghost use Rattle.state.specs.SetUp.{settings_refusal};
 ghost use Rattle.rules.specs.Refusals.{answered, number_of};
 ghost use Rattle.scenario.specs.Format.{read_record, said, out_of_place};
