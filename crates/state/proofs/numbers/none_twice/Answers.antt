@@ -1,23 +1,15 @@
 -- `none_twice` meets its contract: the numbers passed differ and are found along the links, and a number that is not found is hung where
 -- its way ends.
 use Rattle.std.proofs.Common.{◌∙◌, sym, arith}
-use Rattle.state.proofs.Found.{known_start, known_end, way_start, way_again, way_on, known_more}
+use Rattle.state.proofs.Found.{known_start, known_end, way_again, way_on, known_more}
 use Rattle.state.proofs.numbers.none_twice.Goals as goal
 
 pub loop-k-init : goal.loop-k-init
 loop-k-init c = known_start _
 
-pub loop-number-init : goal.loop-number-init
-loop-number-init c = way_start c.loop-k.invariant
-
 pub returns-then-numbers-link : goal.returns-then-numbers-link
 returns-then-numbers-link c =
     way_again c.loop-number.invariant c.from-link.ensures c.loop-k-test.true (omega arith) c.if-numbers-link.true
-
-pub loop-number-smaller : goal.loop-number-smaller
-loop-number-smaller c =
-    let at = c.loop-number in
-    omega (arith, c.from-link.ensures, ((at.invariant.known.sound at.at).1 (omega (arith, c.from-link.ensures))).0)
 
 pub loop-number-preserved : goal.loop-number-preserved
 loop-number-preserved c = way_on c.loop-number.invariant c.from-link.ensures (omega arith) c.if-numbers-link.false

@@ -1,19 +1,15 @@
 -- `standing::queues_stand` meets its contract.
-use Rattle.std.proofs.Common.{ap, not, ◌≤◌, ◌<◌, ◌+◌, ◌≡◌, refl, sym, ◌∙◌, true, ◌&&◌, ◌++◌, get_or, arith, rules, eqb, length, take, length-take-le}
+use Rattle.std.proofs.Common.{ap, not, ◌≤◌, ◌<◌, ◌+◌, ◌≡◌, sym, ◌∙◌, true, ◌&&◌, ◌++◌, get_or, arith, eqb, length, take, length-take-le}
 use lib.ListN.{length-take}
-use lib.Seq.{paste-zero}
 use Rattle.rules.specs.Lists.{distinct}
 use Rattle.rules.specs.Bus.{numbers_in}
 use Rattle.state.specs.State.{queue_at}
 use Rattle.state.specs.Parts.{place_test, place_sound, queues_sound}
 use Rattle.state.proofs.Tested.{denied, passed, failed}
 use Rattle.state.proofs.Places.{cut, cut_out, written_one, written_all}
-use Rattle.state.proofs.StandingParts.{next, place_first, place_fails, place_passes, places-end}
+use Rattle.state.proofs.StandingParts.{next, place_fails, place_passes, places-end}
 use Rattle.state.proofs.standing.queues_stand.Goals as goal
 use Rattle.state.proofs.standing.queues_stand.Goals.{Else-not-place_stands, After-loop-i}
-
-pub loop-i-init : goal.loop-i-init
-loop-i-init c = (search rules, refl, place_first c.args.g.now c.args.queues.now)
 
 sound : (c : Else-not-place_stands) → place_sound c.args.g.now c.args.queues.now c.loop-i.i ≡ true
 sound c =
@@ -35,26 +31,6 @@ room :
 room c =
     let few = (next c.args.g.now c.args.queues.now c.loop-i.i (sound c)).0 in
     (few, omega (arith, few, length-take (get_or c.args.queues.now.lengths c.loop-i.i 0) (cut c.args.queues.now c.loop-i.i)))
-
-pub loop-p-init : goal.loop-p-init
-loop-p-init c =
-    let held = take (get_or c.args.queues.now.lengths c.loop-i.i 0) (cut c.args.queues.now c.loop-i.i) in
-    (search rules, paste-zero c.loop-i.numbers c.loop-i.waiting (numbers_in held))
-
-pub offset_bounds-numbers-waiting : goal.offset_bounds-numbers-waiting
-offset_bounds-numbers-waiting c =
-    let few = (room (goal.at.offset_bounds-numbers-waiting c).Else-not-place_stands).1 in
-    omega (arith, c.loop-p.invariant.0, c.loop-i.invariant.0, c.loop-i-test.true, c.loop-p-test.true, few)
-
-pub bounds-numbers-waiting : goal.bounds-numbers-waiting
-bounds-numbers-waiting c =
-    let few = (room (goal.at.bounds-numbers-waiting c).Else-not-place_stands).1 in
-    omega (arith, c.loop-p.invariant.0, c.loop-i.invariant.0, c.loop-i-test.true, c.loop-p-test.true, few)
-
-pub overflow_add-waiting : goal.overflow_add-waiting
-overflow_add-waiting c =
-    let few = (room (goal.at.overflow_add-waiting c).Else-not-place_stands).1 in
-    omega (arith, c.loop-p.invariant.0, c.loop-i.invariant.0, c.loop-i-test.true, c.loop-p-test.true, few)
 
 pub loop-p-preserved : goal.loop-p-preserved
 loop-p-preserved c =
@@ -96,13 +72,6 @@ ended c =
     let count = length-take-le c.loop-i.waiting c.loop-i.numbers (omega (arith, c.loop-i.invariant.0, c.loop-i.invariant.1)) in
     c.loop-i.invariant.2
     ∙ places-end c.args.g.now c.args.queues.now (take c.loop-i.waiting c.loop-i.numbers) c.loop-i.i c.requires c.loop-i-test.false count
-
-pub slice_bounds-numbers-end : goal.slice_bounds-numbers-end
-slice_bounds-numbers-end c = omega (arith, c.loop-i.invariant.0, c.loop-i.invariant.1, c.loop-i.auto.i-end)
-
-pub slice_bounds-none_twice-end : goal.slice_bounds-none_twice-end
-slice_bounds-none_twice-end c =
-    sym (length-take-le c.loop-i.waiting c.loop-i.numbers (omega (arith, c.loop-i.invariant.0, c.loop-i.invariant.1, c.loop-i.auto.i-end)))
 
 pub returns-then-counts_stand : goal.returns-then-counts_stand
 returns-then-counts_stand c =
