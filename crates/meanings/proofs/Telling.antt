@@ -1,42 +1,31 @@
--- Text after text in room that is lent, from what the calls store. Assumes nothing.
+-- The text of a refused scenario, from what the calls write; and the room for callers. Assumes nothing.
 use Prim.Native.Nat.{ℕ, ◌+◌, ◌≤◌, min}
 use mathlib.Core.Path.{◌≡◌, refl, sym, ap, subst, ◌∙◌}
 use mathlib.Core.Bool.{Bool, true, false, cond}
 use mathlib.Core.Logic.{◌≢◌}
-use mathlib.Core.List.{List, [], ◌++◌}
+use mathlib.Core.List.{List, [], ◌++◌, append-nil}
 use native.Mathlib.Omega.{arith}
 use borrow.Author.Tests.{leb-true, eq-eqb, ne_eqb}
 use lib.Dec.{leb}
 use lib.ListN.{length, take}
 use lib.Seq.{length-take-le}
 use Rattle.text.specs.Room.{room_bytes, stored, past, room_with}
-use Rattle.text.specs.Parts.{Told, roomy}
-use Rattle.text.proofs.Stores.{told_then, told_stored, sets_start, stored_kept, room_kept}
+use Rattle.text.specs.Parts.{Wrote}
+use Rattle.text.specs.declared.Writer.{Writer}
+use Rattle.text.proofs.Stores.{stored_kept, room_kept}
 use Rattle.meanings.specs.Refused.{number_text, record_text, refused_text}
 
--- a text that was stored after one that was told
-pub told_more :
-    {a b c : List ℕ} {at m n : ℕ} {x : List ℕ} {p : ℕ} (y : List ℕ) (q : ℕ) → Told a b at m x p → roomy at (p + q) → length y ≤ q
-    → (n ≡ past m y) × (c ≡ stored b m y) → Told a c at n (x ++ y) (p + q)
-told_more {b = b} {m = m} y q told h few said = told_then told (told_stored b m y q (omega (arith, told.past, told.few)) few said)
-
 -- the same text in another form
-pub told_as : {a b : List ℕ} {at n : ℕ} {x y : List ℕ} {p : ℕ} → Told a b at n x p → x ≡ y → Told a b at n y p
-told_as {a} {b} {at} {n} {p = p} told e = subst (λ (z : List ℕ). Told a b at n z p) e told
-
--- a text that was told at the start of the room is over its start, and fits the room
-pub told_start :
-    {a b : List ℕ} {n : ℕ} {x : List ℕ} {p : ℕ} → p ≤ room_bytes → Told a b 0 n x p
-    → (n ≡ length x) × ((b ≡ room_with x a) × (n ≤ room_bytes))
-told_start {a} {x = x} h told =
-    (omega (arith, told.past), (told.room ∙ sets_start a x, omega (arith, told.past, told.few)))
+pub wrote_as : {a b : Writer} {x y : List ℕ} {p : ℕ} → Wrote a b x p → x ≡ y → Wrote a b y p
+wrote_as {a} {b} {p = p} said e = subst (λ (z : List ℕ). Wrote a b z p) e said
 
 -- ---- the text of a refused scenario
 
 -- of one that is too long
-pub too_long : (input : List ℕ) (number offset : ℕ) → number ≡ 22 → number_text number ++ [] ≡ refused_text input number offset
+pub too_long : (input : List ℕ) (number offset : ℕ) → number ≡ 22 → number_text number ≡ refused_text input number offset
 too_long input number offset e =
-    ap (λ t. number_text number ++ cond t [] (record_text input (min offset (length input)))) (sym (eq-eqb number 22 e))
+    sym (append-nil (number_text number))
+    ∙ ap (λ t. number_text number ++ cond t [] (record_text input (min offset (length input)))) (sym (eq-eqb number 22 e))
 
 -- of any other
 pub of_a_record :
