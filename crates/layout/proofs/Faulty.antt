@@ -76,13 +76,6 @@ module _ (p : Plan) (discipline : ℕ) (x : Fields) (h : discipline < 3) where
   pub bus_named : settled x.fault ≡ take_bus p discipline x
   bus_named = ap (λ t. cond t (taken 2 p p) (settled x.fault)) (sym (ne_eqb discipline 3 (λ e. omega arith)))
 
-  pub bus_faulty : (f : Fault) → x.fault ≡ fault_number f → record { fault = fault_number f; plan = p } ≡ take_bus p discipline x
-  bus_faulty f e =
-      taken_faulty f p p refl
-      ∙ ap (λ t. cond t (taken (bus_fault (settings_said discipline x.values)) p (with_bus p (settings_said discipline x.values))) (taken (fault_number f) p p)) (sym (ne_eqb (fault_number f) 0 (fault_some f)))
-      ∙ ap settled (sym e)
-      ∙ bus_named
-
   pub bus_said :
       x.fault ≡ 0 → taken (bus_fault (settings_said discipline x.values)) p (with_bus p (settings_said discipline x.values)) ≡ take_bus p discipline x
   bus_said e = ap settled (sym e) ∙ bus_named

@@ -1,16 +1,15 @@
 -- The words and numbers of a line, as the code finds them. Assumes nothing.
 use Prim.Native.Nat.{ℕ, zero, suc, ◌+◌, ◌-◌, ◌≤◌, ◌<◌}
 use mathlib.Core.Path.{◌≡◌, refl, sym, ap, subst, ◌∙◌}
-use mathlib.Core.Bool.{Bool, cond}
 use mathlib.Core.List.{List, [], ◌∷◌, ◌++◌, append_assoc}
 use native.Mathlib.Omega.{arith}
 use native.Mathlib.Numerals.{add-one}
-use lib.ListN.{length, take, drop, drop_of_length-le, get_or, set, replicate, length-append}
+use lib.ListN.{length, take, drop, get_or, set, replicate, length-append}
 use lib.Seq.{drop-cons, set-append_seam}
 use Rattle.words.specs.Words.{first_word, after_word, word_span}
 use Rattle.words.specs.declared.Span.{Span}
-use Rattle.words.proofs.Spans.{span_ends, span_within, span_word, span_after}
-use Rattle.layout.specs.Layout.{Fields, fields_in, faulty, with_value, wordless, goes_on}
+use Rattle.words.proofs.Spans.{span_within, span_word, span_after}
+use Rattle.layout.specs.Layout.{Fields, fields_in, faulty, with_value}
 use Rattle.std.proofs.lemmas.List.{get_or-map}
 use Rattle.std.specs.Prelude.{map}
 use Rattle.layout.specs.declared.labels.Label.{Label}
@@ -20,7 +19,6 @@ use Rattle.layout.specs.Parts.{padded, before}
 -- ---- the first word of a line, by where it begins and ends
 
 pub record Spanned (line : List ℕ) (from to : ℕ) : Type 0 where
-  pub ordered : from ≤ to
   pub within : to ≤ length line
   pub word : take (to - from) (drop from line) ≡ first_word line
   pub after : drop to line ≡ after_word line
@@ -31,7 +29,6 @@ spanned line s e =
     (λ (s : Span). Spanned line s.from s.to)
     (sym e)
     (record {
-      ordered = span_ends line 0;
       within = span_within line 0 (omega arith);
       word = span_word line 0;
       after = span_after line 0;
@@ -68,9 +65,6 @@ pub record Found (codes rest values left : List ℕ) (i : ℕ) : Type 0 where
   pub counted : length numbers ≡ i
   pub stored : values ≡ padded numbers
   pub said : fields_in codes rest ≡ before numbers (fields_in (drop i codes) left)
-
-pub found_none : (codes rest : List ℕ) → Found codes rest (padded []) rest 0
-found_none codes rest = record { numbers = []; counted = refl; stored = refl; said = refl }
 
 module _ (codes rest values left : List ℕ) (i : ℕ) (f : Found codes rest values left i) (h : i < length codes) where
   word_next : drop i codes ≡ get_or codes i 0 ∷ drop (suc i) codes
@@ -112,12 +106,3 @@ pub label_here :
     → (later : List ℕ) → fields_in (get_or (map label_number labels) i 0 ∷ later) left ≡ said later
 label_here labels i d left h said later =
     ap (λ n. fields_in (n ∷ later) left) (get_or-map label_number labels i d 0 h) ∙ said later
-
--- past the last word comes the end of the line
-pub found_end :
-    (codes rest values left : List ℕ) (i : ℕ) (f : Found codes rest values left i) (t : Bool) → length codes ≤ i → wordless left ≡ t
-    → fields_in codes rest ≡ before f.numbers (cond t (faulty 0) (faulty goes_on))
-found_end codes rest values left i f t h e =
-    f.said
-    ∙ ap (λ cs. before f.numbers (fields_in cs left)) (drop_of_length-le codes h)
-    ∙ ap (λ t. before f.numbers (cond t (faulty 0) (faulty goes_on))) e

@@ -1,54 +1,16 @@
 -- Repeated arrivals, inserted one after the other. Assumes nothing.
 use Prim.Native.Nat.{ℕ, suc, ◌+◌, ◌*◌, ◌-◌, ◌≤◌, ◌<◌}
-use mathlib.Core.Path.{◌≡◌, refl, sym, ap, ◌∙◌}
-use mathlib.Core.Bool.{Bool, true, false, true≢false}
+use mathlib.Core.Path.{◌≡◌, sym, ap, ◌∙◌}
 use mathlib.Core.List.{[], ◌∷◌}
 use native.Mathlib.Numerals.{add-one}
 use native.Mathlib.Nat.{suc-mul}
 use native.Mathlib.Omega.{arith}
-use Rattle.rules.specs.Lists.{first_of}
-use Rattle.rules.proofs.Tests.{none_held, equal, below, ◌then◌}
-use Rattle.scenario.specs.Reading.{most_bytes}
 use Rattle.state.specs.declared.Arrival.{Arrival}
 use Rattle.layout.specs.declared.arrivals.Repeated.{Repeated}
 use Rattle.layout.specs.declared.plan.Plan as Coded
-use Rattle.layout.specs.Layout.{Plan, value_fits, value_at, arrival_of, repeated, later, with_arrivals, arrivals_tests, in_arrivals}
+use Rattle.layout.specs.Layout.{Plan, value_at, arrival_of, repeated, later, with_arrivals, in_arrivals}
 use Rattle.layout.specs.Faults.{stage_number}
 use Rattle.layout.specs.Parts.{plan_of}
-use Rattle.layout.proofs.Steps.{size_with, arrival_tried}
-
--- what holds of repeated arrivals that nothing refuses
-pub record Repeats (p : Plan) (every from to value : ℕ) : Type 0 where
-  pub turns : 0 < every
-  pub onward : from ≤ to
-  pub last : value_fits p (value_at p.settings.discipline value (from + later every from to * every)) ≡ true
-  pub short : ¬ (most_bytes < size_with p (suc (later every from to)))
-
-pub repeats :
-    (p : Plan) (every from to address value long : ℕ) → first_of 0 (arrivals_tests p every from to address value long) ≡ 0
-    → Repeats p every from to value
-repeats p every from to address value long e =
-    let largest = value_at p.settings.discipline value (from + later every from to * every) in
-    let none =
-    none_held
-    0
-    (λ v. v)
-    (equal every 0 then below to from then arrival_tried p address largest long (suc (later every from to)))
-    refl
-    e in
-    record {
-      turns = go every none.0;
-      onward = omega (arith, none.1.0);
-      last = held (value_fits p largest) none.1.1.1.0;
-      short = none.1.1.1.1.1.0;
-    }
-  where
-    go : (n : ℕ) → ¬ (n ≡ 0) → 0 < n
-    go n h = omega arith
-
-    held : (t : Bool) → ¬ (¬ (t ≡ true)) → t ≡ true
-    held true h = refl
-    held false h = absurd (h (λ e. true≢false (sym e)))
 
 -- the one at a time, of those that a line says
 abbrev pub said_at : Plan → Repeated → ℕ → Arrival

@@ -9,10 +9,7 @@ use Rattle.words.specs.Words.{Span, while, blank, in_word, blanks, unblanked, fi
 use Rattle.words.proofs.Runs.{while_few, while_taken}
 
 module _ (line : List ℕ) (at : ℕ) where
-  -- it begins at the offset or past it, and ends there or past that
-  pub span_begins : at ≤ (word_span line at).from
-  span_begins = omega arith
-
+  -- it ends where it begins or past that
   pub span_ends : (word_span line at).from ≤ (word_span line at).to
   span_ends = omega arith
 

@@ -1,8 +1,8 @@
 // Lines, words and numbers of a text that a person writes. Every exported function takes any bytes.
 #![tactic(auto)]
 
-ghost use Rattle.std.specs.Prelude.{ℕ, Bool, ◌<◌, ◌≡◌, ◌+◌, ◌≤◌, ◌&&◌, leb, length, drop};
-ghost use Rattle.words.specs.Words.{blank, first_line, word_span, digit_of, number_from, number_of, while, in_line, in_word};
+ghost use Rattle.std.specs.Prelude.{◌≡◌, ◌+◌, ◌≤◌, length, drop};
+ghost use Rattle.words.specs.Words.{blank, first_line, word_span, number_from, number_of, in_line, in_word};
 ghost use Rattle.words.specs.Words.{same as same_words};
 ghost use Rattle.std.specs.List.{take_while};
 ghost use Rattle.words.specs.Parts.{digit_in};
