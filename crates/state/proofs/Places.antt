@@ -1,28 +1,23 @@
--- The places of a row: how long the arrays are, station i's places in the row, and loops that copy places. Assumes nothing.
+-- The places of a row: how long the arrays are, station i's places in the row, and numbers written behind others. Assumes nothing.
 use Prim.Native.Nat.{ℕ, ◌+◌, ◌-◌, ◌*◌, ◌≤◌, ◌<◌}
 use mathlib.Core.Path.{◌≡◌, sym, ap, ap₂, ◌∙◌}
-use mathlib.Core.List.{List, ◌++◌, append-nil}
+use mathlib.Core.List.{List, ◌++◌}
 use native.Mathlib.Numerals.{add-one}
 use native.Mathlib.Omega.{arith}
 use mir.Val.{Val}
 use denote.Laws.{Is}
-use lib.ListN.{length, get_or, take, drop, set, replicate, length-map, length-take, length-drop, get_or-map}
+use lib.ListN.{length, get_or, take, drop, set, length-map, length-take, length-drop, get_or-map}
 use lib.Seq.{take_all, get_or-take, get_or-drop}
 use lib.Seq.{paste, paste-suc, length-paste, take-paste}
 use Rattle.rules.specs.Bus.{numbers_in}
 use Rattle.state.specs.State.{Queues, Packet, no_packet, places_at}
-use Rattle.state.specs.Parts.{Queue}
 use Rattle.state.specs.contracts.Queues as queues
-use Rattle.state.specs.contracts.Queue as queue
 
 -- ---- the arrays of what a function is handed have their lengths
 
 pub queues_arrays : (qs : Queues) (vs : List Val) → Is queues.the_row qs vs → (length qs.lengths ≡ 64) × (length qs.packets ≡ 1024)
 queues_arrays qs vs owned =
     (owned.1.1.0.1.0.1, owned.1.1.1.0.1.0.1)
-
-pub queue_array : (q : Queue) (vs : List Val) → Is queue.the_row q vs → length q.packets ≡ 16
-queue_array q vs owned = owned.1.1.0.1.0.1
 
 -- ---- station i's places in the row
 
@@ -32,45 +27,14 @@ places_count qs i h e = simp (length-take, length-drop) (omega arith)
 pub place_at : (qs : Queues) (i j : ℕ) → j < 16 → get_or (places_at qs i) j no_packet ≡ get_or qs.packets (16 * i + j) no_packet
 place_at qs i j h = get_or-take 16 (drop (16 * i) qs.packets) j no_packet h ∙ get_or-drop (16 * i) qs.packets j no_packet
 
--- the same, as the code takes them out
+-- its places, as the code takes them out
 abbrev pub cut : Queues → ℕ → List Packet
 cut qs i = take (16 * i + 16 - 16 * i) (drop (16 * i) qs.packets)
 
 pub cut_out : (qs : Queues) (i : ℕ) → cut qs i ≡ places_at qs i
 cut_out qs i = let sixteen : 16 * i + 16 - 16 * i ≡ 16 = omega arith in ap (λ k. take k (drop (16 * i) qs.packets)) sixteen
 
--- ---- loops that copy places
-
--- one place more
-pub copied_one :
-    (d : List Packet) (at : ℕ) (s : List Packet) (j : ℕ) {xs : List Packet} {p : Packet} {k : ℕ} → xs ≡ paste d at s j
-    → p ≡ get_or s j no_packet → k ≡ at + j → at + j < length d → j < length s → set xs k p ≡ paste d at s (j + 1)
-copied_one d at s j {xs} {p} e same place h k =
-    ap (λ n. set xs n p) place ∙ ap₂ (λ ys q. set ys (at + j) q) e same ∙ paste-suc d at s j no_packet h k
-    ∙ ap (λ n. paste d at s n) (sym (add-one j))
-
--- all places
-pub copied_all :
-    (d : List Packet) (at : ℕ) (s : List Packet) (j n : ℕ) {xs : List Packet} → xs ≡ paste d at s j → j ≡ n → length s ≡ n
-    → xs ≡ take at d ++ s ++ drop (at + n) d
-copied_all d at s j n e done h =
-    e ∙ ap (λ k. paste d at s k) done ∙ ap (λ t. take at d ++ t ++ drop (at + n) d) (take_all n s (omega arith))
-
--- station i's places taken out of the row: one place more
-pub taken_one :
-    (qs : Queues) (i j : ℕ) {places : List Packet} → i < 64 → length qs.packets ≡ 1024 → j < 16
-    → places ≡ paste (replicate 16 no_packet) 0 (places_at qs i) j
-    → set places j (get_or qs.packets (16 * i + j) no_packet) ≡ paste (replicate 16 no_packet) 0 (places_at qs i) (j + 1)
-taken_one qs i j here row h e =
-    let n = places_count qs i here row in
-    copied_one (replicate 16 no_packet) 0 (places_at qs i) j e (sym (place_at qs i j h)) (omega arith) (omega arith) (omega arith)
-
--- all of them
-pub taken_all :
-    (qs : Queues) (i j : ℕ) {places : List Packet} → i < 64 → length qs.packets ≡ 1024 → j ≡ 16
-    → places ≡ paste (replicate 16 no_packet) 0 (places_at qs i) j → places ≡ places_at qs i
-taken_all qs i j here row done e =
-    copied_all (replicate 16 no_packet) 0 (places_at qs i) j 16 e done (places_count qs i here row) ∙ append-nil (places_at qs i)
+-- ---- numbers written behind others
 
 -- a packet's number
 abbrev number_of : Packet → ℕ

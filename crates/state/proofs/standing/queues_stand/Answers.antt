@@ -5,7 +5,7 @@ use Rattle.rules.specs.Lists.{distinct}
 use Rattle.rules.specs.Bus.{numbers_in}
 use Rattle.state.specs.State.{queue_at}
 use Rattle.state.specs.Parts.{place_test, place_sound, queues_sound}
-use Rattle.state.proofs.Tested.{denied, passed, failed}
+use Rattle.state.proofs.Tested.{denied, passed}
 use Rattle.state.proofs.Places.{cut, cut_out, written_one, written_all}
 use Rattle.state.proofs.StandingParts.{next, place_fails, place_passes, places-end}
 use Rattle.state.proofs.standing.queues_stand.Goals as goal
@@ -77,8 +77,3 @@ pub returns-then-counts_stand : goal.returns-then-counts_stand
 returns-then-counts_stand c =
     c.none_twice.ensures
     ∙ sym (passed (ended (goal.at.returns-then-counts_stand c).After-loop-i) (sym c.counts_stand.ensures ∙ c.if-counts_stand.true))
-
-pub returns-else-counts_stand : goal.returns-else-counts_stand
-returns-else-counts_stand c =
-    c.if-counts_stand.false
-    ∙ sym (failed _ (ended (goal.at.returns-else-counts_stand c).After-loop-i) (sym c.counts_stand.ensures ∙ c.if-counts_stand.false))

@@ -1,12 +1,8 @@
 -- `standing::stands` meets its contract.
 use Rattle.std.proofs.Common.{◌≡◌, sym, ap, ◌∙◌}
 use Rattle.rules.specs.SetUp.{set_up_verdict}
-use Rattle.state.proofs.StandingParts.{tried, few_tried, state_held, not_set_up, accepted, not_accepted, standing_parts}
+use Rattle.state.proofs.StandingParts.{tried, state_held, not_set_up, accepted, not_accepted, standing_parts}
 use Rattle.state.proofs.standing.stands.Goals as goal
-
-pub parts_stand-requires : goal.parts_stand-requires
-parts_stand-requires c =
-    few_tried c.args.s (ap (λ v. v.refusal) (sym c.verdict.ensures) ∙ accepted c.verdict.result (sym c.is_ok.ensures.value ∙ c.if-is_ok.true))
 
 pub returns-then-is_ok : goal.returns-then-is_ok
 returns-then-is_ok c =
