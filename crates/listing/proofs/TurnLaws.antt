@@ -6,8 +6,6 @@ use mathlib.Core.Bool.{cond}
 use mathlib.Core.List.{List, [], ◌∷◌, ◌++◌, append_assoc, append-nil}
 use native.Mathlib.Nat.{zero-add}
 use native.Mathlib.Omega.{arith}
-use mir.Val.{Val}
-use denote.Laws.{Is}
 use lib.Dec.{leb}
 use native.Mathlib.Numerals.{add-one}
 use lib.ListN.{length, get_or, take, replicate}
@@ -20,11 +18,9 @@ use Rattle.bus.specs.declared.Report.{Report}
 use Rattle.bus.specs.declared.Stretch.{Stretch}
 use Rattle.bus.specs.Coded.{totals_of}
 use Rattle.bus.specs.Stretch.{row_places, most_calls, course, no_report, stretch_of, stretch_form, no_arrival}
-use Rattle.bus.specs.contracts.Stretch as stretch-row
 use Rattle.scenario.specs.Reading.{arrival_bytes}
 use Rattle.text.specs.Text.{space, decimal, fields}
 use Rattle.text.specs.Room.{room_bytes, room_with}
-use Rattle.text.specs.Parts.{Told}
 use Rattle.text.proofs.Stores.{sets_start}
 use Rattle.listing.specs.Turns.{Play, Turn, Outcome, next_arrivals, arrivals_form, report_text, reports_text, course_of, stretched}
 use Rattle.listing.specs.Turns.{closed_by, turn_by, turn, turn_form}
@@ -59,10 +55,6 @@ pub fields_turn :
     (ns : List ℕ) (i : ℕ) → i < length ns → fields (take (i + 1) ns) ≡ fields (take i ns) ++ (space ∷ decimal (get_or ns i 0))
 fields_turn ns i h =
     ap (λ k. fields (take k ns)) (add-one i) ∙ ap fields (take-suc ns i 0 h) ∙ one_field (take i ns) (get_or ns i 0)
-
--- the array of reports in the code has as many places as a stretch has calls
-pub reports_array : (x : Stretch) (vs : List Val) → Is stretch-row.the_row x vs → length x.reports ≡ 512
-reports_array x vs owned = owned.1.1.0.1.0.1
 
 -- a turn whose text was told at the start of the room is what it comes to, and the room has the text over its start
 pub turn-of :
@@ -114,11 +106,6 @@ module _ (input : List ℕ) (s : State) (at steps : ℕ) where
       f ∙ ap (λ (a : Arrivals). stretch_form (stretch_of s a steps)) e ∙ ap stretch_form (stretch_of_form s found steps)
 
   module _ (x : Stretch) (is : x ≡ stretch_form (course_of found s steps)) where
-    pub made_few : x.made ≤ 512
-    made_few =
-        let same = ap (λ (y : Stretch). y.made) is in
-        omega (arith, same, (bounds_of found s steps).made)
-
     pub taken_few : x.taken ≤ 64
     taken_few =
         let same = ap (λ (y : Stretch). y.taken) is in
@@ -134,26 +121,3 @@ module _ (input : List ℕ) (s : State) (at steps : ℕ) where
         go : (n : ℕ) → n ≤ length found → (at + arrival_bytes * n ≤ at) ⊎ (at + arrival_bytes * n ≤ length input)
         go zero few = inl (omega arith)
         go (suc n) few = inr (bytes_within row_places input at (suc n) (omega arith) few)
-
-    -- the turn with its text and its play
-    pub stretched_turn :
-        {before after : List ℕ} {many : ℕ} → Told before after 0 many (reports_text (take x.made x.reports)) room_bytes
-        → TurnTold
-        before
-        after
-        (record { length = many; play = record { state = x.state; at = at + arrival_bytes * x.taken; steps = Some x.left } })
-        (stretched input s at steps)
-    stretched_turn {before} {after} {many} told =
-        let c = course_of found s steps in
-        record {
-          play =
-              ap
-              (λ (y : Stretch). record { state = y.state; at = at + arrival_bytes * y.taken; steps = Some y.left })
-              is;
-          told =
-              subst
-              (λ (text : List ℕ). Told before after 0 many text room_bytes)
-              (ap (λ (y : Stretch). reports_text (take y.made y.reports)) is
-              ∙ ap reports_text (take-append_seam c.reports (replicate (most_calls - length c.reports) no_report)))
-              told;
-        }

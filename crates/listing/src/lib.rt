@@ -5,7 +5,7 @@
 ghost use Rattle.std.specs.Prelude.{◌*◌, ◌≤◌, ◌≡◌, drop, None, length};
 ghost use Rattle.bus.specs.Coded.{totals_of};
 ghost use Rattle.text.specs.Room.{room_bytes, room_with};
-ghost use Rattle.text.specs.Parts.{Wrote, roomy};
+ghost use Rattle.text.specs.Parts.{Wrote};
 ghost use Rattle.listing.specs.Turns.{next_arrivals, arrivals_form, report_text, reports_text, opened, stretched, closed_by, turn, turn_form};
 ghost use Rattle.scenario.specs.Format.{read_record};
 ghost use Rattle.listing.specs.Parts.{TurnTold, arrival_if};
@@ -114,7 +114,6 @@ pub fn gather(input: &[u8], from: usize) -> Arrivals
 
 // The text of a report.
 fn tell(out: &mut Writer, report: &Report)
-    requires { roomy out.old.at 128 }
     ensures { Wrote out.old out.new (report_text report.now) 128 }
 {
     match report {
@@ -133,7 +132,6 @@ fn tell(out: &mut Writer, report: &Report)
 
 // The text of reports, one after the other.
 fn tell_all(out: &mut Writer, reports: &[Report])
-    requires { roomy out.old.at (128 * length reports.now) }
     ensures { Wrote out.old out.new (reports_text reports.now) (128 * length reports.now) }
 {
     for report in reports {

@@ -1,8 +1,8 @@
-// The lines of a listing, each stored by a writer that has room for it: each function asks for the room of its own text.
+// The lines of a listing, put together from what a writer stores.
 ghost use Rattle.std.specs.Prelude.{◌+◌, ◌*◌, ◌≡◌, [], ◌∷◌, ◌++◌, length};
 ghost use Rattle.bus.specs.Coded.{phase_number, event_number, answer_of};
 ghost use Rattle.text.specs.Text.{decimal, space, fields as fieldsText, word_line};
-ghost use Rattle.text.specs.Parts.{Wrote, roomy};
+ghost use Rattle.text.specs.Parts.{Wrote};
 ghost use Rattle.listing.specs.Text.{phase_letter, event_letter, refused_text, arrival_text, end_text, dropped_text, probed_text};
 ghost use Rattle.listing.specs.Parts.{opening_text, winner_text};
 
@@ -13,7 +13,6 @@ use text::Writer;
 
 // A space and a number.
 fn field(out: &mut Writer, n: u64)
-    requires { roomy out.old.at 21 }
     ensures { Wrote out.old out.new (space ∷ decimal n) 21 }
 {
     out.put(b' ');
@@ -22,7 +21,6 @@ fn field(out: &mut Writer, n: u64)
 
 // 'Fields are decimal, one space apart': numbers, each after a space.
 fn fields(out: &mut Writer, numbers: &[u64])
-    requires { roomy out.old.at (21 * length numbers.now) }
     ensures { Wrote out.old out.new (fieldsText numbers.now) (21 * length numbers.now) }
 {
     for n in numbers {
@@ -32,7 +30,6 @@ fn fields(out: &mut Writer, numbers: &[u64])
 
 // A line that opens with a word: 'each line closed by one newline'.
 fn line(out: &mut Writer, word: &[u8], numbers: &[u64])
-    requires { roomy out.old.at (length word.now + (21 * length numbers.now + 1)) }
     ensures { Wrote out.old out.new (word_line word.now numbers.now) (length word.now + (21 * length numbers.now + 1)) }
 {
     out.letters(word);
@@ -40,9 +37,8 @@ fn line(out: &mut Writer, word: &[u8], numbers: &[u64])
     out.put(b'\n');
 }
 
-// A number of 32 bits in decimal, which has no more than ten digits: `tell` has no room for ten more of each.
+// A number of 32 bits in decimal, which has no more than ten digits: a report has no room for ten more of each.
 fn short_number(out: &mut Writer, n: u32)
-    requires { roomy out.old.at 10 }
     ensures { Wrote out.old out.new (decimal n) 10 }
 {
     out.number(u64::from(n));
@@ -50,7 +46,6 @@ fn short_number(out: &mut Writer, n: u32)
 
 // A space and a number of 32 bits.
 fn short_field(out: &mut Writer, n: u32)
-    requires { roomy out.old.at 11 }
     ensures { Wrote out.old out.new (space ∷ decimal n) 11 }
 {
     out.put(b' ');
@@ -59,7 +54,6 @@ fn short_field(out: &mut Writer, n: u32)
 
 // A space and a letter.
 fn letter(out: &mut Writer, byte: u8)
-    requires { roomy out.old.at 2 }
     ensures { Wrote out.old out.new (space ∷ byte ∷ []) 2 }
 {
     out.put(b' ');
@@ -89,7 +83,6 @@ fn event_letter(event: Event) -> u8
 
 // 'REFUSED number offset'
 pub fn refused(out: &mut Writer, number: u32, offset: usize)
-    requires { roomy out.old.at 128 }
     ensures { Wrote out.old out.new (refused_text number offset) 128 }
 {
     line(out, b"REFUSED", &[u64::from(number), offset as u64]);
@@ -97,7 +90,6 @@ pub fn refused(out: &mut Writer, number: u32, offset: usize)
 
 // 'R slot address number'
 pub fn arrival(out: &mut Writer, slot: Slot, address: Address, number: u32)
-    requires { roomy out.old.at 128 }
     ensures { Wrote out.old out.new (arrival_text slot.0 address.0 number) 128 }
 {
     line(
@@ -109,7 +101,6 @@ pub fn arrival(out: &mut Writer, slot: Slot, address: Address, number: u32)
 
 // 'D count', if packets were dropped
 fn dropped(out: &mut Writer, answer: &Answer)
-    requires { roomy out.old.at 23 }
     ensures { Wrote out.old out.new (dropped_text (answer_of answer.now)) 23 }
 {
     if answer.drops != 0 {
@@ -119,7 +110,6 @@ fn dropped(out: &mut Writer, answer: &Answer)
 
 // 'slot phase start size event'
 fn opening(out: &mut Writer, answer: &Answer)
-    requires { roomy out.old.at 56 }
     ensures { Wrote out.old out.new (opening_text (answer_of answer.now)) 56 }
 {
     short_number(out, answer.slot.0);
@@ -130,7 +120,6 @@ fn opening(out: &mut Writer, answer: &Answer)
 
 // 'S with address, packet number, length', and the wait 'as a fourth number after S'
 fn winner(out: &mut Writer, answer: &Answer)
-    requires { roomy out.old.at 44 }
     ensures { Wrote out.old out.new (winner_text (answer_of answer.now)) 44 }
 {
     if let Event::Success = answer.event {
@@ -143,7 +132,6 @@ fn winner(out: &mut Writer, answer: &Answer)
 
 // The line of a probe; a refused step has none.
 fn probed(out: &mut Writer, answer: &Answer)
-    requires { roomy out.old.at 101 }
     ensures { Wrote out.old out.new (probed_text (answer_of answer.now)) 101 }
 {
     if answer.refusal == 0 {
@@ -155,7 +143,6 @@ fn probed(out: &mut Writer, answer: &Answer)
 
 // What a step's answer tells: the packets dropped, and the probe.
 pub fn answer(out: &mut Writer, answer: &Answer)
-    requires { roomy out.old.at 128 }
     ensures { Wrote out.old out.new (dropped_text (answer_of answer.now) ++ probed_text (answer_of answer.now)) 128 }
 {
     dropped(out, answer);
@@ -164,7 +151,6 @@ pub fn answer(out: &mut Writer, answer: &Answer)
 
 // 'END clock admitted sent lost waiting', and the packets turned away
 pub fn ending(out: &mut Writer, totals: &Totals)
-    requires { roomy out.old.at 130 }
     ensures { Wrote out.old out.new (end_text totals.now.clock.0 totals.now.admitted totals.now.sent totals.now.lost totals.now.waiting totals.now.turned) 130 }
 {
     let clock = u64::from(totals.clock.0);

@@ -5,7 +5,7 @@
 ghost use Rattle.std.specs.Prelude.{◌≤◌, ◌≡◌, length};
 ghost use Rattle.text.specs.Room.{room_bytes, stored, past, room_with};
 ghost use Rattle.meanings.specs.Meanings.{other_meaning, call_meaning, meaning_of};
-ghost use Rattle.text.specs.Parts.{Wrote, roomy};
+ghost use Rattle.text.specs.Parts.{Wrote};
 ghost use Rattle.meanings.specs.Refused.{number_text, refused_text};
 
 use text::Writer;
@@ -81,7 +81,6 @@ pub fn meaning(room: &mut [u8; 65536], at: usize, number: u32) -> usize
 
 // A number, and what it means.
 fn named(out: &mut Writer, number: u32)
-    requires { roomy out.old.at 108 }
     ensures { Wrote out.old out.new (number_text number) 108 }
 {
     out.letters(b"refused, number ");
@@ -92,7 +91,6 @@ fn named(out: &mut Writer, number: u32)
 
 // The number and what it means, and the record, but of a scenario that is too long; an offset past the input's end counts as that.
 fn whole(out: &mut Writer, input: &[u8], number: u32, offset: usize)
-    requires { roomy out.old.at 189 }
     ensures { Wrote out.old out.new (refused_text input.now number offset) 189 }
 {
     named(out, number);

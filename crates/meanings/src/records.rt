@@ -1,6 +1,6 @@
 // The record at an offset of a scenario, in words.
 ghost use Rattle.std.specs.Prelude.{◌≤◌, ◌<◌, ◌≡◌, length, drop};
-ghost use Rattle.text.specs.Parts.{Wrote, roomy};
+ghost use Rattle.text.specs.Parts.{Wrote};
 ghost use Rattle.scenario.specs.Format.{length_in};
 ghost use Rattle.meanings.specs.Refused.{place_of, kind_words, record_words, record_text};
 
@@ -59,8 +59,7 @@ fn what(rest: &[u8]) -> &'static [u8]
 
 // The record at an offset: its place, what it is, and its first byte.
 pub fn told(out: &mut Writer, input: &[u8], offset: usize)
-    requires roomy { roomy out.old.at 81 }
-    requires offset_in_bounds { offset ≤ length input.now }
+    requires { offset ≤ length input.now }
     ensures { Wrote out.old out.new (record_text input.now offset) 81 }
 {
     out.letters(b"; record ");

@@ -1,7 +1,7 @@
-// The lines of a sheet, each stored by a writer that has room for it: each function asks for the room of its own text.
+// The lines of a sheet, put together from what a writer stores.
 ghost use Rattle.std.specs.Prelude.{suc, ◌≤◌, min, ◌≡◌, [], length, None};
 ghost use Rattle.text.specs.Text.{decimal};
-ghost use Rattle.text.specs.Parts.{Wrote, roomy};
+ghost use Rattle.text.specs.Parts.{Wrote};
 ghost use Rattle.sheet.specs.Sheet.{most_runs};
 ghost use Rattle.page.specs.Page.{aligned, column as columnText, all_places, counts_text, named as namedText, heading_text, run_cells, refusal_words, cells as cellsText, sums_text, loss_text, highest_text, rows_text, name_of};
 
@@ -22,8 +22,7 @@ const NAME: usize = 4096;
 
 // A space, and a number right-aligned in so many places.
 fn column(out: &mut Writer, places: usize, n: u64)
-    requires places_bound { places ≤ 20 }
-    requires roomy { roomy out.old.at 21 }
+    requires { places ≤ 20 }
     ensures { Wrote out.old out.new (columnText places (decimal n)) 21 }
 {
     out.put(b' ');
@@ -33,7 +32,6 @@ fn column(out: &mut Writer, places: usize, n: u64)
 
 // Four counts, and the packets turned away.
 fn counts(out: &mut Writer, counts: Sums)
-    requires { roomy out.old.at 105 }
     ensures { Wrote out.old out.new (counts_text (decimal counts.admitted) (decimal counts.sent) (decimal counts.lost) (decimal counts.waiting) (decimal counts.turned)) 105 }
 {
     column(out, COUNT, counts.admitted);
@@ -45,7 +43,6 @@ fn counts(out: &mut Writer, counts: Sums)
 
 // A run's columns.
 fn run_cells(out: &mut Writer, run: Run)
-    requires { roomy out.old.at 126 }
     ensures { Wrote out.old out.new (run_cells run) 126 }
 {
     let five = Sums {
@@ -61,7 +58,6 @@ fn run_cells(out: &mut Writer, run: Run)
 
 // 'REFUSED number offset'
 fn refused(out: &mut Writer, refusal: &Refusal)
-    requires { roomy out.old.at 39 }
     ensures { Wrote out.old out.new (refusal_words refusal.now.number refusal.now.offset) 39 }
 {
     out.letters(b"REFUSED ");
@@ -72,7 +68,6 @@ fn refused(out: &mut Writer, refusal: &Refusal)
 
 // The same right-aligned in the columns' places.
 fn refused_cells(out: &mut Writer, refusal: &Refusal)
-    requires { roomy out.old.at 126 }
     ensures { Wrote out.old out.new (aligned all_places (refusal_words refusal.now.number refusal.now.offset)) 126 }
 {
     let number = text::digits_of(u64::from(refusal.number));
@@ -83,7 +78,6 @@ fn refused_cells(out: &mut Writer, refusal: &Refusal)
 
 // What stands in the columns of an entry.
 pub fn cells(out: &mut Writer, entry: &Entry)
-    requires { roomy out.old.at 126 }
     ensures { Wrote out.old out.new (cellsText entry.now) 126 }
 {
     match entry {
@@ -97,7 +91,6 @@ pub fn cells(out: &mut Writer, entry: &Entry)
 
 // Two spaces, the run's name as far as it is shown, and the line's end.
 pub fn named(out: &mut Writer, name: &[u8])
-    requires { roomy out.old.at 4099 }
     ensures { Wrote out.old out.new (namedText name.now) 4099 }
 {
     out.spaces(2);
@@ -107,7 +100,6 @@ pub fn named(out: &mut Writer, name: &[u8])
 
 // The same where the name is a number.
 fn numbered(out: &mut Writer, n: u64)
-    requires { roomy out.old.at 23 }
     ensures { Wrote out.old out.new (namedText (decimal n)) 23 }
 {
     out.spaces(2);
@@ -117,7 +109,6 @@ fn numbered(out: &mut Writer, n: u64)
 
 // The words over the columns.
 pub fn heading(out: &mut Writer)
-    requires { roomy out.old.at 75 }
     ensures { Wrote out.old out.new heading_text 75 }
 {
     out.letters(b"   admitted       sent       lost    waiting turned away longest wait  run\n");
@@ -125,7 +116,6 @@ pub fn heading(out: &mut Writer)
 
 // The line of the sums.
 pub fn sums(out: &mut Writer, sums: Sums)
-    requires { roomy out.old.at 129 }
     ensures { Wrote out.old out.new (sums_text sums) 129 }
 {
     counts(out, sums);
@@ -134,7 +124,6 @@ pub fn sums(out: &mut Writer, sums: Sums)
 
 // 'highest loss lost/ended', before the name
 fn loss(out: &mut Writer, lost: u64, ended: u64)
-    requires { roomy out.old.at 54 }
     ensures { Wrote out.old out.new (loss_text lost ended) 54 }
 {
     out.letters(b"highest loss ");
@@ -145,7 +134,6 @@ fn loss(out: &mut Writer, lost: u64, ended: u64)
 
 // 'If none has a figure, the sheet says so'
 fn no_figure(out: &mut Writer)
-    requires { roomy out.old.at 34 }
     ensures { Wrote out.old out.new (highest_text None []) 34 }
 {
     out.letters(b"highest loss: no run has a figure\n");
@@ -153,7 +141,6 @@ fn no_figure(out: &mut Writer)
 
 // The line of the highest loss, with the run's name.
 pub fn highest(out: &mut Writer, highest: Option<Placed>, name: &[u8])
-    requires { roomy out.old.at 4153 }
     ensures { Wrote out.old out.new (highest_text highest name.now) 4153 }
 {
     match highest {
@@ -174,7 +161,6 @@ fn counted(place: usize) -> u64
 
 // The line of the highest loss, with the run's place for a name.
 pub fn highest_placed(out: &mut Writer, highest: Option<Placed>)
-    requires { roomy out.old.at 77 }
     ensures { Wrote out.old out.new (highest_text highest (name_of highest)) 77 }
 {
     match highest {
@@ -188,8 +174,7 @@ pub fn highest_placed(out: &mut Writer, highest: Option<Placed>)
 
 // The lines of runs, each with its place, counted from 1, for a name.
 pub fn rows(out: &mut Writer, runs: &[Run])
-    requires count_bound { length runs.now ≤ most_runs }
-    requires roomy { roomy out.old.at 38144 }
+    requires { length runs.now ≤ most_runs }
     ensures { Wrote out.old out.new (rows_text 0 runs.now) 38144 }
 {
     for (place, run) in runs.iter().enumerate() {

@@ -2,13 +2,12 @@
 -- that does not. Assumes nothing.
 use Prim.Native.Nat.{ℕ, suc, ◌+◌, ◌≤◌, ◌<◌}
 use mathlib.Core.Path.{◌≡◌, refl, sym, ap, ap₂, ◌∙◌}
-use mathlib.Core.Bool.{Bool, true, false, not, cond}
+use mathlib.Core.Bool.{Bool, true, false, cond}
 use mathlib.Core.List.{List, [], ◌∷◌, ◌++◌}
 use Rattle.std.proofs.Common.{append_assoc}
 use native.Mathlib.Nat.{add-zero}
 use native.Mathlib.Omega.{arith}
-use borrow.Author.Tests.{leb-true, leb-false, not-true, not-false, le-leb, lt-leb}
-use lib.Dec.{leb}
+use borrow.Author.Tests.{le-leb, lt-leb}
 use lib.ListN.{length, take, drop, set, length-append}
 use borrow.Rule.Slice.PartMut.{put_mid}
 use lib.Seq.{drop-drop, sets, set_comm, sets-eq, length-sets}
@@ -29,13 +28,6 @@ sets_before room [] at from byte h = refl
 sets_before room (b ∷ text) at from byte h =
     sets_before (set room from b) text at (suc from) byte (omega arith)
     ∙ ap (λ (l : List ℕ). sets l (suc from) text) (set_comm room from at b byte (λ e. omega arith))
-
--- a byte that is stored right after text
-pub sets_after :
-    (room after text : List ℕ) (at long byte : ℕ) → length text ≡ long → after ≡ sets room at text
-    → set after (at + long) byte ≡ sets room at (text ++ (byte ∷ []))
-sets_after room after text at long byte e f =
-    ap₂ (λ (l : List ℕ) (k : ℕ). set l (at + k) byte) f (sym e) ∙ sets_then room text (byte ∷ []) at
 
 -- ---- what was told
 
@@ -104,23 +96,6 @@ past_not at text h = ap (λ t. cond t (at + length text) at) (lt-leb (at + lengt
 pub stored_not : (room : List ℕ) (at : ℕ) (text : List ℕ) → room_bytes < at + length text → stored room at text ≡ room
 stored_not room at text h = ap (λ t. cond t (sets room at text) room) (lt-leb (at + length text) room_bytes h)
 
--- the answers of a function that stores: where the test says that the room has fewer bytes than the text, and where the text was stored
-pub answer_not :
-    (room : List ℕ) (at : ℕ) (text : List ℕ) (long : ℕ) {t : Bool} → length text ≡ long → t ≡ leb (at + long) room_bytes → not t ≡ true
-    → (at ≡ past at text) × (room ≡ stored room at text)
-answer_not room at text long {t} e test refused =
-    let over = leb-false (at + long) room_bytes (sym test ∙ not-true t refused) in
-    (sym (past_not at text (omega arith)), sym (stored_not room at text (omega arith)))
-
-pub answer_fits :
-    (room : List ℕ) (at : ℕ) (text : List ℕ) {next : ℕ} {after : List ℕ} → roomy at (length text) → next ≡ at + length text
-    → after ≡ sets room at text → (next ≡ past at text) × (after ≡ stored room at text)
-answer_fits room at text h e f = (e ∙ sym (past_fits at text h), f ∙ sym (stored_fits room at text h))
-
--- where the test says that it has as many
-pub has_room : (at long : ℕ) {t : Bool} → t ≡ leb (at + long) room_bytes → not t ≡ false → roomy at long
-has_room at long {t} test passed = leb-true (at + long) room_bytes (sym test ∙ not-false t passed)
-
 -- what a contract of src/ says of a text, of no more bytes than there is room for: it was told
 pub told_stored :
     (room : List ℕ) (at : ℕ) (text : List ℕ) (most : ℕ) {next : ℕ} {after : List ℕ} → roomy at most → length text ≤ most
@@ -134,34 +109,33 @@ told_stored room at text most h few said =
 
 -- ---- what a writer wrote
 
--- a text of no more bytes than there is room for
-pub wrote :
-    {a b : Writer} {text : List ℕ} (most : ℕ) → Stores a b text → roomy a.at most → length text ≤ most → Wrote a b text most
-wrote {a} {b} {text} most said h few =
-    record { told = told_stored a.room.now a.at text most h few (said.past, said.room); same = said.same }
+-- a text of no more than so many bytes
+pub wrote : {a b : Writer} {text : List ℕ} (most : ℕ) → Stores a b text → length text ≤ most → Wrote a b text most
+wrote {a} {b} {text} most said few =
+    record { told = λ h. told_stored a.room.now a.at text most h few (said.past, said.room); same = said.same }
 
 -- text after text
 pub wrote_then : {a b c : Writer} {x y : List ℕ} {p q : ℕ} → Wrote a b x p → Wrote b c y q → Wrote a c (x ++ y) (p + q)
-wrote_then first second = record { told = told_then first.told second.told; same = second.same ∙ first.same }
+wrote_then {p = p} first second =
+    record {
+      told =
+          λ h.
+          let told = first.told (omega arith) in
+          told_then told (second.told (omega (arith, told.past, told.few)));
+      same = second.same ∙ first.same;
+    }
 
 -- no more than so many bytes is no more than more of them
 pub wrote_within : {a b : Writer} {x : List ℕ} {p q : ℕ} → Wrote a b x p → p ≤ q → Wrote a b x q
-wrote_within said h = record { told = told_within said.told h; same = said.same }
-
--- a text, and then what has room after it
-pub wrote_on :
-    {a b c : Writer} {x y : List ℕ} (p : ℕ) {q : ℕ} → Stores a b x → roomy a.at (p + q) → length x ≤ p → (roomy b.at q → Wrote b c y q)
-    → Wrote a c (x ++ y) (p + q)
-wrote_on {a} p said h few rest =
-    let first = wrote p said (omega arith) few in
-    wrote_then first (rest (omega (arith, first.told.past)))
+wrote_within said h = record { told = λ r. told_within (said.told (omega arith)) h; same = said.same }
 
 -- text from the start of the room on is over its start, and fits it
 pub wrote_start :
     {a b : Writer} {x : List ℕ} {p : ℕ} → a.at ≡ 0 → p ≤ room_bytes → Wrote a b x p
     → (b.at ≡ length x) × ((b.room.now ≡ room_with x a.room.now) × (b.at ≤ room_bytes))
 wrote_start {a} {b} {x} e h said =
-    (omega (arith, said.told.past), (said.told.room ∙ ap (λ n. sets a.room.now n x) e ∙ sets_start a.room.now x, omega (arith, said.told.past, said.told.few)))
+    let told = said.told (omega arith) in
+    (omega (arith, told.past), (told.room ∙ ap (λ n. sets a.room.now n x) e ∙ sets_start a.room.now x, omega (arith, told.past, told.few)))
 
 -- the text stands at the offset, and all else is as it was
 pub stands :

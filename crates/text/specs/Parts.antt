@@ -20,7 +20,7 @@ pub record Stores (before after : Writer) (text : List ℕ) : Type 0 where
   pub past : after.at ≡ past before.at text
   pub same : after.room.ghost_name ≡ before.room.ghost_name
 
--- the same of a text of no more than so many bytes, for which the room has space
+-- the same of a text of no more than so many bytes, wherever the room has space for so many: a text byte by byte
 pub record Wrote (before after : Writer) (text : List ℕ) (most : ℕ) : Type 0 where
-  pub told : Told before.room.now after.room.now before.at after.at text most
+  pub told : roomy before.at most → Told before.room.now after.room.now before.at after.at text most
   pub same : after.room.ghost_name ≡ before.room.ghost_name

@@ -8,7 +8,7 @@ use Rattle.listing.proofs.open.Goals as goal
 
 pub returns-in-Err : goal.returns-in-Err
 returns-in-Err c =
-    let told = told_within {q = room_bytes} c.refused.ensures.told (omega arith) in
+    let told = told_within {q = room_bytes} (c.refused.ensures.told (omega arith)) (omega arith) in
     let all = turn-of
     (ap opened_by c.in-Err.ensures)
     (record { play = c.over.ensures ∙ ap over c.all_zero.ensures; told = rw c.from.ensures at told }) in

@@ -8,10 +8,7 @@ pub returns-then-number-eq-TOO_LONG : goal.returns-then-number-eq-TOO_LONG
 returns-then-number-eq-TOO_LONG c = wrote_within (wrote_as c.named.ensures (too_long c.args.input.now c.args.number c.args.offset c.if-number-eq-TOO_LONG.true)) (omega arith)
 
 pub told-requires : goal.told-requires
-told-requires c = record {
-  roomy = omega (arith, c.requires, c.named.ensures.told.past, c.named.ensures.told.few);
-  offset_in_bounds = omega (arith, c.min.ensures);
-}
+told-requires c = omega (arith, c.min.ensures)
 
 pub returns : goal.returns
 returns c =

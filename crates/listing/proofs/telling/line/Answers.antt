@@ -5,5 +5,6 @@ use Rattle.listing.proofs.telling.line.Goals as goal
 
 pub returns : goal.returns
 returns c =
-    let both = wrote_then (wrote (length c.args.word.now) c.letters.ensures (omega arith) (omega arith)) c.fields.ensures in
-    wrote_within (wrote_then both (wrote 1 c.put.ensures (omega (arith, both.told.past, both.told.few)) (omega arith))) (omega arith)
+    wrote_within
+    (wrote_then (wrote_then (wrote (length c.args.word.now) c.letters.ensures (omega arith)) c.fields.ensures) (wrote 1 c.put.ensures (omega arith)))
+    (omega arith)

@@ -5,6 +5,5 @@ use Rattle.listing.proofs.telling.probed.Goals as goal
 
 pub returns-then-answer-eq0 : goal.returns-then-answer-eq0
 returns-then-answer-eq0 c =
-    let both = wrote_then c.opening.ensures c.winner.ensures in
     rw (eq-eqb c.args.answer.now.refusal 0 c.if-answer-eq0.true)
-    (wrote_then both (wrote 1 c.put.ensures (omega (arith, both.told.past, both.told.few)) (omega arith)))
+    (wrote_then (wrote_then c.opening.ensures c.winner.ensures) (wrote 1 c.put.ensures (omega arith)))

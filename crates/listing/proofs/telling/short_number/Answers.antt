@@ -5,4 +5,4 @@ use Rattle.text.proofs.Stores.{wrote}
 use Rattle.listing.proofs.telling.short_number.Goals as goal
 
 pub returns : goal.returns
-returns c = wrote 10 (rw c.from.ensures at c.number.ensures) c.requires (decimal_short c.args.n (search rules))
+returns c = wrote 10 (rw c.from.ensures at c.number.ensures) (decimal_short c.args.n (search rules))

@@ -2,7 +2,7 @@
 use Rattle.std.proofs.Common.{◌≡◌, ap, ◌∙◌, arith, rules, drop}
 use borrow.Author.Rules.{part_to_end}
 use Rattle.text.proofs.Decimals.{decimal_long}
-use Rattle.text.proofs.Stores.{wrote, wrote_on}
+use Rattle.text.proofs.Stores.{wrote, wrote_then}
 use Rattle.meanings.specs.Refused.{record_words}
 use Rattle.meanings.proofs.Words.{record_short}
 use Rattle.meanings.proofs.records.told.Goals as goal
@@ -14,8 +14,8 @@ returns c =
     let digits = decimal_long c.place.result (search rules) in
     let many = decimal_long offset (search rules) in
     let said : c.what.result.now ≡ record_words (drop offset input) = c.what.ensures ∙ ap record_words (part_to_end input offset) in
-    wrote_on 9 c.letters.ensures (omega (arith, c.requires.roomy)) (omega arith) (λ h.
-    wrote_on 20 (rw c.place.ensures at c.number.ensures) h (rw c.place.ensures at digits) (λ h.
-    wrote_on 2 c.letters-2.ensures h (omega arith) (λ h.
-    wrote_on 20 (rw said at c.letters-3.ensures) h (record_short (drop offset input)) (λ h.
-    wrote_on 10 c.letters-4.ensures h (omega arith) (λ h. wrote 20 c.number-2.ensures h many)))))
+    wrote_then (wrote 9 c.letters.ensures (omega arith))
+    (wrote_then (wrote 20 (rw c.place.ensures at c.number.ensures) (rw c.place.ensures at digits))
+    (wrote_then (wrote 2 c.letters-2.ensures (omega arith))
+    (wrote_then (wrote 20 (rw said at c.letters-3.ensures) (record_short (drop offset input)))
+    (wrote_then (wrote 10 c.letters-4.ensures (omega arith)) (wrote 20 c.number-2.ensures many)))))

@@ -6,4 +6,4 @@ use Rattle.page.proofs.lines.heading.Goals as goal
 
 pub returns : goal.returns
 unfolding shown
-returns c = wrote 75 c.letters.ensures (omega arith) (omega arith)
+returns c = wrote 75 c.letters.ensures (omega arith)

@@ -3,7 +3,7 @@ use Rattle.std.proofs.Common.{arith, rules}
 use mathlib.Core.List.{append-nil}
 use Rattle.text.specs.Text.{decimal}
 use Rattle.text.proofs.Decimals.{decimal_short, decimal_long}
-use Rattle.text.proofs.Stores.{wrote, wrote_on}
+use Rattle.text.proofs.Stores.{wrote, wrote_then}
 use Rattle.page.proofs.lines.refused.Goals as goal
 
 pub returns : goal.returns
@@ -12,6 +12,6 @@ returns c =
     let few = decimal_short refusal.number (search rules) in
     let many = decimal_long refusal.offset (search rules) in
     rw (append-nil (decimal refusal.offset))
-    (wrote_on 8 c.letters.ensures (omega arith) (omega arith) (λ h.
-    wrote_on 10 (rw c.from.ensures at c.number.ensures) h few (λ h.
-    wrote_on 1 c.put.ensures h (omega arith) (λ h. wrote 20 c.number-2.ensures h many))))
+    (wrote_then (wrote 8 c.letters.ensures (omega arith))
+    (wrote_then (wrote 10 (rw c.from.ensures at c.number.ensures) few)
+    (wrote_then (wrote 1 c.put.ensures (omega arith)) (wrote 20 c.number-2.ensures many))))

@@ -26,4 +26,4 @@ returns c =
     ∙ ap (λ k. all_places - k)
     (ap₂ (λ i j. 9 + i + j) number c.digits_of-offset.ensures ∙ sym (refused_length refusal.number refusal.offset)) in
     let long = length-replicate free space in
-    wrote_then (wrote 87 (rw left at c.spaces.ensures) (omega arith) (omega arith)) c.refused.ensures
+    wrote_then (wrote 87 (rw left at c.spaces.ensures) (omega arith)) c.refused.ensures

@@ -6,6 +6,4 @@ use Rattle.page.proofs.lines.sums.Goals as goal
 
 pub returns : goal.returns
 unfolding shown
-returns c =
-    let five = c.counts.ensures.told in
-    wrote_then c.counts.ensures (wrote 24 c.letters.ensures (omega (arith, five.past, five.few)) (omega arith))
+returns c = wrote_then c.counts.ensures (wrote 24 c.letters.ensures (omega arith))
