@@ -11,6 +11,8 @@ use lib.ListN.{length, get_or, take, set}
 use borrow.Author.Tests.{eqb-true, eqb-false, ltb-true, ltb-false, lt-ltb, le-ltb, not-true}
 use Rattle.std.proofs.lemmas.Option.{none-some, cond_some}
 use Rattle.std.specs.Prelude.{Some}
+use Rattle.word.specs.Word.{bit_at}
+use Rattle.word.proofs.Laws.{bit_none}
 use Rattle.rules.specs.Lists.{keep, count, total}
 use Rattle.rules.specs.declared.Discipline.{Discipline}
 use Rattle.rules.specs.declared.Discipline.TheVariants.{PRI, RTDG, RTVC}
@@ -491,3 +493,14 @@ module _ (s : State) (r : Lent s) where
 
     pub nobody_recorded : recorded_in s.segment ≡ no_contenders
     nobody_recorded = recorded_ext (λ j. no_contender) (recorded_in s.segment) r.held.contenders none_contends
+
+  -- nor does any where no bit is set
+  pub none_set : s.segment.contenders ≡ 0 → recorded_in s.segment ≡ no_contenders
+  none_set e =
+      recorded_ext (λ j. no_contender) (recorded_in s.segment) r.held.contenders
+      (λ j l. contender_is_form (recorded_at s.segment j) (r.zeros.contenders j l) ∙ ap contender_form (no_offer j))
+    where
+      no_offer : (j : ℕ) → offer_of (recorded_at s.segment j) ≡ none
+      no_offer j =
+          let place = recorded_at s.segment j in
+          ap (λ t. cond t (some (record { parameter = place.parameter; packet = place.packet })) none) (ap (λ w. bit_at w j) e ∙ bit_none j)

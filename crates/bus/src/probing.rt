@@ -4,7 +4,8 @@ ghost use Rattle.window.specs.Splitting.{in_window};
 ghost use Rattle.word.specs.Word.{word_of};
 ghost use Rattle.rules.specs.SetUp.{discipline_of};
 ghost use Rattle.bus.specs.Parts.{addresses_of, transmitters_of, answer_at, went_on, split_of, collided_on, unheard_on, round_after, won_on, moved_by, with_moved, stepped_to, probed_slot};
-ghost use Rattle.state.specs.State.{Held, standing};
+ghost use Rattle.state.specs.State.{Held, standing, recorded_in};
+ghost use Rattle.state.specs.Parts.{no_contenders};
 
 use crate::{Answer, Event, Leaving, Moved, Phase, Progress, waiting};
 use rules::{Discipline, Packet, Slot};
@@ -293,8 +294,9 @@ pub fn moved(
     collided(settings.a, progress, drops)
 }
 
-// What a probe has moved, stored; no contenders where the contention has ended.
+// What a probe has moved, stored; no contenders where the contention has ended. Where none is recorded no row is cleared.
 fn store(g: &mut Segment, m: Moved)
+    requires { g.old.contenders ≡ 0 → recorded_in g.old ≡ no_contenders }
     ensures { g.new ≡ with_moved g.old m }
 {
     let answer = m.answer;
@@ -304,7 +306,7 @@ fn store(g: &mut Segment, m: Moved)
     g.round = progress.round;
     g.contention = progress.contention;
     // 'Contenders stay recorded until the contention ends.'
-    if answer.ended {
+    if answer.ended && g.contenders != 0 {
         g.contenders = 0;
         g.parameters = [0; 64];
         g.numbers = [0; 64];

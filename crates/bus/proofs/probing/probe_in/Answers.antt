@@ -7,7 +7,7 @@ use Rattle.bus.specs.Parts.{stepped_to, transmitters_of, transmitters_in, Moved,
 use Rattle.bus.specs.Coded.{Success}
 use Rattle.state.proofs.Stands.{Lent, lent_held, few_packets}
 use Rattle.bus.proofs.HeardLaws.{lowest_in, counted!, sole_taken, sole_left}
-use Rattle.bus.proofs.BeginningLaws.{all_formed}
+use Rattle.bus.proofs.BeginningLaws.{all_formed, none_set}
 use Rattle.bus.proofs.InPlace.{whole, may_move, is_success, none_success, winner_placed, probed_sent, probed_unsent}
 use Rattle.bus.proofs.probing.probe_in.Goals as goal
 use Rattle.bus.proofs.probing.probe_in.Goals.{After-count-heard, After-lowest-place, Joined-heard-eq1, then-heard-eq1, else-heard-eq1}
@@ -142,3 +142,6 @@ returns-else-eq-clause-probed c =
     ap (λ (x : Segment). stepped_to m.answer (whole x (s at.before).queues)) c.store.ensures
     ∙ probed_unsent (g at.before) (s at.before).queues c.args.drops (r at.before) c.requires.begun (sole at) (sole! at) m (moved_as at m c.moved-moved.ensures)
     (none_success _ c.eq.ensures c.if-eq.false)
+
+pub store-requires : goal.store-requires
+store-requires c = none_set (s (goal.at.store-requires c).After-count-heard) (r (goal.at.store-requires c).After-count-heard)
