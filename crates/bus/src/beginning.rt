@@ -68,6 +68,7 @@ fn offers_of(g: Segment, queues: Queues) -> Segment
     next.values = none;
     next.lengths = none;
     next.admissions = admissions;
+    // By place: a station is a place of seven rows, and a bit.
     for i in 0..n {
         let l = listed[i];
         let length = queues.lengths[i];
@@ -141,6 +142,7 @@ fn offer_all(s: &mut State) -> bool
     let round = s.segment.round;
     let n = settings.n;
     let mut late = false;
+    // By place: a station is a place of seven rows, and a bit.
     for i in 0..n {
         let l = s.segment.listed[i];
         let length = s.queues.lengths[i];
@@ -151,6 +153,7 @@ fn offer_all(s: &mut State) -> bool
         let looked = offering::looked_at(settings.discipline, length);
         let mut place = first;
         let mut least = offering::rank(s.queues.packets[first]);
+        // By place, which is what is carried.
         for j in 1..looked {
             let at = first + j;
             let rank = offering::rank(s.queues.packets[at]);
@@ -203,11 +206,9 @@ fn contending(contenders: u64, listed: [Listed; 64]) -> [Address; 64]
     ensures { result ≡ contending_of contenders listed }
 {
     let mut addresses = [Address(0); 64];
-    for i in 0..64 {
+    for (i, l) in listed.iter().enumerate() {
         if word::test(contenders, i) {
-            let l = listed[i];
-            let address = l.address;
-            addresses[i] = address;
+            addresses[i] = l.address;
         }
     }
     addresses

@@ -15,6 +15,7 @@ fn station_of(listed: &[Listed; 64], n: usize, address: Address) -> usize
     requires { n ≤ 64 }
     ensures { result ≡ first_place (λ i. eqb address.0 (get_or listed.now i nobody).address.0) 0 n }
 {
+    // By place: over `listed[..n]` it was tried, and the proof that such a slice has n places did not close.
     for i in 0..n {
         let s = listed[i];
         if sorts::same_address(address, s.address) {

@@ -184,7 +184,8 @@ pub struct Totals {
 // The types of the private functions: several modules name them, and a type and a function whose names differ in case alone cannot stand in
 // one module.
 
-// Which packets leave a queue: in a discipline, those whose latest start is below a slot; or the one with a number.
+// Which packets leave a queue: in a discipline, those whose latest start is below a slot; or the one with a number. A value, so that the contract
+// of `close_up` names those that stay; of a closure it would ask that it be callable, and what it answers, at each packet: no plainer.
 #[derive(Clone, Copy)]
 enum Leaving {
     Late(u32, Slot),

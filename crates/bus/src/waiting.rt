@@ -34,6 +34,7 @@ pub fn close_up(queues: &mut Queues, place: usize, leaving: Leaving)
     let length = queues.lengths[place];
     let first = 16 * place;
     let mut filled = 0;
+    // By place: a packet that stays moves to another place of the row that is gone over.
     for j in 0..length {
         let at = first + j;
         let p = queues.packets[at];

@@ -20,7 +20,7 @@ Written contenders listed addresses i =
     × ((j : ℕ) → i ≤ j → j < 64 → get_or addresses j zero_address ≡ zero_address)
 
 abbrev pub invariant-loop-i : goal.invariant-loop-i
-invariant-loop-i l = (l.i ≤ 64) × Written l.contenders l.listed l.addresses l.i
+invariant-loop-i l = (l.i ≤ 64) × Written l.contenders l.fn.listed l.addresses l.i
 
 abbrev pub decreases-loop-i : goal.decreases-loop-i
 decreases-loop-i l = 64 - l.i
