@@ -11,5 +11,5 @@ pub use Rattle.state.specs.declared.Round.{Round}
 pub use Rattle.state.specs.declared.Segment.{Segment}
 pub use Rattle.state.specs.declared.Queues.{Queues}
 pub use Rattle.state.specs.declared.State.{State}
-pub use Rattle.state.specs.declared.Queue.{Queue}
+pub use Rattle.state.specs.Parts.{Queue}
 pub use Rattle.state.specs.declared.Arrival.{Arrival}

@@ -11,7 +11,6 @@ use Rattle.rules.specs.Refusals.{number_of}
 use Rattle.rules.specs.SetUp.{fine, fault, capability_outside, discipline_of}
 use Rattle.rules.specs.Standing.{packet_fits, rising, same_packet}
 use Rattle.state.specs.State.{Capability, Settings, Listed, Contender, Recorded, Contention, Round, Segment, Queues, State, Packet, no_packet, no_contender, recorded_at, recorded, no_contention, no_round, nobody, places_at, queue_at, row, has_no_packet, queue_padded, contender_padded, round_padded, contention_padded, each_place}
-pub use Rattle.state.specs.declared.Queue.{Queue}
 pub use Rattle.state.specs.declared.Fault.{Fault}
 
 -- ---- a contender
@@ -23,6 +22,11 @@ parameter_fits RTDG capability c = true
 parameter_fits RTVC capability c = eqb c.parameter capability.0
 
 -- ---- one station's queue
+
+-- its first `length` places are filled, the others zero
+pub record Queue : Type 0 where
+  pub packets : List Packet
+  pub length : ℕ
 
 -- the queue of station i, taken out of the row
 abbrev pub queue_of : Queues → ℕ → Queue

@@ -107,13 +107,6 @@ pub struct State {
     pub queues: Queues,
 }
 
-// One station's queue: its first `length` places are filled, the others zero.
-#[derive(Clone, Copy)]
-pub struct Queue {
-    pub packets: [Packet; 16],
-    pub length: usize,
-}
-
 // A set-up's answer, and the state, which a refused one has too: `set_up_result`.
 #[derive(Clone, Copy)]
 pub struct SetUp {
