@@ -98,7 +98,7 @@ pub fn named(out: &mut Writer, name: &[u8])
     out.put(b'\n');
 }
 
-// The same where the name is a number.
+// The same where the name is a number, which is written in its place: a name's bytes would need room of their own first.
 fn numbered(out: &mut Writer, n: u64)
     ensures { Wrote out.old out.new (namedText (decimal n)) 23 }
 {
@@ -159,7 +159,7 @@ fn counted(place: usize) -> u64
     place.min(MOST_RUNS - 1) as u64 + 1
 }
 
-// The line of the highest loss, with the run's place for a name.
+// The line of the highest loss, with the run's place for a name; a closure for what comes last would be longer than the two arms.
 pub fn highest_placed(out: &mut Writer, highest: Option<Placed>)
     ensures { Wrote out.old out.new (highest_text highest (name_of highest)) 77 }
 {

@@ -1,5 +1,6 @@
 // Bytes of text in room that is lent. Each function that writes stores its text from an offset on and hands out the offset past it; a text
-// that does not fit is not stored at all, and the offset comes back as it was. Every function takes any input.
+// that does not fit is not stored at all, and the offset comes back as it was. Every function takes any input. `put`, `letters`, `spaces` and
+// `number` are public, so that each takes the room and the offset by themselves; a `Writer` holds the two together.
 #![tactic(auto)]
 
 ghost use Rattle.std.specs.Prelude.{◌+◌, ◌<◌, ◌≡◌, [], ◌∷◌, leb, length, replicate};
@@ -72,7 +73,7 @@ fn digit(d: u64) -> u8
     48 + d as u8
 }
 
-// A number in decimal, from its last digit on.
+// A number in decimal, from its last digit on: what has been stored is told by the place of the digit, which counts back.
 pub fn number(room: &mut [u8; 65536], at: usize, n: u64) -> usize
     ensures value { result ≡ past at (decimal n) }
     ensures room_after { room.new ≡ stored room.old at (decimal n) }
