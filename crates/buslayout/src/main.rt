@@ -123,7 +123,9 @@ fn scenario_space() -> [u8; 65537]
 }
 
 // Whether the input, of which so many bytes were read into so much space, was read without a failure: they fill the space, or a further read
-// finds the end there. Each program has this for itself: no contract can say what a file gives, so that a library of it would promise nothing.
+// finds the end there.
+// Each program has this, and what it says of a failure, for itself: no contract can say what a file gives or takes, so that a library of them
+// would promise nothing.
 fn is_read(rt: &HostRuntime, got: usize, space: usize) -> bool {
     let mut more = [0u8; 1];
     got == space || matches!(rt.stdin().read(&mut more), Ok(0))

@@ -84,7 +84,8 @@ fn space() -> [u8; 65537]
 }
 
 // Whether the input, of which so many bytes were read, was read without a failure: they fill the space, or a further read finds the end there.
-// Each program has this for itself: no contract can say what a file gives, so that a library of it would promise nothing.
+// Each program has this, and what it says of a failure, for itself: no contract can say what a file gives or takes, so that a library of them
+// would promise nothing.
 fn is_read(rt: &HostRuntime, got: usize) -> bool {
     let mut more = [0u8; 1];
     got == SPACE || matches!(rt.stdin().read(&mut more), Ok(0))

@@ -24,9 +24,6 @@ const SPACE: usize = 65_537;
 // Where the name of a file is no UTF-8, the file is open at this descriptor and as many more as its argument's place (tools/run sees to it).
 const HANDED: usize = 600;
 
-// '23: over 256 runs'
-const TOO_MANY: u32 = 23;
-
 // What becomes of a file: its scenario's run, or what refuses it; nothing where the file cannot be read.
 type Outcome = Option<Result<Run, Refused>>;
 
@@ -70,7 +67,7 @@ fn say_refused(name: &[u8], input: &[u8], refused: Refused) {
 fn say_too_many() {
     let mut room = io::large_buffer();
     let named = text::letters(&mut room, 0, b"refused, number 23: ");
-    let end = meanings::meaning(&mut room, named, TOO_MANY);
+    let end = meanings::meaning(&mut room, named, u32::from(sheet::Refused::TooMany));
     say(&room[..end]);
 }
 
@@ -94,7 +91,8 @@ fn space() -> [u8; 65537]
 }
 
 // Whether a file of which so many bytes were read was read without a failure: they fill the space, or a further read finds the end there.
-// Each program has this for itself: no contract can say what a file gives, so that a library of it would promise nothing.
+// Each program has this, and what it says of a failure, for itself: no contract can say what a file gives or takes, so that a library of them
+// would promise nothing.
 fn is_read(file: &mut fs::File, got: usize) -> bool {
     let mut more = [0u8; 1];
     got == SPACE || matches!(file.read(&mut more), Ok(0))
@@ -255,7 +253,7 @@ fn is_argument(rt: &HostRuntime, i: usize) -> bool {
     !matches!(rt.arg(i, &mut first), Err(FillError::NotPresent))
 }
 
-// How many files are named: the first argument is the program's own name.
+// How many files are named: the first argument is the program's own name. The library hands arguments out by their numbers.
 fn file_count(rt: &HostRuntime) -> usize {
     for i in 0..usize::MAX {
         if !is_argument(rt, i + 1) {

@@ -23,7 +23,7 @@ fn wait_told(report: Report) -> u32
     }
 }
 
-// The longer of two waits.
+// The longer of two waits, under the name that the definitions have for it.
 #[tactic(auto, using(crate::proofs::Waits::max_longer))]
 fn longer(first: u32, second: u32) -> u32
     ensures { result ≡ longer first second }
@@ -41,7 +41,8 @@ fn longest_in(reports: &[Report], before: u32) -> u32
     )
 }
 
-// The run from a state on, by the arrivals that stand in the input from an offset on and the steps that are left.
+// The run from a state on, by the arrivals that stand in the input from an offset on and the steps that are left: a stretch of calls a turn. That
+// the counts have 32 bits is proved (`totals_fit` of proofs/Finishing).
 fn played(input: &[u8], from: State, first: usize, most: u32) -> Run
     ensures { Finishes input.now from first most 0 result }
 {

@@ -1,6 +1,8 @@
 // The records of a scenario as bytes in room that is lent, from an offset on: 'a two-byte length (of what follows it), a two-byte kind, a body,
 // all little-endian'. Each function hands out the offset past what it stored; what does not fit is not stored at all, and the offset comes back
 // as it was. A number above what its field holds is cut to its low bytes. Every function takes any input.
+// The room and the offset come apart, as `whole_stored` of proofs/Promises puts the parts of a scenario together, and the stations and arrivals
+// in the arrays that their owner has, since nothing here allocates.
 #![tactic(auto)]
 
 ghost use Rattle.std.specs.Prelude.{◌≤◌, ◌≡◌, ◌++◌, length, map, take};

@@ -153,7 +153,7 @@ fn read_ending(input: &[u8], from: usize) -> Result<u32, Refused>
     read_run(input, pass_arrivals(input, from)?)
 }
 
-// The outcome of a set-up by the number in its answer.
+// The outcome of a set-up by the number in its answer, as `Verdict` of the rules has it.
 fn outcome(number: u32) -> Result<(), Refusal>
     requires { number ≤ 10 }
     ensures { answered result ≡ number }
