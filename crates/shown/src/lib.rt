@@ -6,10 +6,12 @@ ghost use Rattle.std.specs.Prelude.{◌≤◌, ◌≡◌, drop};
 ghost use Rattle.text.specs.Room.{room_bytes, room_with};
 ghost use Rattle.scenario.specs.Format.{read_record};
 ghost use Rattle.shown.specs.Shown.{line_of, shown_at, shown_form};
-ghost use Rattle.shown.specs.Parts.{LineTold};
+ghost use Rattle.text.specs.Parts.{roomy};
+ghost use Rattle.shown.specs.Parts.{most_line, LineWrote};
 
 use scenario::{ARRIVAL_BYTES, Record};
 use state::Settings;
+use text::Writer;
 
 mod lines;
 
@@ -18,6 +20,9 @@ const SET_UP_BYTES: usize = 16;
 
 const STATION_BYTES: usize = 8;
 
+// The next offset after the run, which is the last record.
+const AFTER_RUN: usize = 0;
+
 // What is shown of a record: how many bytes its line has, at the start of the room, and the offset of the next record; or 0 and 0.
 #[derive(Clone, Copy)]
 pub struct Shown {
@@ -25,29 +30,31 @@ pub struct Shown {
     pub next: usize,
 }
 
-// The record at an offset of an input whose set-up has these numbers. Of the run the next offset is 0.
-fn line(input: &[u8], at: usize, settings: Settings, room: &mut [u8; 65536]) -> Shown
-    ensures { LineTold room.old room.new result (line_of settings at (read_record (drop at input.now))) }
+// Stores the line of the record at an offset of an input whose set-up has these numbers; the offset of the next record. Of the run, which is
+// the last, and of a record that is refused it is 0.
+fn line(out: &mut Writer, input: &[u8], at: usize, settings: Settings) -> usize
+    requires { roomy out.old.at most_line }
+    ensures { LineWrote out.old out.new result (line_of settings at (read_record (drop at input.now))) }
 {
     let Ok(found) = scenario::record_at(input, at) else {
-        return Shown { length: 0, next: 0 };
+        return 0;
     };
     match found {
-        Record::SetUp(own) => Shown {
-            length: lines::bus(room, own),
-            next: at + SET_UP_BYTES,
+        Record::SetUp(own) => {
+            lines::bus(out, own);
+            at + SET_UP_BYTES
         },
-        Record::Station(station) => Shown {
-            length: lines::station(room, settings, station),
-            next: at + STATION_BYTES,
+        Record::Station(station) => {
+            lines::station(out, settings, station);
+            at + STATION_BYTES
         },
-        Record::Arrival(arrival) => Shown {
-            length: lines::arrival(room, settings, arrival),
-            next: at + ARRIVAL_BYTES,
+        Record::Arrival(arrival) => {
+            lines::arrival(out, settings, arrival);
+            at + ARRIVAL_BYTES
         },
-        Record::Run(steps) => Shown {
-            length: lines::run(room, steps),
-            next: 0,
+        Record::Run(steps) => {
+            lines::run(out, steps);
+            AFTER_RUN
         },
     }
 }
@@ -62,5 +69,10 @@ pub fn show(input: &[u8], at: usize, room: &mut [u8; 65536]) -> Shown
     let Ok(Record::SetUp(settings)) = scenario::record_at(input, 0) else {
         return Shown { length: 0, next: 0 };
     };
-    line(input, at, settings, room)
+    let mut out = Writer { room, at: 0 };
+    let next = line(&mut out, input, at, settings);
+    Shown {
+        length: out.at,
+        next,
+    }
 }

@@ -1,8 +1,7 @@
-// The line of each record, written into room that the caller lends. A function that writes a part of a line starts at an offset and hands
-// out the offset after its text; one that writes a line starts at 0 and hands out how many bytes the line has.
+// The line of each record, stored by a writer that has room for it: each function asks for the room of its own text.
 ghost use Rattle.std.specs.Prelude.{◌≤◌, ◌<◌, ◌≡◌, [], ◌∷◌, ◌++◌, length};
 ghost use Rattle.text.specs.Text.{decimal};
-ghost use Rattle.text.specs.Parts.{Told, roomy};
+ghost use Rattle.text.specs.Parts.{Wrote, roomy};
 ghost use Rattle.rules.specs.SetUp.{discipline_of};
 ghost use Rattle.state.specs.SetUp.{asked_of};
 ghost use Rattle.layout.specs.Layout.{address_label};
@@ -10,118 +9,115 @@ ghost use Rattle.words.specs.Words.{hex_digit};
 ghost use Rattle.shown.specs.Shown.{discipline_name, fields_text, fits_ranges, arrival_word, bus_text, station_text, arrival_text, run_text};
 ghost use Rattle.shown.specs.Parts.{most_line};
 
+use rules::Discipline;
 use sorts::disciplines;
 use state::{Arrival, Listed, Settings};
+use text::Writer;
 
 // Words, and a number in decimal after them.
-fn field(room: &mut [u8; 65536], at: usize, words: &[u8], n: u32) -> usize
+fn field(out: &mut Writer, words: &[u8], n: u32)
     requires words_len_bound { length words.now ≤ 12 }
-    requires roomy { roomy at 22 }
-    ensures { Told room.old room.new at result (words.now ++ decimal n) 22 }
+    requires roomy { roomy out.old.at 22 }
+    ensures { Wrote out.old out.new (words.now ++ decimal n) 22 }
 {
-    let written = text::letters(room, at, words);
-    text::number(room, written, n as u64)
+    out.letters(words);
+    out.number(u64::from(n));
 }
 
 // A digit, capital where it is a letter.
-fn digit(room: &mut [u8; 65536], at: usize, d: u32) -> usize
-    requires d_bound { d < 16 }
-    requires roomy { roomy at 1 }
-    ensures { Told room.old room.new at result (hex_digit d ∷ []) 1 }
+fn digit(d: u32) -> u8
+    requires { d < 16 }
+    ensures { result ≡ hex_digit d }
 {
-    if d < 10 {
-        return text::put(room, at, 48 + d as u8);
-    }
-    text::put(room, at, 55 + d as u8)
+    if d < 10 { b'0' + d as u8 } else { 55 + d as u8 }
 }
 
 // The word before an address, and the address as a label.
-fn address(room: &mut [u8; 65536], at: usize, n: u32) -> usize
-    requires { roomy at 15 }
-    ensures { Told room.old room.new at result (fields_text (address_label ∷ []) (n ∷ [])) 15 }
+fn address(out: &mut Writer, n: u32)
+    requires { roomy out.old.at 15 }
+    ensures { Wrote out.old out.new (fields_text (address_label ∷ []) (n ∷ [])) 15 }
 {
-    let word = text::letters(room, at, b" address 0x");
-    let first = digit(room, word, n / 4_096 % 16);
-    let second = digit(room, first, n / 256 % 16);
-    let third = digit(room, second, n / 16 % 16);
-    digit(room, third, n % 16)
+    out.letters(b" address 0x");
+    out.put(digit(n / 4_096 % 16));
+    out.put(digit(n / 256 % 16));
+    out.put(digit(n / 16 % 16));
+    out.put(digit(n % 16));
 }
 
 // The name of a discipline.
-fn discipline(room: &mut [u8; 65536], at: usize, discipline: u32) -> usize
-    requires { roomy at 4 }
-    ensures { Told room.old room.new at result (discipline_name (discipline_of discipline)) 4 }
+fn name_of(discipline: Discipline) -> &'static [u8]
+    ensures value { result.now ≡ discipline_name discipline }
+    ensures upper_bound { length result.now ≤ 4 }
 {
-    if discipline == disciplines::PRI {
-        return text::letters(room, at, b"PRI");
+    match discipline {
+        Discipline::PRI => b"PRI",
+        Discipline::RTDG => b"RTDG",
+        Discipline::RTVC => b"RTVC",
     }
-    if discipline == disciplines::RTDG {
-        return text::letters(room, at, b"RTDG");
-    }
-    text::letters(room, at, b"RTVC")
 }
 
 // The line of a set-up.
-pub fn bus(room: &mut [u8; 65536], settings: Settings) -> usize
-    ensures { Told room.old room.new 0 result (bus_text settings) most_line }
+pub fn bus(out: &mut Writer, settings: Settings)
+    requires { roomy out.old.at most_line }
+    ensures { Wrote out.old out.new (bus_text settings) most_line }
 {
-    let word = text::letters(room, 0, b"bus ");
-    let named = discipline(room, word, settings.discipline);
-    let d = field(room, named, b" D ", settings.d);
-    let a = field(room, d, b" A ", settings.a);
-    let q = field(room, a, b" q ", settings.q);
-    text::put(room, q, b'\n')
+    out.letters(b"bus ");
+    out.letters(name_of(Discipline::from(settings.discipline)));
+    field(out, b" D ", settings.d);
+    field(out, b" A ", settings.a);
+    field(out, b" q ", settings.q);
+    out.put(b'\n');
 }
 
-// The line of a station.
-pub fn station(room: &mut [u8; 65536], settings: Settings, station: Listed) -> usize
-    ensures { Told room.old room.new 0 result (station_text settings (asked_of station)) most_line }
+// The line of a station: its capability in RTVC alone.
+pub fn station(out: &mut Writer, settings: Settings, station: Listed)
+    requires { roomy out.old.at most_line }
+    ensures { Wrote out.old out.new (station_text settings (asked_of station)) most_line }
 {
-    let word = text::letters(room, 0, b"station");
-    let placed = address(room, word, station.address.0);
+    out.letters(b"station");
+    address(out, station.address.0);
     if settings.discipline == disciplines::RTVC {
-        let able = field(room, placed, b" capability ", station.capability.0);
-        return text::put(room, able, b'\n');
+        field(out, b" capability ", station.capability.0);
+        out.put(b'\n');
+        return;
     }
-    text::put(room, placed, b'\n')
+    out.put(b'\n');
 }
 
 // Whether an arrival's value and length are in their ranges.
 fn fits(settings: Settings, arrival: Arrival) -> bool
     ensures { result ≡ fits_ranges settings arrival }
 {
-    if !disciplines::value_fits(settings.discipline, settings.d, arrival.value) {
-        return false;
-    }
-    disciplines::length_fits(arrival.length)
+    disciplines::value_fits(settings.discipline, settings.d, arrival.value)
+        && disciplines::length_fits(arrival.length)
 }
 
 // The word that the line of an arrival begins with.
-fn arrival_word(room: &mut [u8; 65536], fits: bool) -> usize
-    ensures { Told room.old room.new 0 result (arrival_word fits) 7 }
+fn arrival_word(fits: bool) -> &'static [u8]
+    ensures value { result.now ≡ arrival_word fits }
+    ensures upper_bound { length result.now ≤ 7 }
 {
-    if fits {
-        return text::letters(room, 0, b"arrival");
-    }
-    text::letters(room, 0, b"attempt")
+    if fits { b"arrival" } else { b"attempt" }
 }
 
 // The line of an arrival.
-pub fn arrival(room: &mut [u8; 65536], settings: Settings, arrival: Arrival) -> usize
-    ensures { Told room.old room.new 0 result (arrival_text settings arrival) most_line }
+pub fn arrival(out: &mut Writer, settings: Settings, arrival: Arrival)
+    requires { roomy out.old.at most_line }
+    ensures { Wrote out.old out.new (arrival_text settings arrival) most_line }
 {
-    let word = arrival_word(room, fits(settings, arrival));
-    let timed = field(room, word, b" time ", arrival.time.0);
-    let placed = address(room, timed, arrival.address.0);
-    let valued = field(room, placed, b" value ", arrival.value);
-    let long = field(room, valued, b" length ", arrival.length);
-    text::put(room, long, b'\n')
+    out.letters(arrival_word(fits(settings, arrival)));
+    field(out, b" time ", arrival.time.0);
+    address(out, arrival.address.0);
+    field(out, b" value ", arrival.value);
+    field(out, b" length ", arrival.length);
+    out.put(b'\n');
 }
 
 // The line of the run.
-pub fn run(room: &mut [u8; 65536], steps: u32) -> usize
-    ensures { Told room.old room.new 0 result (run_text steps) most_line }
+pub fn run(out: &mut Writer, steps: u32)
+    requires { roomy out.old.at most_line }
+    ensures { Wrote out.old out.new (run_text steps) most_line }
 {
-    let counted = field(room, 0, b"run steps ", steps);
-    text::put(room, counted, b'\n')
+    field(out, b"run steps ", steps);
+    out.put(b'\n');
 }

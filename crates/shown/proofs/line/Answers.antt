@@ -9,4 +9,4 @@ returns-in-Arrival c =
     let args = c.args in
     line_said args.settings args.at
     (ap (λ r. said (Ok r)) (sym c.in-Arrival.is) ∙ c.in-Ok.ensures)
-    (record { next = refl; told = c.arrival.ensures })
+    (record { next = refl; wrote = c.arrival.ensures })

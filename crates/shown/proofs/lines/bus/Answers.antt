@@ -1,17 +1,20 @@
 -- `lines::bus` meets its contract: the word, the discipline, three numbers and the newline.
-use Rattle.std.proofs.Common.{arith}
-use Rattle.text.specs.Text.{bytes}
-use Rattle.text.proofs.Stores.{told_none, told_then}
-use Rattle.shown.proofs.Storing.{told_here, closed}
+use Rattle.std.proofs.Common.{◌≡◌, ap, ◌∙◌, arith}
+use Rattle.rules.specs.SetUp.{discipline_of}
+use Rattle.text.proofs.Stores.{wrote, wrote_then}
+use Rattle.shown.specs.Shown.{discipline_name}
+use Rattle.shown.proofs.Storing.{wrote_none, closed}
 use Rattle.shown.proofs.lines.bus.Goals as goal
 
 pub returns : goal.returns
 returns c =
-    let args = c.args in
-    let bus = told_here args.room.now 0 (bytes "bus ") (omega arith) (c.letters-word.ensures.value, c.letters-word.ensures.room_after) in
+    let said : c.name_of.result.now ≡ discipline_name (discipline_of c.args.settings.discipline) = c.name_of.ensures.value ∙ ap discipline_name c.from.ensures in
+    let word = wrote 4 c.letters.ensures (omega (arith, c.requires)) (omega arith) in
+    let name = wrote 4 (rw said at c.letters-2.ensures) (omega (arith, word.told.past, c.requires)) (rw said at c.name_of.ensures.upper_bound) in
     closed
-    (told_then
-    (told_then bus c.discipline-named.ensures)
-    (told_then c.field-d.ensures (told_then c.field-a.ensures (told_then c.field-q.ensures (told_none _ _ 0)))))
+    (wrote_then
+    (wrote_then word name)
+    (wrote_then c.field.ensures (wrote_then c.field-2.ensures (wrote_then c.field-3.ensures (wrote_none _)))))
+    c.requires
     (omega arith)
-    (c.put.ensures.value, c.put.ensures.room_after)
+    c.put.ensures
