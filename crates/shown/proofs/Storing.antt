@@ -1,5 +1,5 @@
 -- Lines in room that is lent, put together from what the calls store. Assumes nothing.
-use Prim.Native.Nat.{ℕ, suc, ◌≤◌}
+use Prim.Native.Nat.{ℕ, ◌+◌, ◌≤◌}
 use mathlib.Core.Path.{◌≡◌, refl, subst}
 use mathlib.Core.Bool.{cond}
 use mathlib.Core.List.{List, [], ◌∷◌, ◌++◌}
@@ -12,7 +12,7 @@ use Rattle.scenario.specs.declared.Record.TheVariants as Is
 use Rattle.scenario.specs.Format.{set_up_kind, Said, said, read_record}
 use Rattle.scenario.specs.Reading.{settings_from}
 use Rattle.text.specs.Text.{newline}
-use Rattle.text.specs.Parts.{Wrote, Stores, roomy}
+use Rattle.text.specs.Parts.{Wrote, Stores}
 use Rattle.text.specs.declared.Writer.{Writer}
 use Rattle.text.proofs.Stores.{told_none, wrote, wrote_then, wrote_within}
 use Rattle.shown.specs.Shown.{Line, line_then, line_of, shown_at}
@@ -20,14 +20,13 @@ use Rattle.shown.specs.Parts.{most_line, LineWrote}
 
 -- nothing
 pub wrote_none : (a : Writer) → Wrote a a [] 0
-wrote_none a = record { told = told_none a.room.now a.at 0; same = refl }
+wrote_none a = record { told = λ h. told_none a.room.now a.at 0; same = refl }
 
 -- words with the newline after them are a line
 pub closed :
-    {a b c : Writer} {x : List ℕ} {p : ℕ} → Wrote a b x p → roomy a.at most_line → suc p ≤ most_line → Stores b c (newline ∷ [])
+    {a b c : Writer} {x : List ℕ} {p : ℕ} → Wrote a b x p → p + 1 ≤ most_line → Stores b c (newline ∷ [])
     → Wrote a c (x ++ (newline ∷ [])) most_line
-closed {a} {b} words room h end =
-    wrote_within (wrote_then words (wrote 1 end (omega (arith, words.told.past, words.told.few, room)) (omega arith))) (omega arith)
+closed words h end = wrote_within (wrote_then words (wrote 1 end (omega arith))) h
 
 -- the line of what was found is that of what the record says
 pub line_said :

@@ -6,8 +6,7 @@ ghost use Rattle.std.specs.Prelude.{◌≤◌, ◌≡◌, drop};
 ghost use Rattle.text.specs.Room.{room_bytes, room_with};
 ghost use Rattle.scenario.specs.Format.{read_record};
 ghost use Rattle.shown.specs.Shown.{line_of, shown_at, shown_form};
-ghost use Rattle.text.specs.Parts.{roomy};
-ghost use Rattle.shown.specs.Parts.{most_line, LineWrote};
+ghost use Rattle.shown.specs.Parts.{LineWrote};
 
 use scenario::{ARRIVAL_BYTES, Record};
 use state::Settings;
@@ -33,7 +32,6 @@ pub struct Shown {
 // Stores the line of the record at an offset of an input whose set-up has these numbers; the offset of the next record. Of the run, which is
 // the last, and of a record that is refused it is 0.
 fn line(out: &mut Writer, input: &[u8], at: usize, settings: Settings) -> usize
-    requires { roomy out.old.at most_line }
     ensures { LineWrote out.old out.new result (line_of settings at (read_record (drop at input.now))) }
 {
     let Ok(found) = scenario::record_at(input, at) else {

@@ -1,7 +1,7 @@
-// The line of each record, stored by a writer that has room for it: each function asks for the room of its own text.
+// The line of each record, stored by a writer: each function says of how many bytes its text is at the most.
 ghost use Rattle.std.specs.Prelude.{◌≤◌, ◌<◌, ◌≡◌, [], ◌∷◌, ◌++◌, length};
 ghost use Rattle.text.specs.Text.{decimal};
-ghost use Rattle.text.specs.Parts.{Wrote, roomy};
+ghost use Rattle.text.specs.Parts.{Wrote};
 ghost use Rattle.rules.specs.SetUp.{discipline_of};
 ghost use Rattle.state.specs.SetUp.{asked_of};
 ghost use Rattle.layout.specs.Layout.{address_label};
@@ -16,8 +16,7 @@ use text::Writer;
 
 // Words, and a number in decimal after them.
 fn field(out: &mut Writer, words: &[u8], n: u32)
-    requires words_len_bound { length words.now ≤ 12 }
-    requires roomy { roomy out.old.at 22 }
+    requires { length words.now ≤ 12 }
     ensures { Wrote out.old out.new (words.now ++ decimal n) 22 }
 {
     out.letters(words);
@@ -34,7 +33,6 @@ fn digit(d: u32) -> u8
 
 // The word before an address, and the address as a label.
 fn address(out: &mut Writer, n: u32)
-    requires { roomy out.old.at 15 }
     ensures { Wrote out.old out.new (fields_text (address_label ∷ []) (n ∷ [])) 15 }
 {
     out.letters(b" address 0x");
@@ -58,7 +56,6 @@ fn name_of(discipline: Discipline) -> &'static [u8]
 
 // The line of a set-up.
 pub fn bus(out: &mut Writer, settings: Settings)
-    requires { roomy out.old.at most_line }
     ensures { Wrote out.old out.new (bus_text settings) most_line }
 {
     out.letters(b"bus ");
@@ -71,7 +68,6 @@ pub fn bus(out: &mut Writer, settings: Settings)
 
 // The line of a station: its capability in RTVC alone.
 pub fn station(out: &mut Writer, settings: Settings, station: Listed)
-    requires { roomy out.old.at most_line }
     ensures { Wrote out.old out.new (station_text settings (asked_of station)) most_line }
 {
     out.letters(b"station");
@@ -102,7 +98,6 @@ fn arrival_word(fits: bool) -> &'static [u8]
 
 // The line of an arrival.
 pub fn arrival(out: &mut Writer, settings: Settings, arrival: Arrival)
-    requires { roomy out.old.at most_line }
     ensures { Wrote out.old out.new (arrival_text settings arrival) most_line }
 {
     out.letters(arrival_word(fits(settings, arrival)));
@@ -115,7 +110,6 @@ pub fn arrival(out: &mut Writer, settings: Settings, arrival: Arrival)
 
 // The line of the run.
 pub fn run(out: &mut Writer, steps: u32)
-    requires { roomy out.old.at most_line }
     ensures { Wrote out.old out.new (run_text steps) most_line }
 {
     field(out, b"run steps ", steps);

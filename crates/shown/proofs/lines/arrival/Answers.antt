@@ -8,11 +8,10 @@ use Rattle.shown.proofs.lines.arrival.Goals as goal
 pub returns : goal.returns
 returns c =
     let said : c.arrival_word.result.now ≡ arrival_word (fits_ranges c.args.settings c.args.arrival) = c.arrival_word.ensures.value ∙ ap arrival_word c.fits.ensures in
-    let word = wrote 7 (rw said at c.letters.ensures) (omega (arith, c.requires)) (rw said at c.arrival_word.ensures.upper_bound) in
+    let word = wrote 7 (rw said at c.letters.ensures) (rw said at c.arrival_word.ensures.upper_bound) in
     closed
     (wrote_then
     word
     (wrote_then c.field.ensures (wrote_then c.address.ensures (wrote_then c.field-2.ensures (wrote_then c.field-3.ensures (wrote_none _))))))
-    c.requires
     (omega arith)
     c.put.ensures

@@ -9,12 +9,11 @@ use Rattle.shown.proofs.lines.bus.Goals as goal
 pub returns : goal.returns
 returns c =
     let said : c.name_of.result.now ≡ discipline_name (discipline_of c.args.settings.discipline) = c.name_of.ensures.value ∙ ap discipline_name c.from.ensures in
-    let word = wrote 4 c.letters.ensures (omega (arith, c.requires)) (omega arith) in
-    let name = wrote 4 (rw said at c.letters-2.ensures) (omega (arith, word.told.past, c.requires)) (rw said at c.name_of.ensures.upper_bound) in
+    let word = wrote 4 c.letters.ensures (omega arith) in
+    let name = wrote 4 (rw said at c.letters-2.ensures) (rw said at c.name_of.ensures.upper_bound) in
     closed
     (wrote_then
     (wrote_then word name)
     (wrote_then c.field.ensures (wrote_then c.field-2.ensures (wrote_then c.field-3.ensures (wrote_none _)))))
-    c.requires
     (omega arith)
     c.put.ensures

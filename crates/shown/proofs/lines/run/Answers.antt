@@ -5,4 +5,4 @@ use Rattle.shown.proofs.Storing.{wrote_none, closed}
 use Rattle.shown.proofs.lines.run.Goals as goal
 
 pub returns : goal.returns
-returns c = closed (wrote_then c.field.ensures (wrote_none _)) c.requires (omega arith) c.put.ensures
+returns c = closed (wrote_then c.field.ensures (wrote_none _)) (omega arith) c.put.ensures

@@ -6,7 +6,7 @@ use Rattle.shown.proofs.lines.station.Goals as goal
 
 pub returns-then-settings-eq-RTVC : goal.returns-then-settings-eq-RTVC
 returns-then-settings-eq-RTVC c =
-    let word = wrote 7 c.letters.ensures (omega (arith, c.requires)) (omega arith) in
+    let word = wrote 7 c.letters.ensures (omega arith) in
     rw
     (eq-eqb _ _ c.if-settings-eq-RTVC.true)
-    (closed (wrote_then (wrote_then word c.address.ensures) (wrote_then c.field.ensures (wrote_none _))) c.requires (omega arith) c.put.ensures)
+    (closed (wrote_then (wrote_then word c.address.ensures) (wrote_then c.field.ensures (wrote_none _))) (omega arith) c.put.ensures)
