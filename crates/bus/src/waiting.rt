@@ -62,18 +62,16 @@ pub fn drop_late(queues: &mut Queues, n: usize, discipline: u32, slot: Slot)
     }
 }
 
-// 'Each station then offers one packet': the one of a queue that none goes before.
+// 'Each station then offers one packet': the one of a queue that none goes before. The search carries its place, and the packet is fetched at the
+// end.
 pub fn chosen(queue: &[Packet], discipline: u32) -> Option<Packet>
     ensures { result ≡ chosen_form (choice (discipline_of discipline) queue.now) }
 {
-    if queue.is_empty() {
-        return None;
-    }
-    let mut best = queue[0];
-    for p in &queue[1..] {
-        if offering::goes_before(discipline, *p, best) {
-            best = *p;
+    let mut place = 0;
+    for (j, p) in queue.iter().enumerate() {
+        if offering::goes_before(discipline, *p, queue[place]) {
+            place = j;
         }
     }
-    Some(best)
+    queue.get(place).copied()
 }

@@ -1,11 +1,18 @@
--- The loop's invariant: the choice among all is that among the best packet so far and those that are left.
-use Rattle.std.proofs.Common.{◌≡◌, length}
+-- The loop's invariant: the choice among all is that among the packet at the best place so far and those that are left.
+use Rattle.std.proofs.Common.{◌-◌, ◌<◌, ◌≤◌, ◌≡◌, length, get_or}
 use lib.Seq.{slice}
 use Rattle.rules.specs.SetUp.{discipline_of}
 use Rattle.rules.specs.Begin.{chosen, choice}
+use Rattle.state.specs.State.{no_packet}
 use Rattle.bus.proofs.waiting.chosen.Given as goal
 
-abbrev pub invariant-loop-p : goal.invariant-loop-p
-invariant-loop-p l =
-    choice (discipline_of l.discipline) l.queue
-    ≡ chosen (discipline_of l.discipline) l.best (choice (discipline_of l.discipline) (slice l.p-index (length l.p-items) l.p-items))
+abbrev pub invariant-loop-j : goal.invariant-loop-j
+invariant-loop-j l =
+    (l.j ≤ length l.queue)
+    × (0 < length l.queue → l.place < length l.queue)
+    × (0 < length l.queue
+    → choice (discipline_of l.discipline) l.queue
+    ≡ chosen (discipline_of l.discipline) (get_or l.queue l.place no_packet) (choice (discipline_of l.discipline) (slice l.j (length l.queue) l.queue)))
+
+abbrev pub decreases-loop-j : goal.decreases-loop-j
+decreases-loop-j l = length l.queue - l.j
