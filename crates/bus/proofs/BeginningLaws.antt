@@ -67,6 +67,10 @@ sitting g clock round l (some p) h = rw h
 abbrev pub place_for : Segment → Queues → ℕ → Contender
 place_for g qs j = contender_for g.settings g.clock g.round (get_or g.listed j nobody) (queue_at qs j)
 
+-- whether it has no packet, or sits out
+abbrev pub nothing_by : ℕ → Round → Listed → Discipline → Bool
+nothing_by len round l d = eqb len 0 || sits_out d (last_of round) l.capability.0
+
 -- with no packet, or where it sits out, it does not contend
 pub nothing_offered :
     (g : Segment) (qs : Queues) (j : ℕ)

@@ -14,7 +14,6 @@ use Rattle.rules.specs.Lists.{Among, All}
 use Rattle.rules.specs.declared.Discipline.{Discipline}
 use Rattle.rules.specs.declared.Discipline.TheVariants.{PRI, RTDG, RTVC}
 use Rattle.rules.specs.Bus.{late}
-use Rattle.rules.specs.SetUp.{discipline_of}
 use Rattle.rules.specs.Standing.{Rising}
 use Rattle.rules.specs.Begin.{smaller, goes_before, chosen, choice}
 use Rattle.rules.specs.Demands.{Before}
@@ -23,7 +22,7 @@ use Rattle.rules.proofs.Tests.{Whether, holds, fails, both, one_of, below, equal
 use Rattle.rules.proofs.Offers.{ChosenOf, chosen_first}
 use Rattle.rules.proofs.Circuit.{oldest_chosen}
 use Rattle.bus.specs.Types.{Packet}
-use Rattle.bus.specs.Parts.{rank_of}
+use Rattle.bus.specs.Parts.{rank_of, looked_of}
 
 -- ---- the order of offers can be chained, and so can its denial
 
@@ -146,12 +145,11 @@ numbers_at_most n m (p ∷ queue) h = all_cons p (rising_le p.number m queue h.1
 
 -- the choice among those looked at is the choice among all
 pub looked_choice :
-    (d len looked m : ℕ) (ps : List Packet) → looked ≡ cond (ltb d 2) len 1 → 0 < len → Rising 0 m (take len ps)
-    → choice (discipline_of d) (take looked ps) ≡ choice (discipline_of d) (take len ps)
-looked_choice zero len looked m ps e some! rises = ap (λ k. choice PRI (take k ps)) e
-looked_choice (suc zero) len looked m ps e some! rises = ap (λ k. choice RTDG (take k ps)) e
-looked_choice (suc (suc d)) len looked m ps e some! rises =
-    ap (λ k. choice RTVC (take k ps)) (e ∙ ap (λ t. cond t len 1) (le-ltb (suc (suc d)) 2 (omega arith))) ∙ go len ps some! rises
+    (d : Discipline) (len looked m : ℕ) (ps : List Packet) → looked ≡ looked_of d len → 0 < len → Rising 0 m (take len ps)
+    → choice d (take looked ps) ≡ choice d (take len ps)
+looked_choice PRI len looked m ps e some! rises = ap (λ k. choice PRI (take k ps)) e
+looked_choice RTDG len looked m ps e some! rises = ap (λ k. choice RTDG (take k ps)) e
+looked_choice RTVC len looked m ps e some! rises = ap (λ k. choice RTVC (take k ps)) e ∙ go len ps some! rises
   where
     go : (k : ℕ) (qs : List Packet) → 0 < k → Rising 0 m (take k qs) → choice RTVC (take 1 qs) ≡ choice RTVC (take k qs)
     go zero qs l h = absurd (omega arith)

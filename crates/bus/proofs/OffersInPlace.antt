@@ -1,6 +1,6 @@
 -- The offers recorded in place, station by station, as a stretch of a run makes them: what is recorded before station i, the search for its
 -- offer, and that no packet before it is late. Assumes nothing.
-use Prim.Native.Nat.{ℕ, zero, suc, ◌+◌, ◌-◌, ◌*◌, ◌^◌, ◌≤◌, ◌<◌}
+use Prim.Native.Nat.{ℕ, ◌+◌, ◌-◌, ◌*◌, ◌^◌, ◌≤◌, ◌<◌}
 use mathlib.Core.Path.{◌≡◌, refl, sym, ap, ◌∙◌, subst}
 use mathlib.Core.Bool.{Bool, true, false, not, ◌||◌, cond}
 use mathlib.Core.Option.{some}
@@ -14,15 +14,14 @@ use borrow.Author.Tests.{eqb-true, eqb-false, lt-ltb, le-ltb}
 use Rattle.rules.specs.Lists.{Among}
 use Rattle.rules.specs.declared.Discipline.{Discipline}
 use Rattle.rules.specs.declared.Discipline.TheVariants.{PRI, RTDG, RTVC}
-use Rattle.rules.specs.Bus.{late, code}
-use Rattle.rules.specs.SetUp.{discipline_of}
+use Rattle.rules.specs.Bus.{late}
 use Rattle.rules.specs.Begin.{sits_out, goes_before, chosen, choice}
 use Rattle.rules.specs.Standing.{StationStands}
 use Rattle.rules.proofs.Laws.{or-false, among_none, keep_all, clash}
 use Rattle.bus.specs.Types.{Listed, Contender, Segment, Queues, State, Packet}
 use Rattle.state.specs.State.{Recorded, no_packet, nobody, places_at, queue_at, station_at, last_of, meaning}
 use Rattle.state.specs.Parts.{queue_of}
-use Rattle.bus.specs.Parts.{queue_form, rank_of, parameter_for, contender_on, segment_counting}
+use Rattle.bus.specs.Parts.{queue_form, rank_of, looked_of, parameter_for, contender_on, segment_counting}
 use Rattle.state.proofs.Rows.{among_values}
 use Rattle.state.proofs.Places.{places_count, place_at}
 use Rattle.state.proofs.Form.{at_place}
@@ -59,15 +58,15 @@ module _ (s : State) where
   InTimeTo i = (j : ℕ) → j < i → (p : Packet) → Among p (queue_at s.queues j) → late d s.segment.clock.0 p.value ≡ false
 
 -- of so many packets of station i, the best so far is at a place of the row, with its rank, and those from j on are left
-abbrev pub Best : ℕ → Queues → ℕ → ℕ → ℕ → ℕ → ℕ → Type 0
+abbrev pub Best : Discipline → Queues → ℕ → ℕ → ℕ → ℕ → ℕ → Type 0
 Best discipline queues i looked place least j =
     (16 * i ≤ place) × (place < 16 * i + get_or queues.lengths i 0) × (j ≤ looked)
     × (least ≡ rank_of (get_or queues.packets place no_packet))
-    × (choice (discipline_of discipline) (take looked (places_at queues i))
+    × (choice discipline (take looked (places_at queues i))
     ≡ chosen
-    (discipline_of discipline)
+    discipline
     (get_or queues.packets place no_packet)
-    (choice (discipline_of discipline) (slice j looked (places_at queues i))))
+    (choice discipline (slice j looked (places_at queues i))))
     × (1 ≤ j)
 
 module _ (s : State) (r : Lent s) where
@@ -169,20 +168,21 @@ module _ (s : State) (r : Lent s) where
       in_time_offered p e h before = in_time_more before (in_time_all (d s) s.segment.clock.0 (queue_at s.queues i) p e h)
 
       -- the search, of so many of its packets
-      module _ (looked : ℕ) (looked! : looked ≡ cond (ltb s.segment.settings.discipline 2) len 1) where
+      module _ (looked : ℕ) (looked! : looked ≡ looked_of (d s) len) where
         -- the packet at a place of the row
         abbrev packet : ℕ → Packet
         packet place = get_or s.queues.packets place no_packet
 
         pub looked_some : (1 ≤ looked) × (looked ≤ len)
-        looked_some = go (ltb s.segment.settings.discipline 2) looked!
+        looked_some = go (d s) looked!
           where
-            go : (t : Bool) → looked ≡ cond t len 1 → (1 ≤ looked) × (looked ≤ len)
-            go true e = (omega (arith, some!), omega arith)
-            go false e = (omega arith, omega (arith, some!))
+            go : (k : Discipline) → looked ≡ looked_of k len → (1 ≤ looked) × (looked ≤ len)
+            go PRI e = (omega (arith, some!), omega arith)
+            go RTDG e = (omega (arith, some!), omega arith)
+            go RTVC e = (omega arith, omega (arith, some!))
 
         abbrev best_so_far : ℕ → ℕ → ℕ → Type 0
-        best_so_far = Best s.segment.settings.discipline s.queues i looked
+        best_so_far = Best (d s) s.queues i looked
 
         pub best_first : {least : ℕ} → least ≡ rank_of (packet (16 * i)) → best_so_far (16 * i) least 1
         best_first e = (
@@ -209,12 +209,7 @@ module _ (s : State) (r : Lent s) where
 
           -- it is a search by rank
           searched : ¬ ((d s) ≡ RTVC)
-          searched = go s.segment.settings.discipline looked!
-            where
-              go : (k : ℕ) → looked ≡ cond (ltb k 2) len 1 → discipline_of k ≡ RTVC → ⊥
-              go zero e q = let k = ap code q in omega arith
-              go (suc zero) e q = let k = ap code q in omega arith
-              go (suc (suc k)) e q = let one = e ∙ ap (λ t. cond t len 1) (le-ltb (suc (suc k)) 2 (omega arith)) in omega (arith, best.5)
+          searched q = let one = looked! ∙ ap (λ k. looked_of k len) q in omega (arith, best.5)
 
           tells : goes_before (d s) (packet (16 * i + j)) (packet place) ≡ ltb (rank_of (packet (16 * i + j))) least
           tells =
@@ -261,6 +256,6 @@ module _ (s : State) (r : Lent s) where
         -- at its end the best is the packet that the station offers
         pub best_offered : (place least j : ℕ) → best_so_far place least j → looked ≤ j → choice (d s) (queue_at s.queues i) ≡ some (packet place)
         best_offered place least j best done =
-            sym (looked_choice s.segment.settings.discipline len looked s.segment.admitted ps looked! some! own.rises)
+            sym (looked_choice (d s) len looked s.segment.admitted ps looked! some! own.rises)
             ∙ best.4
             ∙ ap (λ qs. chosen (d s) (packet place) (choice (d s) qs)) (left_end looked ps j done)

@@ -2,6 +2,7 @@
 -- Assumes nothing.
 use Prim.Native.Nat.{ℕ, ◌+◌, ◌^◌, ◌≤◌, ◌<◌}
 use mathlib.Core.Path.{◌≡◌, refl, sym, ap, ap₂, ◌∙◌}
+use mathlib.Core.Logic.{◌⊎◌, inl, inr}
 use mathlib.Core.Bool.{Bool, true, false, not, ◌&&◌, cond, and-true, and-false, and_comm}
 use mathlib.Core.List.{List}
 use native.Mathlib.Decide.{dec_le}
@@ -18,9 +19,9 @@ use Rattle.window.specs.Splitting.{in_window}
 use Rattle.word.specs.Word.{bits, bit_at, word_of, set_at}
 use Rattle.word.proofs.Laws.{set_next, word_stays, word_bits, word_same, word_none, bit_none, both_of, both_with}
 use Rattle.rules.specs.declared.Discipline.{Discipline}
+use Rattle.rules.specs.declared.Discipline.TheVariants.{PRI, RTDG, RTVC}
 use Rattle.rules.specs.Bus.{late}
 use Rattle.rules.specs.SetUp.{discipline_of}
-use Rattle.sorts.proofs.DisciplineCases.{is_rtdg, by_discipline}
 use Rattle.bus.specs.Types.{Slot, Contention}
 use Rattle.bus.specs.Parts.{lies_within, transmitters_of}
 
@@ -53,9 +54,13 @@ tie_window tie n = go (eqb n tie) refl
         ap₂ ◌&&◌ (le-leb tie n (omega arith)) (lt-ltb n (tie + 1) (omega arith))
     go false e = apart (eqb-false n tie e) (dec_le tie n)
 
-never_late : (discipline slot value : ℕ) → (discipline ≡ 1 → ⊥) → late (discipline_of discipline) slot value ≡ false
-never_late discipline slot value n =
-    by_discipline (λ (d : Discipline). late d slot value ≡ false) discipline (λ e. refl) (λ e. absurd (n e)) (λ h. refl)
+-- where no packet is late
+abbrev pub Untimed : Discipline → Type 0
+Untimed d = (d ≡ PRI) ⊎ (d ≡ RTVC)
+
+never_late : (d : Discipline) (slot value : ℕ) → Untimed d → late d slot value ≡ false
+never_late d slot value (inl e) = ap (λ (k : Discipline). late k slot value) e
+never_late d slot value (inr e) = ap (λ (k : Discipline). late k slot value) e
 
 -- ---- those who transmit
 
@@ -67,18 +72,18 @@ module _ (discipline : ℕ) (clock : Slot) (contenders : ℕ) (values : List ℕ
   abbrev pub able_at : ℕ → Bool
   able_at i = bit_at contenders i && timely i
 
-  pub able_timed : contenders < 2 ^ 64 → discipline ≡ 1 → bit_and contenders (word_of (λ i. not (ltb (get_or values i 0) clock.0)) 64) ≡ word_of able_at 64
+  pub able_timed : contenders < 2 ^ 64 → discipline_of discipline ≡ RTDG → bit_and contenders (word_of (λ i. not (ltb (get_or values i 0) clock.0)) 64) ≡ word_of able_at 64
   able_timed h e =
       both_with 64 contenders (λ i. not (ltb (get_or values i 0) clock.0)) h
-      ∙ ap (λ (d : Discipline). word_of (λ i. bit_at contenders i && not (late d clock.0 (get_or values i 0))) 64) (sym (is_rtdg e))
+      ∙ ap (λ (d : Discipline). word_of (λ i. bit_at contenders i && not (late d clock.0 (get_or values i 0))) 64) (sym e)
 
-  pub able_untimed : contenders < 2 ^ 64 → (discipline ≡ 1 → ⊥) → contenders ≡ word_of able_at 64
+  pub able_untimed : contenders < 2 ^ 64 → Untimed (discipline_of discipline) → contenders ≡ word_of able_at 64
   able_untimed h n =
       sym (word_bits 64 contenders h)
       ∙ word_same (bit_at contenders) able_at 64
       (λ i l.
       sym
-      (ap (λ (t : Bool). bit_at contenders i && not t) (never_late discipline clock.0 (get_or values i 0) n)
+      (ap (λ (t : Bool). bit_at contenders i && not t) (never_late (discipline_of discipline) clock.0 (get_or values i 0) n)
       ∙ and-true (bit_at contenders i)))
 
   module _ (contention : Contention) (parameters addresses : List ℕ) where

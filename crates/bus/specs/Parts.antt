@@ -39,6 +39,12 @@ parameter_for RTVC g clock capability p = capability.0
 abbrev pub rank_of : Packet → ℕ
 rank_of p = p.value * 2 ^ 32 + p.number
 
+-- how many of a queue's packets are looked at for its offer: in RTVC the first
+abbrev pub looked_of : Discipline → ℕ → ℕ
+looked_of PRI len = len
+looked_of RTDG len = len
+looked_of RTVC len = 1
+
 -- ---- one station's queue
 
 -- the queue that holds these packets

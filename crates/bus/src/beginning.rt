@@ -8,15 +8,20 @@ ghost use Rattle.rules.specs.Begin.{begin, drops_of};
 ghost use Rattle.bus.specs.Parts.{offering_all, AllInTime, contender_for, opening_of, offers_of, begun_with, contending_of, shown_of};
 
 use crate::{Begun, offering, waiting};
-use rules::{Packet, Slot};
+use rules::{Discipline, Packet, Slot};
 use sorts::{Address, Capability};
 use state::{
     Contender, Contention, Listed, Queues, Round, Segment, Settings, State, standing, zeros,
 };
 
 // Whether a station has no packet, or sits out.
-pub fn offers_nothing(discipline: u32, round: Round, capability: Capability, length: usize) -> bool
-    ensures { result ≡ (eqb length 0 || sits_out (discipline_of discipline) (last_of round) capability.0) }
+pub fn offers_nothing(
+    discipline: Discipline,
+    round: Round,
+    capability: Capability,
+    length: usize,
+) -> bool
+    ensures { result ≡ (eqb length 0 || sits_out discipline (last_of round) capability.0) }
 {
     length == 0 || offering::sits_out(discipline, round, capability)
 }
@@ -34,7 +39,7 @@ fn contender_for(
     requires takes_part { sits_out (discipline_of settings.discipline) (last_of round) l.capability.0 ≡ false }
     ensures { result ≡ contender_for settings clock round l queue.now }
 {
-    let Some(packet) = waiting::chosen(queue, settings.discipline) else {
+    let Some(packet) = waiting::chosen(queue, Discipline::from(settings.discipline)) else {
         return zeros::NO_CONTENDER;
     };
     let parameter = offering::parameter(settings, clock, l.capability, packet);
@@ -55,6 +60,7 @@ fn offers_of(g: Segment, queues: Queues) -> Segment
     ensures { result ≡ offers_of g queues }
 {
     let settings = g.settings;
+    let discipline = Discipline::from(settings.discipline);
     let listed = g.listed;
     let round = g.round;
     let n = settings.n;
@@ -72,7 +78,7 @@ fn offers_of(g: Segment, queues: Queues) -> Segment
     for i in 0..n {
         let l = listed[i];
         let length = queues.lengths[i];
-        if offers_nothing(settings.discipline, round, l.capability, length) {
+        if offers_nothing(discipline, round, l.capability, length) {
             continue;
         }
         let first = 16 * i;
@@ -138,6 +144,7 @@ fn offer_all(s: &mut State) -> bool
     ensures in_time { result ≡ false → AllInTime s.old }
 {
     let settings = s.segment.settings;
+    let discipline = Discipline::from(settings.discipline);
     let clock = s.segment.clock;
     let round = s.segment.round;
     let n = settings.n;
@@ -146,11 +153,11 @@ fn offer_all(s: &mut State) -> bool
     for i in 0..n {
         let l = s.segment.listed[i];
         let length = s.queues.lengths[i];
-        if offers_nothing(settings.discipline, round, l.capability, length) {
+        if offers_nothing(discipline, round, l.capability, length) {
             continue;
         }
         let first = 16 * i;
-        let looked = offering::looked_at(settings.discipline, length);
+        let looked = offering::looked_at(discipline, length);
         let mut place = first;
         let mut least = offering::rank(s.queues.packets[first]);
         // By place, which is what is carried.

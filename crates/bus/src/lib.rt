@@ -185,7 +185,8 @@ pub struct Totals {
 // one module.
 
 // Which packets leave a queue: in a discipline, those whose latest start is below a slot; or the one with a number. A value, so that the contract
-// of `close_up` names those that stay; of a closure it would ask that it be callable, and what it answers, at each packet: no plainer.
+// of `close_up` names those that stay; of a closure it would ask that it be callable, and what it answers, at each packet: no plainer. The
+// discipline is its number, which the public `disciplines::late` takes.
 #[derive(Clone, Copy)]
 enum Leaving {
     Late(u32, Slot),

@@ -4,7 +4,7 @@ ghost use Rattle.rules.specs.Bus.{late};
 ghost use Rattle.rules.specs.SetUp.{discipline_of};
 ghost use Rattle.rules.specs.Begin.{smaller, goes_before, sits_out};
 ghost use Rattle.state.specs.State.{last_of};
-ghost use Rattle.bus.specs.Parts.{parameter_for, rank_of};
+ghost use Rattle.bus.specs.Parts.{parameter_for, rank_of, looked_of};
 
 use rules::{Discipline, Packet, Slot};
 use sorts::{Capability, Windowed, disciplines};
@@ -18,10 +18,10 @@ fn smaller(p: Packet, o: Packet) -> bool
 }
 
 // Whether p is offered before o.
-pub fn goes_before(discipline: u32, p: Packet, o: Packet) -> bool
-    ensures { result ≡ goes_before (discipline_of discipline) p o }
+pub fn goes_before(discipline: Discipline, p: Packet, o: Packet) -> bool
+    ensures { result ≡ goes_before discipline p o }
 {
-    match Discipline::from(discipline) {
+    match discipline {
         Discipline::PRI | Discipline::RTDG => smaller(p, o),
         Discipline::RTVC => p.number < o.number,
     }
@@ -35,17 +35,16 @@ pub fn rank(p: Packet) -> u64
 }
 
 // How many of a queue's packets are looked at for its offer: in RTVC the first, which has the lowest number, because numbers rise.
-pub fn looked_at(discipline: u32, length: usize) -> usize
-    ensures { result ≡ cond (ltb discipline 2) length 1 }
+pub fn looked_at(discipline: Discipline, length: usize) -> usize
+    ensures { result ≡ looked_of discipline length }
 {
-    if discipline < disciplines::RTVC {
-        length
-    } else {
-        1
+    match discipline {
+        Discipline::PRI | Discipline::RTDG => length,
+        Discipline::RTVC => 1,
     }
 }
 
-// Whether a packet that is offered is late: this one, or one before it.
+// Whether a packet that is offered is late: this one, or one before it. The discipline as its number, which the public `disciplines::late` takes.
 pub fn late_offered(already: bool, discipline: u32, clock: Slot, value: u32) -> bool
     ensures { result ≡ (already || late (discipline_of discipline) clock.0 value) }
 {
@@ -75,10 +74,10 @@ pub fn parameter(settings: Settings, clock: Slot, capability: Capability, packet
 }
 
 // 'if no circuit has won in this round or the capability is above the last winner's; otherwise the station sits out'
-pub fn sits_out(discipline: u32, round: Round, capability: Capability) -> bool
-    ensures { result ≡ sits_out (discipline_of discipline) (last_of round) capability.0 }
+pub fn sits_out(discipline: Discipline, round: Round, capability: Capability) -> bool
+    ensures { result ≡ sits_out discipline (last_of round) capability.0 }
 {
-    match Discipline::from(discipline) {
+    match discipline {
         Discipline::PRI | Discipline::RTDG => false,
         Discipline::RTVC => round.won && capability <= round.last,
     }

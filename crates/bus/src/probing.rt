@@ -2,14 +2,13 @@
 ghost use Rattle.std.specs.Prelude.{◌+◌, ◌<◌, ◌≤◌, ◌≡◌, true, not, leb, ltb, get_or};
 ghost use Rattle.window.specs.Splitting.{in_window};
 ghost use Rattle.word.specs.Word.{word_of};
-ghost use Rattle.rules.specs.SetUp.{discipline_of};
 ghost use Rattle.bus.specs.Parts.{addresses_of, transmitters_of, answer_at, went_on, split_of, collided_on, unheard_on, round_after, won_on, moved_by, with_moved, stepped_to, probed_slot};
 ghost use Rattle.state.specs.State.{Held, standing, recorded_in};
 ghost use Rattle.state.specs.Parts.{no_contenders};
 
 use crate::{Answer, Event, Leaving, Moved, Phase, Progress, waiting};
 use rules::{Discipline, Packet, Slot};
-use sorts::{Address, Capability, Windowed, disciplines};
+use sorts::{Address, Capability, Windowed};
 use state::{Contention, Listed, Round, Segment, Settings, State, zeros};
 use window::{Side, Window};
 
@@ -55,16 +54,15 @@ pub fn addresses_of(listed: [Listed; 64]) -> [u64; 64]
 pub fn transmitters(g: &Segment, addresses: &[u64; 64]) -> u64
     ensures { result ≡ transmitters_of g.now.settings.discipline g.now.clock g.now.contention g.now.contenders g.now.parameters g.now.values addresses.now }
 {
-    let discipline = g.settings.discipline;
     let contenders = g.contenders;
     let contention = g.contention;
     if contenders == 0 {
         return 0;
     }
-    let mut able = contenders;
-    if discipline == disciplines::RTDG {
-        able = contenders & in_time(g.clock, &g.values);
-    }
+    let able = match Discipline::from(g.settings.discipline) {
+        Discipline::PRI | Discipline::RTVC => contenders,
+        Discipline::RTDG => contenders & in_time(g.clock, &g.values),
+    };
     let window = contention.window;
     if contention.tied {
         // 'among the contenders of that parameter': those in the window of size 1 that starts there
@@ -226,10 +224,10 @@ fn unheard(progress: Progress, drops: u64) -> Moved
 }
 
 // 'In RTVC the last winner is set.'
-fn round_after(discipline: u32, capability: Capability) -> Round
-    ensures { result ≡ round_after (discipline_of discipline) capability }
+fn round_after(discipline: Discipline, capability: Capability) -> Round
+    ensures { result ≡ round_after discipline capability }
 {
-    match Discipline::from(discipline) {
+    match discipline {
         Discipline::PRI | Discipline::RTDG => zeros::NO_ROUND,
         Discipline::RTVC => Round {
             won: true,
@@ -240,10 +238,10 @@ fn round_after(discipline: u32, capability: Capability) -> Round
 
 // 'One transmits: success. .. The probed slot is its first, so the clock moves on by its length.' P1: 'the number of slots from there to the
 // probe that won', from the packet's admission slot.
-fn won(discipline: u32, progress: Progress, drops: u64, l: Listed, packet: Packet) -> Moved
+fn won(discipline: Discipline, progress: Progress, drops: u64, l: Listed, packet: Packet) -> Moved
     requires length_bound { progress.clock.0 + packet.length ≤ 4294967295 }
     requires sent_bound { progress.sent < 4294967295 }
-    ensures { result ≡ won_on (discipline_of discipline) progress drops l packet }
+    ensures { result ≡ won_on discipline progress drops l packet }
 {
     let clock = later(progress.clock, packet.length);
     let round = round_after(discipline, l.capability);
@@ -289,7 +287,13 @@ pub fn moved(
         return unheard(progress, drops);
     }
     if count == 1 {
-        return won(settings.discipline, progress, drops, listed, packet);
+        return won(
+            Discipline::from(settings.discipline),
+            progress,
+            drops,
+            listed,
+            packet,
+        );
     }
     collided(settings.a, progress, drops)
 }

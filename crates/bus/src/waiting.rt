@@ -1,14 +1,13 @@
 // Packets that wait: they leave the row of queues, and of a station's queue one is chosen to be offered.
 ghost use Rattle.std.specs.Prelude.{ℕ, ◌<◌, ◌≤◌, ◌≡◌, ◌&&◌, cond, leb, ltb, get_or};
 ghost use Rattle.rules.specs.Lists.{keep};
-ghost use Rattle.rules.specs.SetUp.{discipline_of};
 ghost use Rattle.rules.specs.Begin.{choice};
 ghost use Rattle.state.specs.State.{queue_at};
 ghost use Rattle.state.specs.Parts.{queue_of};
 ghost use Rattle.bus.specs.Parts.{IsRow, queue_form, with_queue, stays, Late, chosen_form};
 
 use crate::{Leaving, offering};
-use rules::{Packet, Slot};
+use rules::{Discipline, Packet, Slot};
 use sorts::disciplines;
 use state::{Queues, zeros};
 
@@ -64,8 +63,8 @@ pub fn drop_late(queues: &mut Queues, n: usize, discipline: u32, slot: Slot)
 
 // 'Each station then offers one packet': the one of a queue that none goes before. The search carries its place, and the packet is fetched at the
 // end.
-pub fn chosen(queue: &[Packet], discipline: u32) -> Option<Packet>
-    ensures { result ≡ chosen_form (choice (discipline_of discipline) queue.now) }
+pub fn chosen(queue: &[Packet], discipline: Discipline) -> Option<Packet>
+    ensures { result ≡ chosen_form (choice discipline queue.now) }
 {
     let mut place = 0;
     for (j, p) in queue.iter().enumerate() {

@@ -1,14 +1,16 @@
 -- `beginning::offer_all` meets its contract: each station's offer is the packet chosen of its queue.
-use Rattle.std.proofs.Common.{ℕ, Bool, ◌+◌, ◌*◌, ◌≤◌, ◌<◌, ◌≡◌, sym, ap, ◌∙◌, subst, false, ◌||◌, cond, eqb, ltb, get_or, rules}
+use Rattle.std.proofs.Common.{ℕ, Bool, ◌+◌, ◌*◌, ◌≤◌, ◌<◌, ◌≡◌, sym, ap, ap₂, ◌∙◌, subst, false, ◌||◌, eqb, get_or, rules}
+use Rattle.rules.specs.declared.Discipline.{Discipline}
 use Rattle.std.proofs.Math.Option.{some}
 use Rattle.rules.specs.Bus.{late}
 use Rattle.rules.specs.Begin.{sits_out}
 use Rattle.rules.proofs.Laws.{or-false}
 use Rattle.bus.specs.Types.{Segment, Queues, State}
 use Rattle.state.specs.State.{no_packet, nobody, meaning, last_of}
-use Rattle.bus.specs.Parts.{rank_of}
+use Rattle.bus.specs.Parts.{rank_of, looked_of}
 use Rattle.state.proofs.Stands.{Lent, lent_held, few_packets}
 use Rattle.bus.proofs.InTurn.{below, below_length, below_of, slot_in, slot_fits, slot_offset, within_rows, within_offset, at_end, spaces, offer_recorded}
+use Rattle.bus.proofs.BeginningLaws.{nothing_by}
 use Rattle.bus.proofs.OffersInPlace.{Best, offered_to, InTimeTo, offering_none, in_time_none, offering_same, in_time_same, in_time_offered, best_first, best_better, best_stays, best_offered, looked_some}
 use Rattle.bus.proofs.beginning.offer_all.Goals as goal
 use Rattle.bus.proofs.beginning.offer_all.Goals.{Start, In-loop-i, Else-offers_nothing, then-rank-least, else-rank-least}
@@ -51,7 +53,7 @@ loop-i-preserved-then-offers_nothing c =
     let i = c.loop-i.i in
     let r = lent_held s c.requires.held c.requires.stands in
     let nothing =
-    sym (c.offers_nothing.ensures ∙ ap (λ (x : State). nothing_of s x i) c.loop-i.invariant.0) ∙ c.if-offers_nothing.true in (
+    sym (c.offers_nothing.ensures ∙ ap (nothing_by (get_or c.loop-i.s.queues.lengths i 0) s.segment.round (get_or c.loop-i.s.segment.listed i nobody)) c.from-discipline.ensures ∙ ap (λ (x : State). nothing_of s x i) c.loop-i.invariant.0) ∙ c.if-offers_nothing.true in (
       c.loop-i.invariant.0 ∙ ap (λ (g : Segment). record { segment = g; queues = s.queues }) (offering_same s r i c.loop-i-test.true nothing),
       λ e. in_time_same s r i c.loop-i-test.true nothing (c.loop-i.invariant.1 e),
     )
@@ -71,7 +73,9 @@ module _ (c : Else-offers_nothing) where
   here! = c.loop-i-test.true
 
   offers! : nothing_of s s i ≡ false
-  offers! = sym (c.offers_nothing.ensures ∙ ap (λ (x : State). nothing_of s x i) c.loop-i.invariant.0) ∙ c.if-offers_nothing.false
+  offers! =
+      sym (c.offers_nothing.ensures ∙ ap (nothing_by (get_or c.loop-i.s.queues.lengths i 0) s.segment.round (get_or c.loop-i.s.segment.listed i nobody)) c.from-discipline.ensures ∙ ap (λ (x : State). nothing_of s x i) c.loop-i.invariant.0)
+      ∙ c.if-offers_nothing.false
 
   within_row! : i < 64
   within_row! = below i s.segment.settings.n here! r.few
@@ -83,24 +87,24 @@ module _ (c : Else-offers_nothing) where
   queues! : c.loop-i.s.queues ≡ s.queues
   queues! = ap (λ (x : State). x.queues) c.loop-i.invariant.0
 
-  abbrev most : ℕ → ℕ
-  most length = cond (ltb s.segment.settings.discipline 2) length 1
-
-  looked_as : (looked : ℕ) → looked ≡ most (get_or c.loop-i.s.queues.lengths i 0) → looked ≡ most (get_or s.queues.lengths i 0)
-  looked_as looked e = e ∙ ap (λ (q : Queues). most (get_or q.lengths i 0)) queues!
+  looked_as :
+      (looked : ℕ) → looked ≡ looked_of c.from-discipline.result (get_or c.loop-i.s.queues.lengths i 0)
+      → looked ≡ looked_of (meaning s).discipline (get_or s.queues.lengths i 0)
+  looked_as looked e =
+      e ∙ ap₂ (λ (d : Discipline) (q : Queues). looked_of d (get_or q.lengths i 0)) c.from-discipline.ensures queues!
 
   -- no more packets are looked at than there are
-  looked_room : (looked : ℕ) → looked ≡ most (get_or c.loop-i.s.queues.lengths i 0) → (j : ℕ) → j < looked → j < 16
+  looked_room : (looked : ℕ) → looked ≡ looked_of c.from-discipline.result (get_or c.loop-i.s.queues.lengths i 0) → (j : ℕ) → j < looked → j < 16
   looked_room looked e j more =
       let few = (looked_some s r i here! offers! looked (looked_as looked e)).1 in
       below_length j (get_or s.queues.lengths i 0) (below_of j looked (get_or s.queues.lengths i 0) more few) room!
 
   -- the best packet so far, in the queues at the outset and in those of the turn
-  as_now : (looked place least j : ℕ) → Best s.segment.settings.discipline s.queues i looked place least j → Best s.segment.settings.discipline c.loop-i.s.queues i looked place least j
-  as_now looked place least j = subst (λ (q : Queues). Best s.segment.settings.discipline q i looked place least j) (sym queues!)
+  as_now : (looked place least j : ℕ) → Best (meaning s).discipline s.queues i looked place least j → Best (meaning s).discipline c.loop-i.s.queues i looked place least j
+  as_now looked place least j = subst (λ (q : Queues). Best (meaning s).discipline q i looked place least j) (sym queues!)
 
-  at_outset : (looked place least j : ℕ) → Best s.segment.settings.discipline c.loop-i.s.queues i looked place least j → Best s.segment.settings.discipline s.queues i looked place least j
-  at_outset looked place least j = subst (λ (q : Queues). Best s.segment.settings.discipline q i looked place least j) queues!
+  at_outset : (looked place least j : ℕ) → Best (meaning s).discipline c.loop-i.s.queues i looked place least j → Best (meaning s).discipline s.queues i looked place least j
+  at_outset looked place least j = subst (λ (q : Queues). Best (meaning s).discipline q i looked place least j) queues!
 
   abbrev rank_at : Queues → ℕ → ℕ
   rank_at q place = rank_of (get_or q.packets place no_packet)
@@ -138,7 +142,7 @@ loop-j-preserved c =
     let looked! = looked_as on looked c.looked_at-looked.ensures in
     let so_far = at_outset on looked at.place at.least at.j at.invariant in
     let rank = rank_as on (16 * i on + at.j) c.rank-rank.result c.rank-rank.ensures in
-    let discipline = (s on).segment.settings.discipline in
+    let discipline = (meaning (s on)).discipline in
     elim c.if-rank-least.branch [
       | then-rank-least w ↦
           subst (λ (k : ℕ). Best discipline c.loop-i.s.queues (i on) looked c.if-rank-least.place k (at.j + 1)) (sym w.least-is)

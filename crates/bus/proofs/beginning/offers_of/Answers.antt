@@ -6,7 +6,7 @@ use Rattle.rules.proofs.Laws.{or-false}
 use Rattle.state.specs.State.{nobody, places_at, queue_at}
 use Rattle.state.proofs.Contenders.{none_recorded}
 use Rattle.state.proofs.Places.{queues_arrays, places_count}
-use Rattle.bus.proofs.BeginningLaws.{nothing_offered, place_for, places_to, places_none, places_more, places_same, offered_contends}
+use Rattle.bus.proofs.BeginningLaws.{nothing_by, nothing_offered, place_for, places_to, places_none, places_more, places_same, offered_contends}
 use Rattle.bus.proofs.beginning.offers_of.Invariants.{offering_with}
 use Rattle.bus.proofs.beginning.offers_of.Goals as goal
 
@@ -17,13 +17,13 @@ pub loop-i-preserved-then-offers_nothing : goal.loop-i-preserved-then-offers_not
 loop-i-preserved-then-offers_nothing c =
     let g = c.args.g in
     let qs = c.args.queues in
-    let still = nothing_offered g qs c.loop-i.i (sym c.offers_nothing.ensures ∙ c.if-offers_nothing.true) in
+    let still = nothing_offered g qs c.loop-i.i (sym (c.offers_nothing.ensures ∙ ap (nothing_by (get_or qs.lengths c.loop-i.i 0) g.round (get_or g.listed c.loop-i.i nobody)) c.from-discipline.ensures) ∙ c.if-offers_nothing.true) in
     (omega arith, c.loop-i.invariant.1 ∙ ap (offering_with g) (places_same (place_for g qs) c.loop-i.i still))
 
 pub contender_for-c-requires : goal.contender_for-c-requires
 contender_for-c-requires c =
     let none = eqb (get_or c.args.queues.lengths c.loop-i.i 0) 0 in
-    let sits = (or-false none _ (sym c.offers_nothing.ensures ∙ c.if-offers_nothing.false)).1 in
+    let sits = (or-false none _ (sym (c.offers_nothing.ensures ∙ ap (nothing_by (get_or c.args.queues.lengths c.loop-i.i 0) c.args.g.round (get_or c.args.g.listed c.loop-i.i nobody)) c.from-discipline.ensures) ∙ c.if-offers_nothing.false)).1 in
     record {
       q_positive = c.requires.q_positive;
       d_positive = c.requires.d_positive;
@@ -41,7 +41,7 @@ loop-i-preserved c =
     let all : take (16 * i + get_or qs.lengths i 0 - 16 * i) (drop (16 * i) qs.packets) ≡ queue_at qs i =
     ap (λ k. take k (drop (16 * i) qs.packets)) many ∙ sym (take-take (get_or qs.lengths i 0) 16 (drop (16 * i) qs.packets) (c.requires.lengths_bound i (omega arith))) in
     let none = eqb (get_or qs.lengths i 0) 0 in
-    let told = or-false none _ (sym c.offers_nothing.ensures ∙ c.if-offers_nothing.false) in
+    let told = or-false none _ (sym (c.offers_nothing.ensures ∙ ap (nothing_by (get_or qs.lengths i 0) g.round (get_or g.listed i nobody)) c.from-discipline.ensures) ∙ c.if-offers_nothing.false) in
     let waits = eqb-false (get_or qs.lengths i 0) 0 told.0 in
     let held = length-take-le (get_or qs.lengths i 0) (places_at qs i) (omega (arith, places_count qs i here row, c.requires.lengths_bound i (omega arith))) in
     let contends = offered_contends g.settings g.clock g.round (get_or g.listed i nobody) (queue_at qs i) (λ e. waits (sym held ∙ e)) told.1 in

@@ -3,7 +3,6 @@ use Rattle.std.proofs.Common.{ℕ, ◌+◌, ◌<◌, ◌≤◌, ◌≡◌, refl,
 use borrow.Author.Tests.{ltb-true, ltb-false}
 use lib.Seq.{slice}
 use Rattle.rules.specs.declared.Discipline.{Discipline}
-use Rattle.rules.specs.SetUp.{discipline_of}
 use Rattle.rules.specs.Begin.{goes_before, chosen, choice}
 use Rattle.bus.specs.Types.{Packet}
 use Rattle.state.specs.State.{no_packet}
@@ -49,12 +48,12 @@ begins d (p ∷ ps) some! =
     same false = refl
 
 pub loop-j-init : goal.loop-j-init
-loop-j-init c = (omega arith, λ some!. some!, begins (discipline_of c.args.discipline) c.args.queue.now)
+loop-j-init c = (omega arith, λ some!. some!, begins c.args.discipline c.args.queue.now)
 
 pub loop-j-preserved : goal.loop-j-preserved
 loop-j-preserved c =
     let ps = c.args.queue.now in
-    let d = discipline_of c.args.discipline in
+    let d = c.args.discipline in
     let turn = c.loop-j in
     let more = c.loop-j-test.true in
     elim c.if-goes_before.branch [
@@ -87,4 +86,4 @@ returns c =
     let turn = c.loop-j in
     let got = c.get.ensures.lookup in
     c.copied.ensures
-    ∙ fetched (discipline_of c.args.discipline) c.args.queue.now turn.place turn.j turn.invariant.1 c.loop-j-test.false turn.invariant.2 c.get.result got.0 got.4
+    ∙ fetched c.args.discipline c.args.queue.now turn.place turn.j turn.invariant.1 c.loop-j-test.false turn.invariant.2 c.get.result got.0 got.4
