@@ -42,10 +42,12 @@ use Rattle.bus.proofs.SingleCalls.{next_same}
 use Rattle.bus.proofs.Steps as Steps
 use Rattle.bus.proofs.Steps.{gives_17, goes_on, begins, probes}
 use Rattle.bus.specs.Parts.{stepped, open_of}
+use Rattle.bus.proofs.ClosingUp.{LeftIn}
+use Rattle.bus.proofs.BeginningLaws.{in_time_at, begun_is}
 use Rattle.bus.proofs.ProbedSlot.{Probed, probed, queues_after, slot_with, winner_there, probed_is}
 use Rattle.bus.proofs.HeardLaws.{answer_moved, segment_moved, winner_moved, sole_short, sole_counted}
 use Rattle.bus.proofs.Stretched.{So-far, at_first, row_due, took, stepped_on}
-use Rattle.bus.specs.Parts.{with_queue}
+use Rattle.bus.specs.Parts.{with_queue, begun_with}
 
 -- the state of these parts
 abbrev pub whole : Segment → Queues → State
@@ -253,6 +255,14 @@ just_begun s r e =
 -- the same, of equal things
 pub begun_as : {s x x' : State} {drops drops' : ℕ} → x' ≡ x → drops' ≡ drops → Begun s x drops → Begun s x' drops'
 begun_as {s} {x} {x'} {drops} a b o = subst (Begun s x') (sym b) (subst (λ (y : State). Begun s y drops) (sym a) o)
+
+-- a contention begun in place, where late packets have left the queues, is the one that a step probes
+module _ (s : State) (r : Lent s) (between : s.segment.contention.begun ≡ false) (rest : Queues)
+    (kept : LeftIn (in_time_at s) s.queues 0 s.segment.settings.n rest) (ls : length rest.lengths ≡ 64) (ps : length rest.packets ≡ 1024) where
+  pub begun_open :
+      (drops : ℕ) → drops ≡ drops_of (meaning s) → (g : Segment) → g ≡ begun_with s.segment rest drops → Begun s (whole g rest) drops
+  begun_open drops e g f =
+      begun_as (ap (λ (x : Segment). whole x rest) f ∙ begun_is s r rest kept drops e ls ps) e (just_begun s r between)
 
 -- ---- a probe in place
 

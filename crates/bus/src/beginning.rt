@@ -209,8 +209,8 @@ pub fn begin_in(s: &mut State) -> u64
 }
 
 // The addresses of those in a word, by station.
-fn contending(contenders: u64, listed: [Listed; 64]) -> [Address; 64]
-    ensures { result ≡ contending_of contenders listed }
+fn contending(contenders: u64, listed: &[Listed; 64]) -> [Address; 64]
+    ensures { result ≡ contending_of contenders listed.now }
 {
     let mut addresses = [Address(0); 64];
     for (i, l) in listed.iter().enumerate() {
@@ -222,25 +222,19 @@ fn contending(contenders: u64, listed: [Listed; 64]) -> [Address; 64]
 }
 
 // What a begin shows of the segment in which a contention has begun.
-pub fn shown(g: Segment, drops: u64) -> Begun
-    ensures { result ≡ shown_of g drops }
+pub fn shown(g: &Segment, drops: u64) -> Begun
+    ensures { result ≡ shown_of g.now drops }
 {
-    let contention = g.contention;
-    let w = contention.window;
-    let slot = g.clock;
-    let listed = g.listed;
-    let addresses = contending(g.contenders, listed);
-    let numbers = g.numbers;
-    let parameters = g.parameters;
+    let w = g.contention.window;
     Begun {
         refusal: 0,
         drops,
-        slot,
+        slot: g.clock,
         start: w.start,
         size: w.size,
         contenders: g.contenders,
-        addresses,
-        numbers,
-        parameters,
+        addresses: contending(g.contenders, &g.listed),
+        numbers: g.numbers,
+        parameters: g.parameters,
     }
 }

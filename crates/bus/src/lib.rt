@@ -266,7 +266,7 @@ pub fn begin(mut s: State) -> Started
     let answer = match may_begin(stands, under_way.begun) {
         Ok(()) => {
             let drops = beginning::begin_in(&mut s);
-            beginning::shown(s.segment, drops)
+            beginning::shown(&s.segment, drops)
         }
         Err(refusal) => unbegun(u32::from(refusal)),
     };

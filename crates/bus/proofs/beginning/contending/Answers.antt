@@ -61,7 +61,7 @@ loop-i-init c =
 pub loop-i-preserved : goal.loop-i-preserved
 loop-i-preserved c =
     let contenders = c.args.contenders in
-    let listed = c.args.listed in
+    let listed = c.args.listed.now in
     let addresses = c.loop-i.addresses in
     let i = c.loop-i.i in
     let inv = c.loop-i.invariant in
@@ -81,5 +81,5 @@ loop-i-preserved c =
 
 pub returns : goal.returns
 returns c =
-    row_ext 64 (shown c.args.contenders c.args.listed) c.loop-i.addresses zero_address c.loop-i.invariant.1.0
+    row_ext 64 (shown c.args.contenders c.args.listed.now) c.loop-i.addresses zero_address c.loop-i.invariant.1.0
     (λ i h. c.loop-i.invariant.1.1 i (omega arith))
