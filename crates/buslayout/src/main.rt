@@ -162,8 +162,8 @@ fn from_layout(rt: &HostRuntime) {
     lay_out(rt, &text[..got]);
 }
 
-// Writes the line of the record at an offset; the offset of the next record, or 0 where there is none.
-fn show_record(rt: &HostRuntime, input: &[u8], at: usize) -> Result<usize, Error> {
+// Writes the line of the record at an offset; the offset of the next record.
+fn show_record(rt: &HostRuntime, input: &[u8], at: usize) -> Result<Option<usize>, Error> {
     let mut room = io::large_buffer();
     let shown = shown::show(input, at, &mut room);
     rt.write_all(&room[..shown.length])?;
@@ -172,12 +172,12 @@ fn show_record(rt: &HostRuntime, input: &[u8], at: usize) -> Result<usize, Error
 
 // Writes the lines of a good scenario, a record a turn; it has no more records than bytes.
 fn show_records(rt: &HostRuntime, input: &[u8]) -> Result<(), Error> {
-    let mut at = show_record(rt, input, 0)?;
+    let mut next = show_record(rt, input, 0)?;
     for _ in 0..SCENARIO_SPACE {
-        if at == 0 {
+        let Some(at) = next else {
             break;
-        }
-        at = show_record(rt, input, at)?;
+        };
+        next = show_record(rt, input, at)?;
     }
     Ok(())
 }

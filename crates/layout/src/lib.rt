@@ -20,6 +20,8 @@ mod stages;
 mod taking;
 
 // What is wrong with a layout: a line, counted from 1, and the number of its fault.
+// The fault is a number, as docs/LAYOUT.md and the definition `wrong` have it, since by that number the contract of `read` says which it is
+// (`read_determined`): a case of the private `Fault` is not determined by it, a set-up's refusal and the engine's having one number.
 #[derive(Clone, Copy)]
 pub struct WrongLine {
     pub line: usize,
@@ -86,6 +88,7 @@ pub fn read(text: &[u8], room: &mut [u8; 65536]) -> Result<usize, WrongLine>
 }
 
 // The word with this number that stands before a number; none is empty.
+// It takes a number, and any: the definition `label_bytes` does, and callers have a fault's number (100 + w, 200 + w: docs/LAYOUT.md).
 pub fn word_of(code: u32) -> &'static [u8]
     ensures { result.now ≡ label_bytes code }
 {

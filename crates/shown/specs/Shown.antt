@@ -1,6 +1,6 @@
 -- A scenario shown as a layout, record by record (docs/LAYOUT.md, 'A scenario shown'). The words before numbers, and which of them a line
 -- has, are those by which a layout is read (layout/specs/Layout.antt). Assumes nothing.
-use Rattle.std.specs.Prelude.{ℕ, zero, suc, ◌+◌, Bool, ◌&&◌, cond, List, [], ◌∷◌, ◌++◌, eqb, length, drop}
+use Rattle.std.specs.Prelude.{ℕ, zero, suc, ◌+◌, Bool, ◌&&◌, cond, List, [], ◌∷◌, ◌++◌, eqb, length, drop, Option, Some, None}
 use Rattle.rules.specs.Lists.{first_of}
 use Rattle.rules.specs.declared.Discipline.{Discipline}
 use Rattle.rules.specs.declared.Discipline.TheVariants.{PRI, RTDG, RTVC}
@@ -109,9 +109,13 @@ shown_at input at =
     (line_of (settings_from (read_record input).values) at (read_record (drop at input)))
     (line_then [] 0)
 
+-- the next record's offset; none where it is 0, which is the first record's and never a next one's
+abbrev pub next_of : ℕ → Option ℕ
+next_of next = cond (eqb next 0) None (Some next)
+
 -- what the code's answer says
 abbrev pub shown_form : Line → Shown
-shown_form l = record { length = length l.text; next = l.next }
+shown_form l = record { length = length l.text; next = next_of l.next }
 
 -- ---- the whole input, line by line
 

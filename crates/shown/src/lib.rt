@@ -19,40 +19,38 @@ const SET_UP_BYTES: usize = 16;
 
 const STATION_BYTES: usize = 8;
 
-// The next offset after the run, which is the last record.
-const AFTER_RUN: usize = 0;
-
-// What is shown of a record: how many bytes its line has, at the start of the room, and the offset of the next record; or 0 and 0.
+// What is shown of a record: how many bytes its line has, at the start of the room, and the offset of the next record; none comes after the
+// run, nor after what is refused, which has no line.
 #[derive(Clone, Copy)]
 pub struct Shown {
     pub length: usize,
-    pub next: usize,
+    pub next: Option<usize>,
 }
 
-// Stores the line of the record at an offset of an input whose set-up has these numbers; the offset of the next record. Of the run, which is
-// the last, and of a record that is refused it is 0.
-fn line(out: &mut Writer, input: &[u8], at: usize, settings: Settings) -> usize
+// Stores the line of the record at an offset of an input whose set-up has these numbers; the offset of the next record. After the run, which is
+// the last, and after a record that is refused comes none.
+fn line(out: &mut Writer, input: &[u8], at: usize, settings: Settings) -> Option<usize>
     ensures { LineWrote out.old out.new result (line_of settings at (read_record (drop at input.now))) }
 {
     let Ok(found) = scenario::record_at(input, at) else {
-        return 0;
+        return None;
     };
     match found {
         Record::SetUp(own) => {
             lines::bus(out, own);
-            at + SET_UP_BYTES
+            Some(at + SET_UP_BYTES)
         },
         Record::Station(station) => {
             lines::station(out, settings, station);
-            at + STATION_BYTES
+            Some(at + STATION_BYTES)
         },
         Record::Arrival(arrival) => {
             lines::arrival(out, settings, arrival);
-            at + ARRIVAL_BYTES
+            Some(at + ARRIVAL_BYTES)
         },
         Record::Run(steps) => {
             lines::run(out, steps);
-            AFTER_RUN
+            None
         },
     }
 }
@@ -65,7 +63,10 @@ pub fn show(input: &[u8], at: usize, room: &mut [u8; 65536]) -> Shown
     ensures length_le_room_bytes { result.length ≤ room_bytes }
 {
     let Ok(Record::SetUp(settings)) = scenario::record_at(input, 0) else {
-        return Shown { length: 0, next: 0 };
+        return Shown {
+            length: 0,
+            next: None,
+        };
     };
     let mut out = Writer { room, at: 0 };
     let next = line(&mut out, input, at, settings);
