@@ -42,11 +42,7 @@ fn in_time(slot: Slot, values: &[u32; 64]) -> u64
 pub fn addresses_of(listed: [Listed; 64]) -> [u64; 64]
     ensures { result ≡ addresses_of listed }
 {
-    let mut addresses = [0; 64];
-    for (i, l) in listed.iter().enumerate() {
-        addresses[i] = l.address.number();
-    }
-    addresses
+    listed.map(|l| l.address.number())
 }
 
 // The word of those who transmit: 'its parameter (in the tie phase: its address) lies in the window and, in RTDG, its latest start is not
