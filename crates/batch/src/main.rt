@@ -41,8 +41,9 @@ fn runs(input: &[u8; 65536]) -> [Run; 256] {
 
 // 'The input's first eight bytes are the number of runs'
 fn count(input: &[u8; 65536]) -> usize {
-    let number = u64::from(four(input, 0)) + 4_294_967_296 * u64::from(four(input, 4));
-    number as usize
+    let mut bytes = [0; 8];
+    bytes.copy_from_slice(&input[..8]);
+    u64::from_le_bytes(bytes) as usize
 }
 
 // 'REFUSED number place', the place being that of the run that does not balance

@@ -215,7 +215,7 @@ fn write_closing(
     rt.write_all(&room[..count])
 }
 
-// The argument that names the run which comes highest; 0 where none has a figure.
+// The argument that names the run which comes highest; where none has a figure 0, the program's own name, which is not written then.
 fn argument_of(highest: Option<Placed>) -> usize {
     match highest {
         Some(p) if p.place < MOST_RUNS => p.place + 1,

@@ -36,14 +36,6 @@ pub enum Command {
     Show,
 }
 
-// No arrival.
-const NONE: Arrival = Arrival {
-    time: Slot(0),
-    address: Address(0),
-    value: 0,
-    length: 0,
-};
-
 // How many of the 64 places are named: 'k above 64 counts as 64'.
 fn places(k: u64) -> usize
     ensures { result ≤ 64 }
@@ -83,7 +75,7 @@ fn play(script: &mut Script) -> Command
     let steps = script.low();
     let length = script.number() as usize;
     let named = places(script.number());
-    let mut row = [NONE; 64];
+    let mut row = [zeros::NO_ARRIVAL; 64];
     for arrival in &mut row[..named] {
         *arrival = Arrival {
             time: Slot(script.low()),

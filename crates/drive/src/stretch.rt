@@ -2,7 +2,8 @@
 use crate::lines;
 use bus::{Answer, Report};
 
-// 'refusal drops slot phase start size event address number length wait ended'
+// 'refusal drops slot phase start size event address number length wait ended'. `settled` has the same for its own lines: one program does not
+// stand on another.
 pub fn answered(a: &Answer) -> [u64; 12] {
     [
         u64::from(a.refusal),

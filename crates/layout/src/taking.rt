@@ -29,13 +29,6 @@ const MOST_BYTES: usize = 65_536;
 // The largest number of a field of two bytes.
 const LARGEST: u32 = 65_535;
 
-const NO_ARRIVAL: Arrival = Arrival {
-    time: Slot(0),
-    address: Address(0),
-    value: 0,
-    length: 0,
-};
-
 // The number of a discipline.
 fn number_of(discipline: Discipline) -> u32
     ensures value { result ≡ code discipline }
@@ -75,7 +68,7 @@ impl Plan {
                 n: 0,
             },
             stations: [zeros::NOBODY; 64],
-            arrivals: [NO_ARRIVAL; 4096],
+            arrivals: [zeros::NO_ARRIVAL; 4096],
             count: 0,
             steps: 0,
         }

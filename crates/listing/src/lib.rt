@@ -14,21 +14,13 @@ use bus::{Arrivals, Report};
 use rules::Slot;
 use scenario::{ARRIVAL_BYTES, Record};
 use sorts::Address;
-use state::{Arrival, State};
+use state::{Arrival, State, zeros};
 use text::Writer;
 
 mod telling;
 
 // The arrivals that a stretch is given at the most.
 const MOST_ARRIVALS: usize = 64;
-
-// A place that no arrival fills.
-const NO_ARRIVAL: Arrival = Arrival {
-    time: Slot(0),
-    address: Address(0),
-    value: 0,
-    length: 0,
-};
 
 // A run that is played: the state, the offset of the record that is next in the input, and the steps that are left if it goes on.
 #[derive(Clone, Copy)]
@@ -97,7 +89,7 @@ fn arrival_at(input: &[u8], at: usize) -> Option<Arrival>
 pub fn gather(input: &[u8], from: usize) -> Arrivals
     ensures { result ≡ arrivals_form (next_arrivals input.now from) }
 {
-    let mut row = [NO_ARRIVAL; 64];
+    let mut row = [zeros::NO_ARRIVAL; 64];
     let mut at = from;
     for length in 0..MOST_ARRIVALS {
         let Some(arrival) = arrival_at(input, at) else {

@@ -11,7 +11,7 @@ use text::Writer;
 
 mod lines;
 
-// Why a scenario has no row: the number of its refusal, and the offset.
+// Why a scenario has no row: the number of its refusal, and the offset. A number, because any is written as it is (`refusal_words`).
 #[derive(Drop)]
 pub struct Refusal {
     pub number: u32,

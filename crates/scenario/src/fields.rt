@@ -9,6 +9,8 @@ fn byte(s: &[u8], at: usize) -> u8
     s.get(at).copied().unwrap_or(0)
 }
 
+// Three functions for three widths: each takes its bytes by the library's method of its type, and no const argument may be computed.
+
 // The one-byte number at an offset.
 pub fn one(s: &[u8], at: usize) -> u32
     ensures { result ≡ number (take 1 (drop at s.now)) }

@@ -1,4 +1,5 @@
-// A lent state with another clock, with other counts, or with another word of contenders.
+// A lent state with another clock, with other counts, or with another word of contenders. A function for each: one for all would take the
+// change as a closure, and no call would be shorter.
 use rules::Slot;
 use state::{Segment, State};
 

@@ -122,6 +122,7 @@ pub fn begun(text: &[u8], s: State) {
     ];
     label(text);
     numbers(&told);
+    // By place: three rows of an answer lie side by side.
     for i in 0..3 {
         numbers(&offer(&b, i));
     }

@@ -79,7 +79,8 @@ pub const NO_RUN: Run = Run {
     wait: 0,
 };
 
-// The sheet of the first so many runs of a row, which is public and takes any count with the row. '23, over 256 runs; 24, a run whose admitted count is not sent + lost + waiting; 23 first.'
+// The sheet of the first so many runs of a row: exported, so that the count may be any. '23, over 256 runs; 24, a run whose admitted count is not
+// sent + lost + waiting; 23 first.'
 pub fn draw(runs: [Run; 256], count: usize) -> Result<Sheet, Refused>
     ensures { result ≡ drawn runs count }
 {

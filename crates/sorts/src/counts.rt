@@ -10,7 +10,7 @@ const LATE: u32 = 14;
 
 const FILLED: u32 = 15;
 
-// The count with one packet more, up to its stop.
+// The count with one packet more, up to its stop. One past the stop stays as it is, which no minimum does.
 pub fn one_more(count: u64) -> u64
     ensures { result ≡ one_higher count }
 {

@@ -15,6 +15,7 @@ pub fn none_twice(numbers: &[u32]) -> bool
     for (k, number) in numbers.iter().enumerate() {
         let mut at = (number % 2048) as usize;
         let mut rest = number / 2048;
+        // A way ends at a free link: no list is gone over.
         loop {
             let link = usize::from(links[at]);
             if link == 0 {

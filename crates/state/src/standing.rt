@@ -160,7 +160,8 @@ fn place_stands(g: &Segment, i: usize, waits: usize, places: &[Packet]) -> bool
         }
 }
 
-// 'waiting is the number of packets in the queues', of the first n of them. A length above 16 counts as 16, and n above 64 as 64.
+// 'waiting is the number of packets in the queues', of the first n of them. A length above 16 counts as 16, and n above 64 as 64. By a `for`: of the
+// library's `sum` over the part the check lacks the bound. The array and the count come as the function is exported.
 pub fn waiting_in(lengths: [usize; 64], n: usize) -> usize
     ensures { result ≡ waiting_in lengths n }
 {
@@ -204,7 +205,7 @@ fn contention_stands(settings: &Settings, c: &Contention) -> bool
 }
 
 // Each of the 64 places, 'admitted = sent + lost + waiting', and 'none twice over all queues': the numbers of the packets of all queues are
-// taken out, one queue's behind another's.
+// taken out, one queue's behind another's; how many there are so far is also the count that is compared.
 fn queues_stand(g: &Segment, queues: &Queues) -> bool
     requires { g.now.settings.n ≤ 64 }
     ensures { result ≡ queues_sound g.now queues.now }

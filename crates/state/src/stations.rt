@@ -95,7 +95,7 @@ pub fn has_capability(stations: &[Listed], capability: Capability) -> bool
     stations.iter().any(|l| capability == l.capability)
 }
 
-// 'RTVC: .. distinct': whether one of these stations has a capability that no other may have.
+// 'RTVC: .. distinct': whether one of these stations has a capability that no other may have; by the discipline's number, as `station_tests` has it.
 fn capability_taken(discipline: u32, stations: &[Listed], capability: Capability) -> bool
     ensures { result ≡ (eqb discipline (code RTVC) && some_of (λ l. eqb capability.0 l.capability.0) stations.now) }
 {

@@ -1,5 +1,5 @@
 // 'What has no meaning is zero': places that nothing fills, no contention, no last winner.
-use crate::{Contender, Contention, Listed, Round};
+use crate::{Arrival, Contender, Contention, Listed, Round};
 use rules::{Packet, Slot};
 use sorts::{Address, Capability};
 use window::{Side, Window};
@@ -44,4 +44,12 @@ pub const NO_CONTENTION: Contention = Contention {
 pub const NO_ROUND: Round = Round {
     won: false,
     last: Capability(0),
+};
+
+// A place that no arrival fills.
+pub const NO_ARRIVAL: Arrival = Arrival {
+    time: NO_SLOT,
+    address: Address(0),
+    value: 0,
+    length: 0,
 };

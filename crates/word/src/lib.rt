@@ -46,7 +46,7 @@ pub fn count(word: u64) -> u32
     u64::count_ones(word)
 }
 
-// The lowest place whose bit is set; 64 where none is.
+// The lowest place whose bit is set; 64 where none is, as trailing zeros have it and `lowest_of` says.
 pub fn lowest(word: u64) -> usize
     ensures { result ≡ lowest_of word }
 {
