@@ -50,7 +50,8 @@ fn contender_for(
     }
 }
 
-// The segment with each station's offer recorded. Only the queues to choose from are taken out, and in the loop itself: a call that takes one
+// The segment with each station's offer recorded, once late packets have left. `offer_all` does it in place, but its clause `stands` does not hold
+// there: offers are recorded and no contention has begun. Only the queues to choose from are taken out, and in the loop itself: a call that takes one
 // out copies the whole row. The listed stations are taken out once: to read one of them in a segment that came by value would copy it whole.
 fn offers_of(g: Segment, queues: Queues) -> Segment
     requires n_bound { g.settings.n ≤ 64 }

@@ -12,7 +12,8 @@ use sorts::{Address, Capability, Windowed};
 use state::{Contention, Listed, Round, Segment, Settings, State, zeros};
 use window::{Side, Window};
 
-// The stations whose number in a row lies in a window, as a word.
+// The stations whose number in a row lies in a window, as a word. This and `in_time` stay two: one function of both, lent the test, could promise
+// only some word and what the closure answers (`FnReturnsAt`) at each of its places, and each caller would say what that comes to: no plainer.
 fn lying_in(w: Window, row: &[u64; 64]) -> u64
     ensures { result ≡ word_of (λ i. in_window w (get_or row.now i 0)) 64 }
 {
