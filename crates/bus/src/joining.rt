@@ -11,6 +11,7 @@ use sorts::{Address, counts, disciplines};
 use state::{Listed, State, standing};
 
 // The place of the station with an address; n where there is none.
+// So `first_place` has it, which `asked_if` goes by.
 fn station_of(listed: &[Listed; 64], n: usize, address: Address) -> usize
     requires { n ≤ 64 }
     ensures { result ≡ first_place (λ i. eqb address.0 (get_or listed.now i nobody).address.0) 0 n }

@@ -25,7 +25,7 @@ mod waiting;
 const LAST_SLOT: u32 = 1_073_737_728;
 
 // The answer to no step and no probe.
-pub const NO_ANSWER: Answer = Answer {
+const NO_ANSWER: Answer = Answer {
     refusal: 0,
     drops: 0,
     slot: Slot(0),
@@ -48,7 +48,8 @@ pub struct Admission {
 }
 
 // A begin's answer: the drops, the slot, the first window's start and size; the word of contenders, and by station the contender's address, its
-// packet's number and its parameter. What has no meaning is zero.
+// packet's number and its parameter. What has no meaning is zero. The refusal is a number, 0 for none, and no Result, here and in `Answer` and
+// `Totals`: `begin_result`, `step_result` and `totals_of`, and `HandsBack` of the rules' demands, are about that number and the zeros beside it.
 #[derive(Clone, Copy)]
 pub struct Begun {
     pub refusal: u32,
@@ -136,7 +137,7 @@ pub struct Stepped {
 }
 
 // The arrivals that come next in a run: the first `length` of the places; a length above 64 counts as 64. Where all are filled there
-// may be more.
+// may be more. An array with its length, as the function that takes it is exported and `stretch_of` has it; nothing here allocates.
 #[derive(Clone, Copy)]
 pub struct Arrivals {
     pub row: [Arrival; 64],
@@ -158,8 +159,8 @@ pub enum Report {
     },
 }
 
-// A stretch of a run: the reports of the calls made, and past them that of no step; how many arrivals have been taken, the state, and how many steps are
-// left. The state lies before the shorter number: after that and its padding the compiled code would hold it twice as it is handed back.
+// A stretch of a run: the reports of the calls made, and past them that of no step; how many arrivals have been taken, the state, and how
+// many steps are left. The state lies before the shorter number: after that and its padding the compiled code would hold it twice as it is handed back.
 #[derive(Clone, Copy)]
 pub struct Stretch {
     pub reports: [Report; 512],
@@ -193,7 +194,7 @@ enum Leaving {
     Sent(u32),
 }
 
-// The answer to an admission, and its station's place where it is accepted.
+// The answer to an admission, and its station's place where it is accepted: `asked_if` says of a refused one too which place was looked at.
 #[derive(Clone, Copy)]
 struct Asked {
     pub place: usize,

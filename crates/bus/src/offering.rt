@@ -51,7 +51,8 @@ pub fn late_offered(already: bool, discipline: u32, clock: Slot, value: u32) -> 
     already || disciplines::late(discipline, clock, value)
 }
 
-// '(latest start - T) divided by q, rounded down, and D - 1 where that is larger'
+// '(latest start - T) divided by q, rounded down, and D - 1 where that is larger'. That q and D are not 0 is asked by each function that divides so,
+// here and in `beginning`: settings may have any numbers (refusals 3 and 5), and only `standing` of the whole state excludes 0.
 fn laxity(settings: Settings, clock: Slot, latest: Slot) -> u32
     requires q_positive { 1 ≤ settings.q }
     requires d_positive { 1 ≤ settings.d }

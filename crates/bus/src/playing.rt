@@ -34,7 +34,8 @@ fn is_due(taken: usize, length: usize, time: Slot, clock: Slot) -> bool
     taken < length && time <= clock
 }
 
-// A step of a state: 'a step tries 1, then 17', begins a contention if none is under way, and probes one slot.
+// A step of a state: 'a step tries 1, then 17', begins a contention if none is under way, and probes one slot. `Held` and `standing` are asked by
+// each of the calls in place: a State is exported and may hold anything, and a type of those that stand would hold its 64 KB once more.
 pub fn step_in(s: &mut State, stands: bool, addresses: &[u64; 64]) -> Answer
     requires held { Held s.old }
     requires stands { stands ≡ standing s.old }
@@ -54,7 +55,7 @@ pub fn step_in(s: &mut State, stands: bool, addresses: &[u64; 64]) -> Answer
 }
 
 // The calls of a stretch. A state that does not stand comes back as lent, and each call is refused; one that stands stands after each
-// call.
+// call. Three counts end it, of which a call moves two, and all three are part of what comes back.
 pub fn calls(mut s: State, stands: bool, arrivals: Arrivals, steps: u32) -> Stretch
     requires { stands ≡ standing s }
     ensures { result ≡ stretch_form (stretch_of s arrivals steps) }

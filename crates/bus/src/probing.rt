@@ -335,6 +335,7 @@ pub fn probe_in(s: &mut State, drops: u64, addresses: &[u64; 64]) -> Answer
     };
     let transmitters = transmitters(&s.segment, addresses);
     let heard = word::count(transmitters);
+    // Zeros unless one transmits, as `sole_of` and `moved_by` have them.
     let mut place = 0;
     let mut listed = zeros::NOBODY;
     let mut packet = zeros::NO_PACKET;

@@ -47,7 +47,8 @@ pub fn close_up(queues: &mut Queues, place: usize, leaving: Leaving)
     queues.lengths[place] = filled;
 }
 
-// 'In RTDG every queued packet with latest start below T is dropped', of the first n stations.
+// 'In RTDG every queued packet with latest start below T is dropped', of the first n stations. By place, since `close_up` is told a station's;
+// the discipline by its number, as `Leaving` has it.
 pub fn drop_late(queues: &mut Queues, n: usize, discipline: u32, slot: Slot)
     requires n_bound { n ≤ 64 }
     requires rows { IsRow queues.old }
