@@ -5,9 +5,11 @@ use mathlib.Core.Path.{◌≡◌, refl, sym, ap, ap₂, ◌∙◌, subst}
 use mathlib.Core.Bool.{Bool, true, false, ◌&&◌, cond}
 use mathlib.Core.List.{List}
 use native.Mathlib.Omega.{arith}
-use lib.Dec.{ltb}
+use lib.Dec.{ltb, eqb}
 use lib.ListN.{length, get_or, set, replicate}
-use borrow.Author.Tests.{ne_eqb}
+use borrow.Author.Tests.{eqb-true}
+use Rattle.std.specs.Prelude.{Result, Ok, Err}
+use mathlib.Core.Bool.{true≢false}
 use denote.Enum.Bare as Bare
 use Rattle.bus.specs.contracts.Event as event
 use Rattle.rules.specs.Lists.{keep}
@@ -32,7 +34,7 @@ use Rattle.word.specs.Word.{count_of}
 use Rattle.state.specs.State.{Held, meaning, form, queue_at, standing}
 use Rattle.bus.specs.Coded.{Answer, Event, Idle, Collision, Success, succeeded, Stepped, Admission, arrival_of, coded_admit, coded_step, coded, admission_result, step_result, state_turned}
 use Rattle.bus.specs.Stretch.{Arrivals, Report, no_arrival, most_calls, no_report, asks, due, arrival_report, step_report, in_row, may_be_more}
-use Rattle.bus.specs.Parts.{refusal_at, answered, Asked, asked_if, Moved, transmitters_in, moved_by, with_moved, queue_form, stays, Sent, progress_of, Sole, sole_of, heard_in}
+use Rattle.bus.specs.Parts.{refusal_at, asked_if, Moved, transmitters_in, moved_by, with_moved, queue_form, stays, Sent, progress_of, Sole, sole_of, heard_in}
 use Rattle.state.proofs.Form.{form_meaning, standing_fits, held_form, parts_padded}
 use Rattle.state.proofs.Stands.{form_stands}
 use Rattle.bus.proofs.Coded.{coded_next, next_stands}
@@ -120,6 +122,25 @@ numbered TooLong z = omega arith
 numbered UnderWay z = omega arith
 numbered NoneUnderWay z = omega arith
 
+-- ---- an answer that is one or the other
+
+abbrev err_or : Result (ℕ × ℕ) ℕ → ℕ → ℕ
+err_or (Ok o) n = n
+err_or (Err m) n = m
+
+abbrev ok_or : Result (ℕ × ℕ) ℕ → ℕ × ℕ → ℕ × ℕ
+ok_or (Ok p) o = p
+ok_or (Err m) o = o
+
+err≢ok : {n : ℕ} {o : ℕ × ℕ} → ◌≡◌ {A = Result (ℕ × ℕ) ℕ} (Err n) (Ok o) → ⊥
+err≢ok e = cc
+
+err_same : {n m : ℕ} → ◌≡◌ {A = Result (ℕ × ℕ) ℕ} (Err n) (Err m) → n ≡ m
+err_same {n} e = ap (λ (x : Result (ℕ × ℕ) ℕ). err_or x n) e
+
+ok_same : {o p : ℕ × ℕ} → ◌≡◌ {A = Result (ℕ × ℕ) ℕ} (Ok o) (Ok p) → o ≡ p
+ok_same {o} e = ap (λ (x : Result (ℕ × ℕ) ℕ). ok_or x o) e
+
 -- ---- an admission in place
 
 module _ (s : State) (address : Address) (value len : ℕ) where
@@ -127,7 +148,7 @@ module _ (s : State) (address : Address) (value len : ℕ) where
   arrival = arrival_of address value len
 
   -- what is answered, by whether the state stands
-  abbrev pub asked_of : Bool → Asked
+  abbrev pub asked_of : Bool → Result (ℕ × ℕ) ℕ
   asked_of t = asked_if t s.segment.settings s.segment.listed s.segment.clock s.segment.admitted s.queues.lengths address value len
 
   module _ (r : Lent s) where
@@ -138,72 +159,60 @@ module _ (s : State) (address : Address) (value len : ℕ) where
     of_rules : refusal ≡ admission_refusal (meaning s) arrival
     of_rules = refusal_is s r (address_place s address) address refl value len
 
-    refused_is :
-        ¬ (refusal ≡ 0)
-        → ◌≡◌ {A = Admission} (record { answer = answered refusal s.segment.admitted; state = (refused_in s refusal).state })
-        (admission_result (coded_admit s arrival))
-    refused_is n =
-        ap
-        (λ (t : Bool). record { answer = record { refusal = refusal; number = cond t (s.segment.admitted + 1) 0 }; state = (refused_in s refusal).state })
-        (ne_eqb refusal 0 n)
-        ∙ gives_refusal s r arrival refusal of_rules n
-
   -- the call is refused
   pub asked_away :
-      (t : Bool) → Sound t s → (o : Asked) → o ≡ asked_of t → ¬ (o.answer.refusal ≡ 0) → (count : ℕ)
-      → count ≡ turned_after o.answer.refusal s.segment.turned
-      → ◌≡◌ {A = Admission} (record { answer = o.answer; state = state_turned s count }) (admission_result (coded_admit s arrival))
-  asked_away t r o e n count k =
-      ap (λ (m : ℕ). record { answer = o.answer; state = state_turned s m }) k
-      ∙ ap (λ (x : Asked). record { answer = x.answer; state = (refused_in s x.answer.refusal).state }) e
-      ∙ go t r (λ z. n (ap (λ (x : Asked). x.answer.refusal) e ∙ z))
+      (t : Bool) → Sound t s → (n : ℕ) → Err n ≡ asked_of t → (count : ℕ) → count ≡ turned_after n s.segment.turned
+      → ◌≡◌ {A = Admission} (record { answer = record { refusal = n; number = 0 }; state = state_turned s count })
+      (admission_result (coded_admit s arrival))
+  asked_away t r n e count k =
+      ap (λ (m : ℕ). record { answer = record { refusal = n; number = 0 }; state = state_turned s m }) k ∙ go t r e
     where
+      tested :
+          (r : Lent s) (u : Bool) → eqb (refusal r) 0 ≡ u
+          → ◌≡◌ {A = Result (ℕ × ℕ) ℕ} (Err n) (cond u (Ok (address_place s address, s.segment.admitted + 1)) (Err (refusal r)))
+          → (n ≡ refusal r) × (¬ (refusal r ≡ 0))
+      tested r true u e = absurd (err≢ok e)
+      tested r false u e = (err_same e, λ z. true≢false (sym (ap (λ (k : ℕ). eqb k 0) z) ∙ u))
+
       go :
-          (t : Bool) → Sound t s → ¬ ((asked_of t).answer.refusal ≡ 0)
-          → ◌≡◌ {A = Admission} (record { answer = (asked_of t).answer; state = (refused_in s (asked_of t).answer.refusal).state })
+          (t : Bool) → Sound t s → Err n ≡ asked_of t
+          → ◌≡◌ {A = Admission} (record { answer = record { refusal = n; number = 0 }; state = (refused_in s n).state })
           (admission_result (coded_admit s arrival))
-      go true r n = refused_is r n
-      go false r n = gives_1 s r.0 arrival r.1
+      go true r e =
+          let h = tested r (eqb (refusal r) 0) refl e in
+          ap (λ (m : ℕ). record { answer = record { refusal = m; number = 0 }; state = (refused_in s m).state }) h.0
+          ∙ gives_refusal s r arrival (refusal r) (of_rules r) h.1
+      go false r e =
+          ap (λ (m : ℕ). record { answer = record { refusal = m; number = 0 }; state = (refused_in s m).state }) (err_same e)
+          ∙ gives_1 s r.0 arrival r.1
 
   -- or the packet has its place
-  pub record Taken (o : Asked) : Type 0 where
-    pub within_row : o.place < 64
-    pub room : get_or s.queues.lengths o.place 0 < 16
+  pub record Taken (o : ℕ × ℕ) : Type 0 where
+    pub within_row : o.0 < 64
+    pub room : get_or s.queues.lengths o.0 0 < 16
     pub is :
-        ◌≡◌ {A = Admission} (record { answer = o.answer; state = joined_at s o.place o.answer.number value len })
+        ◌≡◌ {A = Admission} (record { answer = record { refusal = 0; number = o.1 }; state = joined_at s o.0 o.1 value len })
         (admission_result (coded_admit s arrival))
 
-  -- an accepted packet is not counted as turned away
-  pub taken_uncounted :
-      (o : Asked) → Taken o → o.answer.refusal ≡ 0 → (count : ℕ) → count ≡ turned_after o.answer.refusal s.segment.turned
-      → ◌≡◌ {A = Admission} (record { answer = o.answer; state = joined_at (state_turned s count) o.place o.answer.number value len })
-      (admission_result (coded_admit s arrival))
-  taken_uncounted o taken z count k =
-      ap (λ (m : ℕ). record { answer = o.answer; state = joined_at (state_turned s m) o.place o.answer.number value len })
-      (k ∙ ap (λ (n : ℕ). turned_after n s.segment.turned) z)
-      ∙ taken.is
-
-  taken_at : (r : Lent s) → refusal r ≡ 0 → Taken (asked_of true)
+  taken_at : (r : Lent s) → refusal r ≡ 0 → Taken (address_place s address, s.segment.admitted + 1)
   taken_at r z =
       let none! : admission_refusal (meaning s) arrival ≡ 0 = sym (of_rules r) ∙ z in
       let place = address_place s address in
       record {
         within_row = within_row s r place address refl value len none!;
         room = room_at s r place address refl value len none!;
-        is =
-            ap
-            (λ (k : ℕ).
-            record {
-              answer = answered k s.segment.admitted;
-              state = joined_at s place (answered k s.segment.admitted).number value len;
-            })
-            z
-            ∙ joined_in_place s r place address refl value len none! (s.segment.admitted + 1) refl;
+        is = joined_in_place s r place address refl value len none! (s.segment.admitted + 1) refl;
       }
 
-  pub asked_in : (t : Bool) → Sound t s → (o : Asked) → o ≡ asked_of t → o.answer.refusal ≡ 0 → Taken o
-  asked_in true r o e z = subst Taken (sym e) (taken_at r (sym (ap (λ (x : Asked). x.answer.refusal) e) ∙ z))
-  asked_in false r o e z = let one = ap (λ (x : Asked). x.answer.refusal) e in absurd (omega arith)
+  pub asked_in : (t : Bool) → Sound t s → (o : ℕ × ℕ) → Ok o ≡ asked_of t → Taken o
+  asked_in true r o e = go (eqb (refusal r) 0) refl e
+    where
+      go :
+          (u : Bool) → eqb (refusal r) 0 ≡ u
+          → ◌≡◌ {A = Result (ℕ × ℕ) ℕ} (Ok o) (cond u (Ok (address_place s address, s.segment.admitted + 1)) (Err (refusal r))) → Taken o
+      go true u e = subst Taken (sym (ok_same e)) (taken_at r (eqb-true (refusal r) 0 u))
+      go false u e = absurd (err≢ok (sym e))
+  asked_in false r o e = absurd (err≢ok (sym e))
 
 -- ---- a step is refused, or is not
 

@@ -1,7 +1,9 @@
 -- The parts that the calls are made of, as functions: what the contracts of the private functions cite. Assumes nothing.
 use Rattle.std.specs.Prelude.{ℕ, zero, suc, ◌≡◌, ◌<◌, ◌+◌, ◌-◌, ◌*◌, ◌/◌, ◌^◌, min, Bool, true, false, not, ◌&&◌, cond, List, [], ◌∷◌, ◌++◌, leb, ltb, eqb, length, get_or, set, take, drop, replicate}
 use Rattle.std.specs.Prelude as Returned
-use Rattle.std.specs.Prelude.{Some, None}
+use Rattle.std.specs.Prelude.{Some, None, Result, Ok, Err}
+use Rattle.rules.specs.declared.Refusal.{Refusal}
+use Rattle.rules.specs.Refusals.{number_of}
 use Rattle.std.proofs.Math.Option.{Option, none, some}
 use Rattle.window.specs.declared.Side.{Side}
 use Rattle.window.specs.declared.Side.TheVariants.{Left, Right}
@@ -23,7 +25,6 @@ use Rattle.state.specs.State.{Recorded, recorded_in, recorded_at, recorded, no_p
 use Rattle.bus.specs.Coded.{Admission, Begun, Stepped, step_result, Answer, Parameter, Tie, Event, Idle, Collision, Success}
 pub use Rattle.bus.specs.declared.Leaving.{Leaving}
 pub use Rattle.bus.specs.declared.Leaving.TheVariants.{Late, Sent}
-pub use Rattle.bus.specs.declared.Asked.{Asked}
 pub use Rattle.bus.specs.declared.Progress.{Progress}
 pub use Rattle.bus.specs.declared.Moved.{Moved}
 
@@ -101,14 +102,20 @@ refusal_at g clock admitted lengths place value len = first_of 0 (refusal_tests 
 abbrev pub answered : ℕ → ℕ → Admitted
 answered refusal admitted = record { refusal = refusal; number = cond (eqb refusal 0) (admitted + 1) 0 }
 
--- the same and its station's place; of a state that does not stand, 1
-abbrev pub asked_if : Bool → Settings → List Listed → Slot → ℕ → List ℕ → Address → ℕ → ℕ → Asked
+-- the station's place and the packet's number, or the number of what refuses it
+abbrev pub asked_by : ℕ → ℕ → ℕ → Result (ℕ × ℕ) ℕ
+asked_by refusal place number = cond (eqb refusal 0) (Ok (place, number)) (Err refusal)
+
+-- the same of a state; 1 of one that does not stand
+abbrev pub asked_if : Bool → Settings → List Listed → Slot → ℕ → List ℕ → Address → ℕ → ℕ → Result (ℕ × ℕ) ℕ
 asked_if stands g listed clock admitted lengths address value len =
     let place = first_place (λ i. eqb address.0 (get_or listed i nobody).address.0) 0 g.n in
-    cond
-    stands
-    (record { place = place; answer = answered (refusal_at g clock admitted lengths place value len) admitted })
-    (record { place = 0; answer = record { refusal = 1; number = 0 } })
+    cond stands (asked_by (refusal_at g clock admitted lengths place value len) place (admitted + 1)) (Err 1)
+
+-- what the code's answer says of it
+abbrev pub asked_as : Result (ℕ × ℕ) Refusal → Result (ℕ × ℕ) ℕ
+asked_as (Ok x) = Ok x
+asked_as (Err refusal) = Err (number_of refusal)
 
 -- ---- a contention begins
 

@@ -3,9 +3,8 @@ ghost use Rattle.std.specs.Prelude.{◌≤◌, ◌≡◌, true, eqb, get_or};
 ghost use Rattle.state.specs.State.{Held, standing, nobody};
 ghost use Rattle.bus.specs.Coded.{coded_admit, admission_result, arrival_of};
 ghost use Rattle.rules.specs.Refusals.{answered};
-ghost use Rattle.bus.specs.Parts.{first_place, refusal_at, asked_if, admission_to};
+ghost use Rattle.bus.specs.Parts.{first_place, refusal_at, asked_as, asked_if, admission_to};
 
-use crate::Asked;
 use rules::{Admitted, Packet, Refusal, Slot};
 use sorts::{Address, counts, disciplines};
 use state::{Listed, State, standing};
@@ -53,55 +52,51 @@ fn may_join(s: &State, place: usize, value: u32, length: u32) -> Result<(), Refu
     Ok(())
 }
 
-// The answer to an admission: 'Admission tries 1, then 11 to 16'; 'An accepted packet is numbered 1, 2, 3 and so on; the number is the
-// answer.'
-fn asked(s: &State, stands: bool, address: Address, value: u32, length: u32) -> Asked
+// 'Admission tries 1, then 11 to 16'; 'An accepted packet is numbered 1, 2, 3 and so on': the place of its station, and its number.
+fn asked(
+    s: &State,
+    stands: bool,
+    address: Address,
+    value: u32,
+    length: u32,
+) -> Result<(usize, u32), Refusal>
     requires { stands ≡ true → s.now.segment.settings.n ≤ 64 }
-    ensures { result ≡ asked_if stands s.now.segment.settings s.now.segment.listed s.now.segment.clock s.now.segment.admitted s.now.queues.lengths address value length }
+    ensures { asked_as result ≡ asked_if stands s.now.segment.settings s.now.segment.listed s.now.segment.clock s.now.segment.admitted s.now.queues.lengths address value length }
 {
     if !stands {
-        let answer = Admitted {
-            refusal: 1,
-            number: 0,
-        };
-        return Asked { place: 0, answer };
+        return Err(Refusal::Standing);
     }
     let place = station_of(&s.segment.listed, s.segment.settings.n, address);
-    let answer = match may_join(s, place, value, length) {
-        Ok(()) => Admitted {
-            refusal: 0,
-            number: (s.segment.admitted + 1) as u32,
-        },
-        Err(refusal) => Admitted {
-            refusal: u32::from(refusal),
-            number: 0,
-        },
-    };
-    Asked { place, answer }
+    may_join(s, place, value, length)?;
+    Ok((place, (s.segment.admitted + 1) as u32))
 }
 
-// The same in a state: an accepted packet takes the first free place of its station's queue, and one that is refused with 14 or 15 is counted.
+// The same in a state: an accepted packet takes the first free place of its station's queue, and one that is refused with 14 or 15 is counted. 'The
+// number is the answer.'
 pub fn admit_in(s: &mut State, stands: bool, address: Address, value: u32, length: u32) -> Admitted
     requires held { Held s.old }
     requires stands { stands ≡ standing s.old }
     ensures admitted { admission_to result s.new ≡ admission_result (coded_admit s.old (arrival_of address value length)) }
     ensures listed { s.new.segment.listed ≡ s.old.segment.listed }
 {
-    let asked = asked(s, stands, address, value, length);
-    let answer = asked.answer;
-    s.segment.turned = counts::turned_after(answer.refusal, s.segment.turned);
-    if answer.refusal == 0 {
-        let place = asked.place;
-        let waiting = s.queues.lengths[place];
-        let at = 16 * place + waiting;
-        s.queues.packets[at] = Packet {
-            number: answer.number,
-            value,
-            length,
-            admission: s.segment.clock,
-        };
-        s.queues.lengths[place] = waiting + 1;
-        s.segment.admitted = u64::from(answer.number);
+    match asked(s, stands, address, value, length) {
+        Ok((place, number)) => {
+            let waiting = s.queues.lengths[place];
+            let at = 16 * place + waiting;
+            s.queues.packets[at] = Packet {
+                number,
+                value,
+                length,
+                admission: s.segment.clock,
+            };
+            s.queues.lengths[place] = waiting + 1;
+            s.segment.admitted = u64::from(number);
+            Admitted { refusal: 0, number }
+        }
+        Err(refused) => {
+            let refusal = u32::from(refused);
+            s.segment.turned = counts::turned_after(refusal, s.segment.turned);
+            Admitted { refusal, number: 0 }
+        }
     }
-    answer
 }

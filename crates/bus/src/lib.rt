@@ -194,13 +194,6 @@ enum Leaving {
     Sent(u32),
 }
 
-// The answer to an admission, and its station's place where it is accepted: `asked_if` says of a refused one too which place was looked at.
-#[derive(Clone, Copy)]
-struct Asked {
-    pub place: usize,
-    pub answer: Admitted,
-}
-
 // What a probe moves.
 #[derive(Clone, Copy)]
 struct Progress {

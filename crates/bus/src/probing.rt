@@ -73,7 +73,7 @@ pub fn transmitters(g: &Segment, addresses: &[u64; 64]) -> u64
     able & lying_in(window, &g.parameters)
 }
 
-// The answer to a probe without a winner.
+// The answer to a probe without a winner. The drops are beside the progress here and below: a probe moves nothing of them (`answer_at`).
 fn unsent(progress: Progress, drops: u64, event: Event, ended: bool) -> Answer
     ensures { result ≡ answer_at progress drops event (record { 0 = 0 }) 0 0 0 ended }
 {
@@ -130,13 +130,10 @@ fn went_on(progress: Progress, c: Contention) -> Progress
     requires { progress.clock.0 + 1 ≤ 4294967295 }
     ensures { result ≡ went_on progress c }
 {
-    let clock = later(progress.clock, 1);
-    let round = progress.round;
     Progress {
-        clock,
-        sent: progress.sent,
-        round,
+        clock: later(progress.clock, 1),
         contention: c,
+        ..progress
     }
 }
 
@@ -147,12 +144,10 @@ fn split(a: u32, c: Contention) -> Contention
 {
     let w = c.window;
     if 2 <= w.size {
-        let half = window::left_half(w);
         return Contention {
             begun: true,
-            window: half,
-            tied: c.tied,
-            tie: c.tie,
+            window: window::left_half(w),
+            ..c
         };
     }
     let first = window::first_window(a);
@@ -189,12 +184,10 @@ fn unheard(progress: Progress, drops: u64) -> Moved
     let side = w.side;
     match side {
         Side::Left => {
-            let window = window::move_right(w);
             let onto = Contention {
                 begun: true,
-                window,
-                tied: c.tied,
-                tie: c.tie,
+                window: window::move_right(w),
+                ..c
             };
             let next = went_on(progress, onto);
             let answer = unsent(progress, drops, Event::Idle, false);
