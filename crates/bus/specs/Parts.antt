@@ -98,10 +98,6 @@ refusal_tests g clock admitted lengths place value len =
 abbrev pub refusal_at : Settings → Slot → ℕ → List ℕ → ℕ → ℕ → ℕ → ℕ
 refusal_at g clock admitted lengths place value len = first_of 0 (refusal_tests g clock admitted lengths place value len)
 
--- the answer to an admission that is refused with this number, or accepted where that is 0
-abbrev pub answered : ℕ → ℕ → Admitted
-answered refusal admitted = record { refusal = refusal; number = cond (eqb refusal 0) (admitted + 1) 0 }
-
 -- the station's place and the packet's number, or the number of what refuses it
 abbrev pub asked_by : ℕ → ℕ → ℕ → Result (ℕ × ℕ) ℕ
 asked_by refusal place number = cond (eqb refusal 0) (Ok (place, number)) (Err refusal)
