@@ -46,12 +46,9 @@ fn count(input: &[u8; 65536]) -> usize {
     u64::from_le_bytes(bytes) as usize
 }
 
-// 'REFUSED number place', the place being that of the run that does not balance
+// 'REFUSED number place'
 fn refuse(rt: &impl Print, refused: Refused) -> io::Result<()> {
-    let place = match refused {
-        Refused::TooMany => 0,
-        Refused::Unbalanced(place) => place,
-    };
+    let place = refused.place();
     let number = u32::from(refused);
     println!(rt; "REFUSED {number} {place}")
 }

@@ -1,7 +1,6 @@
 -- Batches of runs and what their sheets say (change requests P2 and P4), each worked out by hand. Assumes nothing.
 use Rattle.std.specs.Prelude.{ℕ, suc, ◌+◌, List, [], ◌∷◌, ◌++◌, take, replicate, Option, Some, None, Result, Ok, Err}
-use Rattle.sheet.specs.Sheet.{Run, Sums, Placed, Sheet, Refused, number_of}
-use Rattle.sheet.specs.declared.Refused.TheVariants.{TooMany, Unbalanced}
+use Rattle.sheet.specs.Sheet.{Run, Sums, Placed, Sheet, Refused, number_of, place_of}
 
 -- a run: packets admitted, sent, lost, waiting, turned away, and the longest wait
 abbrev pub run : ℕ → ℕ → ℕ → ℕ → ℕ → ℕ → Run
@@ -43,11 +42,6 @@ pub record Said : Type 0 where
 -- a refused batch says its number and the place, and has no row
 abbrev refuses : ℕ → ℕ → Said
 refuses number place = record { refusal = number ∷ place ∷ []; rows = []; sums = 0 ∷ 0 ∷ 0 ∷ 0 ∷ 0 ∷ []; highest = 0 ∷ [] }
-
--- the place of the run that does not balance, or 0
-abbrev place_of : Refused → ℕ
-place_of TooMany = 0
-place_of (Unbalanced place) = place
 
 abbrev pub said : Result Sheet Refused → Said
 said (Ok sheet) =

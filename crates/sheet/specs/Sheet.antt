@@ -127,6 +127,11 @@ abbrev pub number_of : Refused → ℕ
 number_of TooMany = 23
 number_of (Unbalanced place) = 24
 
+-- the place that is said with it: that of the run which does not balance, and 0 where there are too many
+abbrev pub place_of : Refused → ℕ
+place_of TooMany = 0
+place_of (Unbalanced place) = place
+
 -- '24': a batch in which a run does not balance, by the place of the first; or none
 abbrev pub drawn_by : List Run → Option ℕ → Result Sheet Refused
 drawn_by runs (Some place) = Err (Unbalanced place)

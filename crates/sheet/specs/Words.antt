@@ -7,6 +7,14 @@ pub record Words : Type 0 where
   pub high : ℕ
   pub low : ℕ
 
+-- what a word of 64 bits stays below
+abbrev pub word : ℕ
+word = 18_446_744_073_709_551_616
+
+-- and what a half of it does
+abbrev pub half : ℕ
+half = 4_294_967_296
+
 -- a number as two words that stay below `size`
 abbrev pub words : ℕ → ℕ → Words
 words size n = record { high = n / size; low = n % size }

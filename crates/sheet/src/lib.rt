@@ -2,7 +2,7 @@
 #![tactic(auto)]
 
 ghost use Rattle.std.specs.Prelude.{◌≡◌};
-ghost use Rattle.sheet.specs.Sheet.{number_of, drawn};
+ghost use Rattle.sheet.specs.Sheet.{number_of, place_of, drawn};
 
 mod losses;
 mod rows;
@@ -65,6 +65,18 @@ impl From<Refused> for u32 {
         match refused {
             Refused::TooMany => 23,
             Refused::Unbalanced(_) => 24,
+        }
+    }
+}
+
+impl Refused {
+    // The place that is said with it: that of the run which does not balance, and 0 where there are too many.
+    pub fn place(self) -> usize
+        ensures { result ≡ place_of self }
+    {
+        match self {
+            Refused::TooMany => 0,
+            Refused::Unbalanced(place) => place,
         }
     }
 }

@@ -1,13 +1,15 @@
 // The highest loss of a batch: 'Losses are compared exactly by cross products; equal ones go to the earlier run.'
 ghost use Rattle.std.specs.Prelude.{◌*◌, ◌≡◌};
 ghost use Rattle.sheet.specs.Sheet.{placed as placedIn, highest_of};
+ghost use Rattle.sheet.specs.Words.{half, word, number, in_halves};
 ghost use Rattle.sheet.specs.Parts.{takes_place};
 
 use crate::{Placed, Run};
 
-// A product of losses, exactly, 'also past 64 bits'.
+// A product of losses, exactly, 'also past 64 bits': the number that multiplication in halves makes.
 fn product(a: u64, b: u64) -> u128
-    ensures { result ≡ a * b }
+    ensures value { result ≡ a * b }
+    ensures in_halves { result ≡ number word (in_halves half a b) }
 {
     u128::from(a) * u128::from(b)
 }
