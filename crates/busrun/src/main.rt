@@ -4,7 +4,6 @@
 
 ghost use Rattle.std.specs.Prelude.{◌≤◌, ◌≡◌, length};
 
-use scenario::Refused;
 use std::io::{Error, ErrorKind, Read};
 use text::Writer;
 
@@ -33,13 +32,14 @@ fn room() -> [u8; 65536]
     [0; 65536]
 }
 
-// Plays the scenario turn by turn as long as the run goes on and its text can be written.
-fn play(rt: &HostRuntime, input: &[u8]) -> Result<(), Error> {
+// Plays the scenario turn by turn as long as the run goes on and its text can be written; whether it is refused shows in its first turn.
+fn play(rt: &HostRuntime, input: &[u8], refused: &mut bool) -> Result<(), Error> {
     let mut room = room();
     let mut turn = listing::open(input, &mut room);
+    *refused = !turn.play.going;
     write_first(rt, &room, turn.length)?;
     let mut play = turn.play;
-    while play.steps.is_some() {
+    while play.going {
         turn = listing::next(input, play, &mut room);
         write_first(rt, &room, turn.length)?;
         play = turn.play;
@@ -62,11 +62,13 @@ fn say(words: &[u8]) {
 }
 
 // Says what refuses the scenario, and which record.
-fn say_refused(input: &[u8], refused: Refused) {
-    let mut room = room();
-    let number = u32::from(refused.refusal);
-    let length = meanings::refused(input, number, refused.offset, &mut room);
-    say(&room[..length]);
+fn say_refused(input: &[u8]) {
+    if let Err(refused) = scenario::read(input) {
+        let mut room = room();
+        let number = u32::from(refused.refusal);
+        let length = meanings::refused(input, number, refused.offset, &mut room);
+        say(&room[..length]);
+    }
 }
 
 // Says that the text could not be written, unless its reader has closed it.
@@ -93,13 +95,14 @@ fn is_read(rt: &HostRuntime, got: usize) -> bool {
 
 // Plays the input, of which a part could be read or all, and says what went wrong, if anything did.
 fn run(rt: &HostRuntime, input: &[u8], read: bool) {
-    let written = play(rt, input);
+    let mut refused = false;
+    let written = play(rt, input, &mut refused);
     if !read {
         say(b"the input cannot be read");
         return;
     }
-    if let Err(refused) = scenario::read(input) {
-        say_refused(input, refused);
+    if refused {
+        say_refused(input);
         return;
     }
     if let Err(e) = written {

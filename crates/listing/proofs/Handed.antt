@@ -5,9 +5,9 @@ use mathlib.Core.Path.{◌≡◌, refl, sym, ap, ◌∙◌, subst}
 use mathlib.Core.Bool.{Bool, true, false, cond}
 use mathlib.Core.List.{List, [], ◌++◌, append-nil}
 use native.Mathlib.Omega.{arith}
-use lib.Dec.{leb}
+use lib.Dec.{eqb, leb}
 use lib.ListN.{length, drop}
-use borrow.Author.Tests.{ne_eqb, leb-false}
+use borrow.Author.Tests.{eq-eqb, ne_eqb, leb-false}
 use Rattle.rules.specs.Bus.{Bus, nothing}
 use Rattle.rules.specs.Standing.{Standing}
 use Rattle.rules.specs.SetUp.{Request, set_up}
@@ -29,30 +29,29 @@ use Rattle.scenario.proofs.Sound.{Sound, sound}
 use Rattle.listing.specs.Text.{refused_text}
 use Rattle.listing.specs.Run.{closing_text, run_text, listing_of, listing}
 use Rattle.listing.specs.Turns.{Play, Outcome, says, over, opened_by, opened, next_arrivals, reports_text, course_of, stretched}
-use Rattle.listing.specs.Turns.{closed_by, turn_by, turn, handed, turns_by, turns_left, played}
-use Rattle.std.specs.Prelude.{Option, Some, None, is_some}
+use Rattle.listing.specs.Turns.{closed_by, turn, handed, turns_left, played}
 use Rattle.listing.proofs.Gathered.{bytes_within, Found, found_here}
 use Rattle.listing.proofs.Played.{bounds_of, course_moves, Runs, course_runs}
 
 -- ---- the turns that are left
 
--- a stretch of a run that has steps left
-module _ (input : List ℕ) (s : State) (at many steps : ℕ) (still : many ≡ suc steps) where
+-- a stretch of a play that has steps left
+module _ (input : List ℕ) (p : Play) (steps : ℕ) (still : p.steps ≡ suc steps) where
   abbrev found : List Arrival
-  found = next_arrivals input at
+  found = next_arrivals input p.at
 
   abbrev taken : ℕ
-  taken = (course_of found s many).taken
+  taken = (course_of found p).taken
 
   abbrev left : ℕ
-  left = (course_of found s many).left
+  left = (course_of found p).left
 
   -- it takes no more arrivals than were found, and leaves no more steps than there were
   takes : taken ≤ length found
-  takes = (bounds_of found s many).taken
+  takes = (bounds_of found p).taken
 
   leaves : left ≤ suc steps
-  leaves = subst (λ (n : ℕ). left ≤ n) still (bounds_of found s many).left
+  leaves = subst (λ (n : ℕ). left ≤ n) still (bounds_of found p).left
 
   -- where none was found, there are no more; so it takes an arrival, or makes a step
   none_more : found ≡ [] → leb row_places (length found) ≡ false
@@ -62,64 +61,66 @@ module _ (input : List ℕ) (s : State) (at many steps : ℕ) (still : many ≡ 
   moves =
       subst
       (λ (n : ℕ).
-      (course most_calls s found (leb row_places (length found)) n).left
-      < suc steps + (course most_calls s found (leb row_places (length found)) n).taken)
+      (course most_calls p.state found (leb row_places (length found)) n).left
+      < suc steps + (course most_calls p.state found (leb row_places (length found)) n).taken)
       (sym still)
-      (course_moves 511 s found (leb row_places (length found)) steps none_more)
+      (course_moves 511 p.state found (leb row_places (length found)) steps none_more)
 
   -- and so fewer turns are left
-  pub fewer : left + (length input - (at + arrival_bytes * taken)) < suc steps + (length input - at)
+  pub fewer : left + (length input - (p.at + arrival_bytes * taken)) < suc steps + (length input - p.at)
   fewer = by_taken taken takes leaves moves
     where
       by_taken :
           (n : ℕ) → n ≤ length found → left ≤ suc steps → left < suc steps + n
-          → left + (length input - (at + arrival_bytes * n)) < suc steps + (length input - at)
+          → left + (length input - (p.at + arrival_bytes * n)) < suc steps + (length input - p.at)
       by_taken zero few most moved = omega arith
-      by_taken (suc n) few most moved = let within = bytes_within row_places input at (suc n) (omega arith) few in omega arith
+      by_taken (suc n) few most moved = let within = bytes_within row_places input p.at (suc n) (omega arith) few in omega arith
 
 -- each turn of a run that goes on takes one of them at least, whatever the play
-pub falls : (input : List ℕ) (p : Play) → is_some p.steps ≡ true → turns_left input (turn input p).play < turns_left input p
-falls input p = by_steps p.steps
+pub falls : (input : List ℕ) (p : Play) → p.going ≡ true → turns_left input (turn input p).play < turns_left input p
+falls input p e = simp e (by_steps p.steps refl)
   where
-    by_steps : (n : Option ℕ) → is_some n ≡ true → turns_left input (turn_by input p n).play < turns_by input p.at n
-    by_steps None e = absurd (cc e)
-    by_steps (Some zero) e = omega arith
-    by_steps (Some (suc n)) e = simp (ne_eqb (suc n) 0 (λ z. omega arith)) (omega (arith, fewer input p.state p.at (suc n) n refl))
+    by_steps :
+        (n : ℕ) → p.steps ≡ n
+        → turns_left input (cond (eqb p.steps 0) (closed_by p.state (totals_of p.state)) (stretched input p)).play
+        < suc (p.steps + (length input - p.at))
+    by_steps zero k = simp (eq-eqb p.steps 0 k) (omega arith)
+    by_steps (suc n) k = simp (ne_eqb p.steps 0 (λ z. omega arith)) (omega (arith, fewer input p n k))
 
 -- a play whose turns are used up does not go on
-used_up : (input : List ℕ) (p : Play) → turns_left input p ≤ 0 → is_some p.steps ≡ false
-used_up input p = go p.steps
+used_up : (input : List ℕ) (p : Play) → turns_left input p ≤ 0 → p.going ≡ false
+used_up input p = go p.going
   where
-    go : (n : Option ℕ) → turns_by input p.at n ≤ 0 → is_some n ≡ false
-    go None h = refl
-    go (Some steps) h = absurd (omega arith)
+    go : (t : Bool) → cond t (suc (p.steps + (length input - p.at))) 0 ≤ 0 → t ≡ false
+    go true h = absurd (omega arith)
+    go false h = refl
 
--- a turn leaves fewer of them, or none: a play that is over stays as it is
-turn_left : (input : List ℕ) (p : Play) (turns : ℕ) → turns_left input p ≤ suc turns → turns_left input (turn input p).play ≤ turns
-turn_left input p turns h = go p.steps refl
-  where
-    go : (n : Option ℕ) → p.steps ≡ n → turns_left input (turn input p).play ≤ turns
-    go None e = rw (ap (turn_by input p) e) (rw e (omega arith))
-    go (Some steps) e = let f = falls input p (ap is_some e) in omega arith
+-- a play that is over stays as it is
+stays : (input : List ℕ) (p : Play) → p.going ≡ false → (turn input p).play ≡ p
+stays input p e = simp e
 
 -- any play is over at last
-pub over_at_last_any : (input : List ℕ) (p : Play) (turns : ℕ) → turns_left input p ≤ turns → is_some (played turns input p).steps ≡ false
+pub over_at_last_any : (input : List ℕ) (p : Play) (turns : ℕ) → turns_left input p ≤ turns → (played turns input p).going ≡ false
 over_at_last_any input p zero h = used_up input p h
-over_at_last_any input p (suc turns) h = over_at_last_any input (turn input p).play turns (turn_left input p turns h)
+over_at_last_any input p (suc turns) h = over_at_last_any input (turn input p).play turns (fewer p.going refl)
+  where
+    fewer : (t : Bool) → p.going ≡ t → turns_left input (turn input p).play ≤ turns
+    fewer true e = let f = falls input p e in omega arith
+    fewer false e = rw (stays input p e) (rw e (omega arith))
 
 -- and so is the run of a scenario
 pub over_at_last :
-    (input : List ℕ) (turns : ℕ) → turns_left input (opened input).play ≤ turns → is_some (played turns input (opened input).play).steps ≡ false
+    (input : List ℕ) (turns : ℕ) → turns_left input (opened input).play ≤ turns → (played turns input (opened input).play).going ≡ false
 over_at_last input = over_at_last_any input (opened input).play
 
 -- ---- the play of a run
 
 -- the play that has a bus
 abbrev pub playing : Bus → ℕ → ℕ → Play
-playing b at steps = record { state = form b; at = at; steps = Some steps }
+playing b at steps = record { state = form b; at = at; steps = steps; going = true }
 
 -- a run that is over says nothing more
-ended : (turns : ℕ) (input : List ℕ) (o : Outcome) → is_some o.play.steps ≡ false → handed turns input o ≡ o.text
+ended : (turns : ℕ) (input : List ℕ) (o : Outcome) → o.play.going ≡ false → handed turns input o ≡ o.text
 ended zero input o e = refl
 ended (suc turns) input o e = rw e (append-nil o.text)
 
@@ -141,7 +142,7 @@ module _ (input : List ℕ) where
   -- those taken stand the rest.
   module _ (b : Bus) (at steps : ℕ) (arrivals : List Arrival) (h : Standing b) (here : ArrivalsAt input at arrivals) where
     abbrev stretch : Course
-    stretch = course_of (next_arrivals input at) (form b) steps
+    stretch = course_of (next_arrivals input at) (playing b at steps)
 
     first : Found input at row_places (next_arrivals input at) arrivals
     first = found_here row_places input at arrivals here
@@ -153,7 +154,7 @@ module _ (input : List ℕ) where
         (λ e. first.all (leb-false row_places (length (next_arrivals input at)) e)))
 
     pub stretch_past : ArrivalsAt input (at + arrival_bytes * stretch.taken) (drop stretch.taken arrivals)
-    stretch_past = first.past stretch.taken (bounds_of (next_arrivals input at) (form b) steps).taken
+    stretch_past = first.past stretch.taken (bounds_of (next_arrivals input at) (playing b at steps)).taken
 
   -- what is handed out in so many turns from a play on is the text of the run, if it has no more turns than these
   abbrev Rest : ℕ → Type 0
@@ -168,24 +169,27 @@ module _ (input : List ℕ) where
       → handed (suc turns) input (turn input (playing b at (suc steps))) ≡ run_text (suc steps) b arrivals
   one_turn turns more b at steps arrivals h here enough =
       ap
-      (λ t. handed (suc turns) input (cond t (closed_by (form b) (totals_of (form b))) (stretched input (form b) at (suc steps))))
+      (λ t. handed (suc turns) input (cond t (closed_by (form b) (totals_of (form b))) (stretched input p)))
       (ne_eqb (suc steps) 0 (λ z. omega arith))
       ∙ ap
-      (λ (s : State). reports_text c.reports ++ handed turns input (turn input (record { state = s; at = past; steps = Some c.left })))
+      (λ (s : State). reports_text c.reports ++ handed turns input (turn input (record { state = s; at = past; steps = c.left; going = true })))
       runs.state
       ∙ ap
       (λ (text : List ℕ). reports_text c.reports ++ text)
       (more runs.bus past c.left (drop c.taken arrivals) runs.stands (stretch_past b at (suc steps) arrivals h here) (omega (arith, few)))
       ∙ sym runs.text
     where
+      p : Play
+      p = playing b at (suc steps)
+
       c : Course
-      c = course_of (next_arrivals input at) (form b) (suc steps)
+      c = course_of (next_arrivals input at) p
 
       past : ℕ
       past = at + arrival_bytes * c.taken
 
       few : c.left + (length input - past) < suc steps + (length input - at)
-      few = fewer input (form b) at (suc steps) steps refl
+      few = fewer input p steps refl
 
       runs : Runs b arrivals (suc steps) c
       runs = stretch_runs b at (suc steps) arrivals h here

@@ -28,7 +28,7 @@ use Rattle.bus.proofs.Promises.{answer_read}
 use Rattle.listing.specs.Text.{refusal_text, dropped_text, probed_text}
 use Rattle.listing.specs.Run.{Left, admit_due, closing_text, run_text, answers_of, end_of}
 use Rattle.listing.specs.Run as Run
-use Rattle.listing.specs.Turns.{report_text, reports_text, answers_in, course_of}
+use Rattle.listing.specs.Turns.{Play, report_text, reports_text, answers_in, course_of}
 
 -- ---- what a stretch takes and leaves
 
@@ -77,8 +77,8 @@ course_bounds (suc calls) s (a ∷ later) more (suc steps) =
     by_due false {c} {d} h k = step_bounds s d calls (suc (length later)) steps k
 
 -- the same, of the stretch of a play
-pub bounds_of : (arrivals : List Arrival) (s : State) (steps : ℕ) → Bounds (course_of arrivals s steps) most_calls (length arrivals) steps
-bounds_of arrivals s steps = course_bounds most_calls s arrivals (leb row_places (length arrivals)) steps
+pub bounds_of : (arrivals : List Arrival) (p : Play) → Bounds (course_of arrivals p) most_calls (length arrivals) p.steps
+bounds_of arrivals p = course_bounds most_calls p.state arrivals (leb row_places (length arrivals)) p.steps
 
 -- a stretch with a call, a step and arrivals or none to wait for takes an arrival or makes a step
 pub course_moves :

@@ -5,7 +5,6 @@ use Prim.Native.Nat.{ℕ, ◌≤◌, ◌<◌}
 use mathlib.Core.Path.{◌≡◌}
 use mathlib.Core.Bool.{true, false}
 use mathlib.Core.List.{List, ◌++◌}
-use Rattle.std.specs.Prelude.{is_some}
 use Rattle.rules.specs.Lists.{All}
 use Rattle.rules.specs.Bus.{Bus}
 use Rattle.rules.specs.SetUp.{Request, set_up}
@@ -26,11 +25,11 @@ pub handed_out :
 handed_out = Handed.handed_out
 
 -- each turn takes from the turns that a play has yet, whatever the play, and then the run is over
-pub falls : (input : List ℕ) (p : Play) → is_some p.steps ≡ true → turns_left input (turn input p).play < turns_left input p
+pub falls : (input : List ℕ) (p : Play) → p.going ≡ true → turns_left input (turn input p).play < turns_left input p
 falls = Handed.falls
 
 pub over_at_last :
-    (input : List ℕ) (turns : ℕ) → turns_left input (opened input).play ≤ turns → is_some (played turns input (opened input).play).steps ≡ false
+    (input : List ℕ) (turns : ℕ) → turns_left input (opened input).play ≤ turns → (played turns input (opened input).play).going ≡ false
 over_at_last = Handed.over_at_last
 
 -- no step of a scenario is refused: it cannot reach the clock's end

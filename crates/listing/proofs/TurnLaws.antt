@@ -1,8 +1,8 @@
 -- The turns of a run as the code makes them: the text in the room and the play, put together from what the calls answer. Assumes nothing.
 use Prim.Native.Nat.{ℕ, zero, suc, ◌+◌, ◌-◌, ◌*◌, ◌≤◌, ◌<◌}
-use mathlib.Core.Path.{◌≡◌, sym, ap, ap₂, ◌∙◌, subst}
+use mathlib.Core.Path.{◌≡◌, refl, sym, ap, ap₂, ◌∙◌, subst}
 use mathlib.Core.Logic.{◌⊎◌, inl, inr}
-use mathlib.Core.Bool.{cond}
+use mathlib.Core.Bool.{Bool, true, false, not}
 use mathlib.Core.List.{List, [], ◌∷◌, ◌++◌, append_assoc, append-nil}
 use native.Mathlib.Nat.{zero-add}
 use native.Mathlib.Omega.{arith}
@@ -22,12 +22,16 @@ use Rattle.scenario.specs.Reading.{arrival_bytes}
 use Rattle.text.specs.Text.{space, decimal, fields}
 use Rattle.text.specs.Room.{room_bytes, room_with}
 use Rattle.text.proofs.Stores.{sets_start}
-use Rattle.listing.specs.Turns.{Play, Turn, Outcome, next_arrivals, arrivals_form, report_text, reports_text, course_of, stretched}
-use Rattle.listing.specs.Turns.{closed_by, turn_by, turn, turn_form}
-use Rattle.std.specs.Prelude.{Some}
+use Rattle.listing.specs.Turns.{Play, Turn, Outcome, says, next_arrivals, arrivals_form, report_text, reports_text, course_of, stretched}
+use Rattle.listing.specs.Turns.{closed_by, turn, turn_form}
 use Rattle.listing.specs.Parts.{TurnTold}
 use Rattle.listing.proofs.Gathered.{found_few, bytes_within}
 use Rattle.listing.proofs.Played.{bounds_of}
+
+-- a test that was turned round
+pub flipped : {b t : Bool} → not b ≡ t → b ≡ not t
+flipped {b = true} e = ap not e
+flipped {b = false} e = ap not e
 
 -- ---- the text in the room
 
@@ -71,19 +75,17 @@ turn-of {before} {after} {t} {o} {o'} e x =
 
 -- ---- which turn it is
 
+-- a run that is over hands out nothing
+pub turn_over : (input : List ℕ) (p : Play) → p.going ≡ false → says [] p ≡ turn input p
+turn_over input p stopped = sym (simp stopped refl)
+
 -- a run that goes on with no steps left ends
-pub turn_ends :
-    (input : List ℕ) (p : Play) {steps : ℕ} → p.steps ≡ Some steps → steps ≡ 0 → closed_by p.state (totals_of p.state) ≡ turn input p
-turn_ends input p {steps} going none =
-    ap (λ t. cond t (closed_by p.state (totals_of p.state)) (stretched input p.state p.at steps)) (sym (eq-eqb steps 0 none))
-    ∙ ap (turn_by input p) (sym going)
+pub turn_ends : (input : List ℕ) (p : Play) → p.going ≡ true → p.steps ≡ 0 → closed_by p.state (totals_of p.state) ≡ turn input p
+turn_ends input p going none = sym (simp going (simp (eq-eqb p.steps 0 none) refl))
 
 -- a run that goes on with steps left makes a stretch
-pub turn_goes_on :
-    (input : List ℕ) (p : Play) {steps : ℕ} → p.steps ≡ Some steps → ¬ (steps ≡ 0) → stretched input p.state p.at steps ≡ turn input p
-turn_goes_on input p {steps} going some =
-    ap (λ t. cond t (closed_by p.state (totals_of p.state)) (stretched input p.state p.at steps)) (sym (ne_eqb steps 0 some))
-    ∙ ap (turn_by input p) (sym going)
+pub turn_goes_on : (input : List ℕ) (p : Play) → p.going ≡ true → ¬ (p.steps ≡ 0) → stretched input p ≡ turn input p
+turn_goes_on input p going some = sym (simp going (simp (ne_eqb p.steps 0 some) refl))
 
 -- ---- a stretch
 
@@ -94,30 +96,30 @@ stretch_of_form s arrivals steps =
     (λ (os : List Arrival). course most_calls s os (leb row_places (length arrivals)) steps)
     (take-append_seam arrivals (replicate (row_places - length arrivals) no_arrival))
 
-module _ (input : List ℕ) (s : State) (at steps : ℕ) where
+module _ (input : List ℕ) (p : Play) where
   abbrev found : List Arrival
-  found = next_arrivals input at
+  found = next_arrivals input p.at
 
   -- what the call of a stretch hands back
   pub stretch_is :
-      (arrivals : Arrivals) (x : Stretch) → arrivals ≡ arrivals_form found → x ≡ stretch_form (stretch_of s arrivals steps)
-      → x ≡ stretch_form (course_of found s steps)
+      (arrivals : Arrivals) (x : Stretch) → arrivals ≡ arrivals_form found → x ≡ stretch_form (stretch_of p.state arrivals p.steps)
+      → x ≡ stretch_form (course_of found p)
   stretch_is arrivals x e f =
-      f ∙ ap (λ (a : Arrivals). stretch_form (stretch_of s a steps)) e ∙ ap stretch_form (stretch_of_form s found steps)
+      f ∙ ap (λ (a : Arrivals). stretch_form (stretch_of p.state a p.steps)) e ∙ ap stretch_form (stretch_of_form p.state found p.steps)
 
-  module _ (x : Stretch) (is : x ≡ stretch_form (course_of found s steps)) where
+  module _ (x : Stretch) (is : x ≡ stretch_form (course_of found p)) where
     pub taken_few : x.taken ≤ 64
     taken_few =
         let same = ap (λ (y : Stretch). y.taken) is in
-        omega (arith, same, (bounds_of found s steps).taken, found_few row_places input at)
+        omega (arith, same, (bounds_of found p).taken, found_few row_places input p.at)
 
     -- the next record is where the last one was, or within the input
-    pub taken_within : (at + arrival_bytes * x.taken ≤ at) ⊎ (at + arrival_bytes * x.taken ≤ length input)
+    pub taken_within : (p.at + arrival_bytes * x.taken ≤ p.at) ⊎ (p.at + arrival_bytes * x.taken ≤ length input)
     taken_within = go x.taken (subst (λ (n : ℕ). n ≤ length found) (sym (ap (λ (y : Stretch). y.taken) is)) bound)
       where
-        bound : (course_of found s steps).taken ≤ length found
-        bound = (bounds_of found s steps).taken
+        bound : (course_of found p).taken ≤ length found
+        bound = (bounds_of found p).taken
 
-        go : (n : ℕ) → n ≤ length found → (at + arrival_bytes * n ≤ at) ⊎ (at + arrival_bytes * n ≤ length input)
+        go : (n : ℕ) → n ≤ length found → (p.at + arrival_bytes * n ≤ p.at) ⊎ (p.at + arrival_bytes * n ≤ length input)
         go zero few = inl (omega arith)
-        go (suc n) few = inr (bytes_within row_places input at (suc n) (omega arith) few)
+        go (suc n) few = inr (bytes_within row_places input p.at (suc n) (omega arith) few)

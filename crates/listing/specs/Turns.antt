@@ -1,6 +1,6 @@
 -- The run as the code plays it, turn by turn: what `open` and `next` of src/lib.rt hand out. The text stands over the
 -- start of the room then (`room_with` of text/specs/Room.antt). Assumes nothing.
-use Rattle.std.specs.Prelude.{ℕ, zero, suc, ◌+◌, ◌-◌, ◌*◌, cond, List, [], ◌∷◌, ◌++◌, leb, eqb, length, drop, replicate, Option, Some, None, is_some, Result, Ok, Err}
+use Rattle.std.specs.Prelude.{ℕ, zero, suc, ◌+◌, ◌-◌, ◌*◌, true, false, cond, List, [], ◌∷◌, ◌++◌, leb, eqb, length, drop, replicate, Result, Ok, Err}
 use Rattle.rules.specs.Bus.{nothing}
 use Rattle.rules.specs.Probe.{Answer}
 use Rattle.state.specs.declared.State.{State}
@@ -28,12 +28,12 @@ says text p = record { text = text; play = p }
 
 -- a run that is over
 abbrev pub over : State → Play
-over s = record { state = s; at = 0; steps = None }
+over s = record { state = s; at = 0; steps = 0; going = false }
 
 -- ---- the first turn: the scenario is read
 
 abbrev pub opened_by : Result Scenario Numbered → Outcome
-opened_by (Ok x) = says [] (record { state = x.state; at = x.at; steps = Some x.steps })
+opened_by (Ok x) = says [] (record { state = x.state; at = x.at; steps = x.steps; going = true })
 opened_by (Err e) = says (refused_text e.number e.offset) (over (form nothing))
 
 abbrev pub opened : List ℕ → Outcome
@@ -80,28 +80,27 @@ answers_in (r ∷ later) = answer_in r ++ answers_in later
 
 -- ---- any other turn: a stretch of calls, or the run ends
 
--- a stretch was made from an offset on: each arrival that it took has moved the run on in the input
-abbrev pub stretched_by : ℕ → Course → Outcome
-stretched_by at c = says (reports_text c.reports) (record { state = c.state; at = at + arrival_bytes * c.taken; steps = Some c.left })
+-- a stretch was made: each arrival that it took has moved the run on in the input
+abbrev pub stretched_by : Play → Course → Outcome
+stretched_by p c =
+    says
+    (reports_text c.reports)
+    (record { state = c.state; at = p.at + arrival_bytes * c.taken; steps = c.left; going = true })
 
 -- by the arrivals that come next, of which there may be more where as many were found as a row has places
-abbrev pub course_of : List Arrival → State → ℕ → Course
-course_of arrivals s steps = course most_calls s arrivals (leb row_places (length arrivals)) steps
+abbrev pub course_of : List Arrival → Play → Course
+course_of arrivals p = course most_calls p.state arrivals (leb row_places (length arrivals)) p.steps
 
-abbrev pub stretched : List ℕ → State → ℕ → ℕ → Outcome
-stretched input s at steps = stretched_by at (course_of (next_arrivals input at) s steps)
+abbrev pub stretched : List ℕ → Play → Outcome
+stretched input p = stretched_by p (course_of (next_arrivals input p.at) p)
 
 -- 'Last: END clock admitted sent lost waiting', and the packets turned away
 abbrev pub closed_by : State → Totals → Outcome
 closed_by s t = says (end_text t.clock.0 t.admitted t.sent t.lost t.waiting t.turned) (over s)
 
--- by the steps that are left, if the run goes on
-abbrev pub turn_by : List ℕ → Play → Option ℕ → Outcome
-turn_by input p None = says [] p
-turn_by input p (Some steps) = cond (eqb steps 0) (closed_by p.state (totals_of p.state)) (stretched input p.state p.at steps)
-
 abbrev pub turn : List ℕ → Play → Outcome
-turn input p = turn_by input p p.steps
+turn input p =
+    cond p.going (cond (eqb p.steps 0) (closed_by p.state (totals_of p.state)) (stretched input p)) (says [] p)
 
 -- ---- what the code hands out
 
@@ -113,15 +112,11 @@ turn_form o = record { length = length o.text; play = o.play }
 -- the text of a turn, and then of so many turns as long as the run goes on
 abbrev pub handed : ℕ → List ℕ → Outcome → List ℕ
 handed zero input o = o.text
-handed (suc turns) input o = o.text ++ cond (is_some o.play.steps) (handed turns input (turn input o.play)) []
+handed (suc turns) input o = o.text ++ cond o.play.going (handed turns input (turn input o.play)) []
 
 -- how many turns a play has yet, at the most: an arrival takes bytes of the input, and a step is one of its steps
-abbrev pub turns_by : List ℕ → ℕ → Option ℕ → ℕ
-turns_by input at None = 0
-turns_by input at (Some steps) = suc (steps + (length input - at))
-
 abbrev pub turns_left : List ℕ → Play → ℕ
-turns_left input p = turns_by input p.at p.steps
+turns_left input p = cond p.going (suc (p.steps + (length input - p.at))) 0
 
 -- the play after so many turns
 abbrev pub played : ℕ → List ℕ → Play → Play

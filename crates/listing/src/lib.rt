@@ -2,7 +2,7 @@
 // any play.
 #![tactic(auto)]
 
-ghost use Rattle.std.specs.Prelude.{◌*◌, ◌≤◌, ◌≡◌, drop, None, length};
+ghost use Rattle.std.specs.Prelude.{◌*◌, ◌≤◌, ◌≡◌, drop, false, length};
 ghost use Rattle.bus.specs.Coded.{totals_of};
 ghost use Rattle.text.specs.Room.{room_bytes, room_with};
 ghost use Rattle.text.specs.Parts.{Wrote};
@@ -22,12 +22,14 @@ mod telling;
 // The arrivals that a stretch is given at the most.
 const MOST_ARRIVALS: usize = 64;
 
-// A run that is played: the state, the offset of the record that is next in the input, and the steps that are left if it goes on.
+// A run that is played: the state, the offset of the record that is next in the input, the steps that are left, and whether it goes on. Any play
+// may be lent, and one that is over with steps left is handed back as it was, so that these two are no Option.
 #[derive(Clone, Copy)]
 pub struct Play {
     pub state: State,
     pub at: usize,
-    pub steps: Option<u32>,
+    pub steps: u32,
+    pub going: bool,
 }
 
 // What a turn hands out: how many bytes of text it has put at the start of the room, and the run as it goes on.
@@ -39,12 +41,13 @@ pub struct Turn {
 
 // A run that is over.
 fn over(state: State) -> Play
-    ensures { result ≡ record { state = state; at = 0; steps = None } }
+    ensures { result ≡ record { state = state; at = 0; steps = 0; going = false } }
 {
     Play {
         state,
         at: 0,
-        steps: None,
+        steps: 0,
+        going: false,
     }
 }
 
@@ -59,7 +62,8 @@ pub fn open(input: &[u8], room: &mut [u8; 65536]) -> Turn
             let play = Play {
                 state: s.state,
                 at: s.at,
-                steps: Some(s.steps),
+                steps: s.steps,
+                going: true,
             };
             Turn { length: 0, play }
         }
@@ -144,22 +148,24 @@ fn close(state: State, room: &mut [u8; 65536]) -> Turn
     }
 }
 
-// A stretch of the run from a state on, by the arrivals that stand in the input from an offset on and the steps that are left.
-fn go_on(input: &[u8], state: State, at: usize, steps: u32, room: &mut [u8; 65536]) -> Turn
-    ensures { TurnTold room.old room.new result (stretched input.now state at steps) }
+// A stretch of the run.
+fn go_on(input: &[u8], play: Play, room: &mut [u8; 65536]) -> Turn
+    ensures { TurnTold room.old room.new result (stretched input.now play) }
 {
+    let at = play.at;
     let arrivals = gather(input, at);
-    let stretch = bus::play(state, arrivals, steps);
+    let stretch = bus::play(play.state, arrivals, play.steps);
     let mut out = Writer { room, at: 0 };
     tell_all(&mut out, &stretch.reports[..stretch.made]);
-    let play = Play {
+    let next = Play {
         state: stretch.state,
         at: at + ARRIVAL_BYTES * stretch.taken,
-        steps: Some(stretch.left),
+        steps: stretch.left,
+        going: true,
     };
     Turn {
         length: out.at,
-        play,
+        play: next,
     }
 }
 
@@ -170,11 +176,11 @@ pub fn next(input: &[u8], play: Play, room: &mut [u8; 65536]) -> Turn
     ensures room_after { room.new ≡ room_with (turn input.now play).text room.old }
     ensures length_bound { result.length ≤ room_bytes }
 {
-    let Some(steps) = play.steps else {
+    if !play.going {
         return Turn { length: 0, play };
-    };
-    if steps == 0 {
+    }
+    if play.steps == 0 {
         return close(play.state, room);
     }
-    go_on(input, play.state, play.at, steps, room)
+    go_on(input, play, room)
 }

@@ -29,6 +29,7 @@ use Rattle.scenario.specs.Reading.{arrival_bytes, Numbered, numbered, Reading, r
 use Rattle.scenario.specs.Parts.{refusal_in, ArrivalsAt}
 use Rattle.scenario.proofs.Sound.{Sound, sound}
 use Rattle.listing.specs.Run.{answers_of, end_of}
+use Rattle.listing.specs.declared.Play.{Play}
 use Rattle.listing.specs.Turns.{next_arrivals, answers_in, course_of}
 use Rattle.listing.proofs.Played.{Runs}
 use Rattle.listing.proofs.Handed.{fewer, totals_by, totals_of_form, stretch_runs, stretch_past}
@@ -37,9 +38,13 @@ use Rattle.measure.specs.Measured.{longer, longest_wait, run_of, measured_of, me
 use Rattle.measure.specs.Parts.{Finishes}
 use Rattle.measure.proofs.Waits.{longer_none, none_longer, longer_of_three, longest_append}
 
--- the stretch of a run from a state on, at an offset, with so many steps left
+-- the play that has a state, an offset and steps
+abbrev pub play_of : State → ℕ → ℕ → Play
+play_of s at steps = record { state = s; at = at; steps = steps; going = true }
+
+-- and its stretch
 abbrev pub stretch_on : List ℕ → State → ℕ → ℕ → Course
-stretch_on input s at steps = course_of (next_arrivals input at) s steps
+stretch_on input s at steps = course_of (next_arrivals input at) (play_of s at steps)
 
 module _ (input : List ℕ) (at steps longest : ℕ) (r : Run) where
   -- it finishes what is left after some reports
@@ -94,7 +99,7 @@ turns_fall input s at steps x is some = go steps refl
         subst
         (λ (y : Stretch). y.left + (length input - (at + arrival_bytes * y.taken)) < steps + (length input - at))
         (sym is)
-        (let f = fewer input s at steps n e in omega arith)
+        (let f = fewer input (play_of s at steps) n e in omega arith)
 
 -- ---- the end
 

@@ -2,5 +2,5 @@
 use Rattle.listing.specs.Turns.{turns_left}
 use Rattle.busrun.proofs.play.Given as goal
 
-abbrev pub decreases-loop-room : goal.decreases-loop-room
-decreases-loop-room l = turns_left l.input l.play
+abbrev pub decreases-loop-play : goal.decreases-loop-play
+decreases-loop-play l = turns_left l.input l.play

@@ -10,23 +10,23 @@ use Rattle.listing.proofs.go_on.Goals.{After-play-stretch}
 is :
     (c : After-play-stretch)
     → let args = c.args in
-    c.play-stretch.result ≡ stretch_form (course_of (next_arrivals args.input.now args.at) args.state args.steps)
+    c.play-stretch.result ≡ stretch_form (course_of (next_arrivals args.input.now args.play.at) args.play)
 is c =
     let args = c.args in
-    stretch_is args.input.now args.state args.at args.steps c.gather-arrivals.result c.play-stretch.result c.gather-arrivals.ensures c.play-stretch.ensures
+    stretch_is args.input.now args.play c.gather-arrivals.result c.play-stretch.result c.gather-arrivals.ensures c.play-stretch.ensures
 
-pub overflow_mul-play : goal.overflow_mul-play
-overflow_mul-play c =
+pub overflow_mul-next : goal.overflow_mul-next
+overflow_mul-next c =
     let args = c.args in
-    let few = taken_few args.input.now args.state args.at args.steps c.play-stretch.result (is (goal.at.overflow_mul-play c).After-play-stretch) in
+    let few = taken_few args.input.now args.play c.play-stretch.result (is (goal.at.overflow_mul-next c).After-play-stretch) in
     omega arith
 
-pub overflow_add-play : goal.overflow_add-play
-overflow_add-play c =
+pub overflow_add-next : goal.overflow_add-next
+overflow_add-next c =
     let args = c.args in
     let here = c.well_formed.1.0.1.1.1.0.1 in
     let within = c.well_formed.0 in
     ⊎_elim
     (λ h. omega (arith, here))
     (λ h. omega arith)
-    (taken_within args.input.now args.state args.at args.steps c.play-stretch.result (is (goal.at.overflow_add-play c).After-play-stretch))
+    (taken_within args.input.now args.play c.play-stretch.result (is (goal.at.overflow_add-next c).After-play-stretch))

@@ -3,7 +3,7 @@ use Rattle.std.proofs.Common.{ℕ, ◌+◌, ◌*◌, ◌<◌, ◌≡◌, sym, su
 use Rattle.bus.specs.Stretch.{stretch_form}
 use Rattle.listing.proofs.TurnLaws.{stretch_is, taken_few, taken_within}
 use Rattle.measure.specs.Parts.{Finishes}
-use Rattle.measure.proofs.Finishing.{stretch_on, one_stretch, turns_fall, Fit, totals_fit, run_with, at_last}
+use Rattle.measure.proofs.Finishing.{play_of, stretch_on, one_stretch, turns_fall, Fit, totals_fit, run_with, at_last}
 use Rattle.measure.proofs.played.Goals as goal
 use Rattle.measure.proofs.played.Goals.{After-closing-totals, After-play-stretch}
 
@@ -14,9 +14,7 @@ is :
 is c =
     stretch_is
     c.args.input.now
-    c.loop-steps.state
-    c.loop-steps.at
-    c.loop-steps.steps
+    (play_of c.loop-steps.state c.loop-steps.at c.loop-steps.steps)
     c.gather-arrivals.result
     c.play-stretch.result
     c.gather-arrivals.ensures
@@ -34,9 +32,7 @@ next_fits c =
     (λ h. omega arith)
     (taken_within
     c.args.input.now
-    c.loop-steps.state
-    c.loop-steps.at
-    c.loop-steps.steps
+    (play_of c.loop-steps.state c.loop-steps.at c.loop-steps.steps)
     c.play-stretch.result
     (is c))
 
@@ -45,9 +41,7 @@ overflow_mul-at c =
     let few =
     taken_few
     c.args.input.now
-    c.loop-steps.state
-    c.loop-steps.at
-    c.loop-steps.steps
+    (play_of c.loop-steps.state c.loop-steps.at c.loop-steps.steps)
     c.play-stretch.result
     (is (goal.at.overflow_mul-at c).After-play-stretch) in
     omega arith
