@@ -29,12 +29,15 @@ use Rattle.rules.proofs.Keeps.{begin_stands}
 use Rattle.rules.proofs.Laws.{clash, true-and}
 use Rattle.rules.proofs.Tests as Tests
 use Rattle.rules.proofs.Standing.{stands_exactly}
-use Rattle.bus.specs.Types.{Address, Segment, Queues, State, Arrival}
+use Rattle.window.specs.declared.Side.{Side}
+use Rattle.window.specs.declared.Side.TheVariants.{Left, Right}
+use Rattle.rules.specs.SetUp.{discipline_of}
+use Rattle.bus.specs.Types.{Address, Settings, Segment, Queues, State, Arrival}
 use Rattle.word.specs.Word.{count_of}
 use Rattle.state.specs.State.{Held, meaning, form, queue_at, standing}
 use Rattle.bus.specs.Coded.{Answer, Event, Idle, Collision, Success, succeeded, Stepped, Admission, arrival_of, coded_admit, coded_step, coded, admission_result, step_result, state_turned}
 use Rattle.bus.specs.Stretch.{Arrivals, Report, no_arrival, most_calls, no_report, asks, due, arrival_report, step_report, in_row, may_be_more}
-use Rattle.bus.specs.Parts.{refusal_at, asked_if, Moved, transmitters_in, moved_by, with_moved, queue_form, stays, Sent, progress_of, Sole, sole_of, heard_in}
+use Rattle.bus.specs.Parts.{refusal_at, asked_if, Moved, transmitters_in, moved_by, with_moved, queue_form, stays, Sent, Progress, progress_of, unheard_on, won_on, collided_on, Sole, sole_of, heard_in}
 use Rattle.state.proofs.Form.{form_meaning, standing_fits, held_form, parts_padded}
 use Rattle.state.proofs.Stands.{form_stands}
 use Rattle.bus.proofs.Coded.{coded_next, next_stands}
@@ -265,15 +268,54 @@ just_begun s r e =
 pub begun_as : {s x x' : State} {drops drops' : ℕ} → x' ≡ x → drops' ≡ drops → Begun s x drops → Begun s x' drops'
 begun_as {s} {x} {x'} {drops} a b o = subst (Begun s x') (sym b) (subst (λ (y : State). Begun s y drops) (sym a) o)
 
+-- the same of its parts, which have their settings and stations as they were
+pub record Opened (s : State) (g : Segment) (queues : Queues) (drops : ℕ) : Type 0 where
+  pub is : opened (meaning s) ≡ open_of (whole g queues) drops
+  pub ready : Lent (whole g queues)
+  pub begun : g.contention.begun ≡ true
+  pub clock : g.clock ≡ s.segment.clock
+  pub settings : g.settings ≡ s.segment.settings
+  pub listed : g.listed ≡ s.segment.listed
+
 -- a contention begun in place, where late packets have left the queues, is the one that a step probes
 module _ (s : State) (r : Lent s) (between : s.segment.contention.begun ≡ false) (rest : Queues)
     (kept : LeftIn (in_time_at s) s.queues 0 s.segment.settings.n rest) (ls : length rest.lengths ≡ 64) (ps : length rest.packets ≡ 1024) where
   pub begun_open :
-      (drops : ℕ) → drops ≡ drops_of (meaning s) → (g : Segment) → g ≡ begun_with s.segment rest drops → Begun s (whole g rest) drops
+      (drops : ℕ) → drops ≡ drops_of (meaning s) → (g : Segment) → g ≡ begun_with s.segment rest drops → Opened s g rest drops
   begun_open drops e g f =
-      begun_as (ap (λ (x : Segment). whole x rest) f ∙ begun_is s r rest kept drops e ls ps) e (just_begun s r between)
+      let b = begun_as (ap (λ (x : Segment). whole x rest) f ∙ begun_is s r rest kept drops e ls ps) e (just_begun s r between) in
+      record {
+        is = b.is;
+        ready = b.ready;
+        begun = b.begun;
+        clock = b.clock;
+        settings = ap (λ (x : Segment). x.settings) f;
+        listed = ap (λ (x : Segment). x.listed) f;
+      }
 
 -- ---- a probe in place
+
+-- a contention that goes on has no winner
+module _ (g : Settings) (pr : Progress) (drops count : ℕ) (sole : Sole) where
+  abbrev by : Bool → Bool → Side → Moved
+  by none one side =
+      cond
+      none
+      (unheard_on pr drops side)
+      (cond one (won_on (discipline_of g.discipline) pr drops sole.listed sole.packet) (collided_on g.a pr drops))
+
+  unended_by : (none one : Bool) (side : Side) → (by none one side).answer.ended ≡ false → (by none one side).answer.event ≡ Success → ⊥
+  unended_by true one Left f k = clash (ap succeeded k) refl
+  unended_by true one Right f k = clash refl f
+  unended_by false true side f k = clash refl f
+  unended_by false false side f k = clash (ap succeeded k) refl
+
+  pub unended :
+      (m : Moved) → m ≡ moved_by g pr drops count sole.listed sole.packet → m.answer.ended ≡ false → ¬ (m.answer.event ≡ Success)
+  unended m e f k =
+      unended_by (eqb count 0) (eqb count 1) pr.contention.window.side
+      (sym (ap (λ (o : Moved). o.answer.ended) e) ∙ f)
+      (sym (ap (λ (o : Moved). o.answer.event) e) ∙ k)
 
 -- as the code compares it
 same_success : (e : Event) → Bare.sameb event.the_type e Success ≡ succeeded e

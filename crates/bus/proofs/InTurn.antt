@@ -12,7 +12,7 @@ use Rattle.state.proofs.Stands.{Lent}
 use Rattle.bus.proofs.ClosingUp.{LeftIn}
 use Rattle.bus.proofs.BeginningLaws.{in_time_at, room_left, late_counted, lost_counted, begun_is, waiting_dropped}
 use Rattle.bus.proofs.OffersInPlace.{offering_to, none_leaves, offering_more}
-use Rattle.bus.proofs.InPlace.{whole}
+use Rattle.bus.proofs.InPlace.{whole, Opened, begun_open}
 
 -- ---- places of the rows
 
@@ -123,6 +123,16 @@ module _ (s : State) (r : Lent s) where
       ap (λ (y : Segment). whole y rest) (g! ∙ ap (λ (y : State). begun_with y.segment rest drops) x!)
       ∙ begun_is s r rest left drops (drops_are rest left arrays drops drops! (offering_to s 0) 0 refl) arrays.0 arrays.1
 
+  -- and the contention has begun in place
+  pub opened_late :
+      s.segment.contention.begun ≡ false → (rest : Queues) (left : LeftIn (in_time_at s) s.queues 0 s.segment.settings.n rest)
+      (arrays : (length rest.lengths ≡ 64) × (length rest.packets ≡ 1024)) (drops : ℕ)
+      (drops! : drops ≡ waiting_in s.queues.lengths s.segment.settings.n - waiting_in rest.lengths s.segment.settings.n) (x : State)
+      → x ≡ offering_all s → (g : Segment) → g ≡ begun_with x.segment rest drops → Opened s g rest drops
+  opened_late between rest left arrays drops drops! x x! g g! =
+      begun_open s r between rest left arrays.0 arrays.1 drops (drops_are rest left arrays drops drops! (offering_to s 0) 0 refl) g
+      (g! ∙ ap (λ (y : State). begun_with y.segment rest drops) x!)
+
   pub none_dropped : AllInTime s → 0 ≡ drops_of (meaning s)
   none_dropped on_time = let all = waiting_dropped s r s.queues (none_leaves s r on_time) r.held.lengths in omega arith
 
@@ -140,3 +150,14 @@ module _ (s : State) (r : Lent s) where
       (λ (m : ℕ). whole (segment_counting s.segment s.segment.admitted m (opening_of s.segment.settings.d) (recorded_in (offers_of s.segment s.queues))) s.queues)
       (sym (add-zero s.segment.lost))
       ∙ begun_is s r s.queues (none_leaves s r on_time) 0 (none_dropped on_time) r.held.lengths r.held.packets
+
+  pub opened_on_time :
+      s.segment.contention.begun ≡ false → AllInTime s → (x : State) → x ≡ offering_all s → (c : Contention) → c ≡ opening_of s.segment.settings.d
+      → Opened s (segment_counting x.segment x.segment.admitted x.segment.lost c (recorded_in x.segment)) s.queues 0
+  opened_on_time between on_time x x! c c! =
+      begun_open s r between s.queues (none_leaves s r on_time) r.held.lengths r.held.packets 0 (none_dropped on_time)
+      (segment_counting x.segment x.segment.admitted x.segment.lost c (recorded_in x.segment))
+      (ap₂ (λ (y : State) (k : Contention). segment_counting y.segment y.segment.admitted y.segment.lost k (recorded_in y.segment)) x! c!
+      ∙ ap
+      (λ (m : ℕ). segment_counting s.segment s.segment.admitted m (opening_of s.segment.settings.d) (recorded_in (offers_of s.segment s.queues)))
+      (sym (add-zero s.segment.lost)))

@@ -69,16 +69,17 @@ taken_fine p q e = ap (λ n. taken n p q) e
 
 -- ---- the bus
 
-module _ (p : Plan) (discipline : ℕ) (x : Fields) (h : discipline < 3) where
+module _ (p : Plan) (discipline : ℕ) (x : Fields) where
   abbrev settled : ℕ → Taken
   settled fault = cond (eqb fault 0) (taken (bus_fault (settings_said discipline x.values)) p (with_bus p (settings_said discipline x.values))) (taken fault p p)
 
-  pub bus_named : settled x.fault ≡ take_bus p discipline x
-  bus_named = ap (λ t. cond t (taken 2 p p) (settled x.fault)) (sym (ne_eqb discipline 3 (λ e. omega arith)))
+  pub bus_named : (discipline ≡ 3 → ⊥) → settled x.fault ≡ take_bus p discipline x
+  bus_named h = ap (λ t. cond t (taken 2 p p) (settled x.fault)) (sym (ne_eqb discipline 3 h))
 
   pub bus_said :
-      x.fault ≡ 0 → taken (bus_fault (settings_said discipline x.values)) p (with_bus p (settings_said discipline x.values)) ≡ take_bus p discipline x
-  bus_said e = ap settled (sym e) ∙ bus_named
+      (discipline ≡ 3 → ⊥) → x.fault ≡ 0
+      → taken (bus_fault (settings_said discipline x.values)) p (with_bus p (settings_said discipline x.values)) ≡ take_bus p discipline x
+  bus_said h e = ap settled (sym e) ∙ bus_named h
 
 -- a number of a line, as the code has it
 pub value_said : (values vs : List ℕ) (i : ℕ) → values ≡ padded vs → get_or values i 0 ≡ get_or vs i 0

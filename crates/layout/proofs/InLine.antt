@@ -1,20 +1,50 @@
 -- The words and numbers of a line, as the code finds them. Assumes nothing.
 use Prim.Native.Nat.{ℕ, zero, suc, ◌+◌, ◌-◌, ◌≤◌, ◌<◌}
 use mathlib.Core.Path.{◌≡◌, refl, sym, ap, subst, ◌∙◌}
+use mathlib.Core.Bool.{Bool, true, false, cond, true≢false}
 use mathlib.Core.List.{List, [], ◌∷◌, ◌++◌, append_assoc}
 use native.Mathlib.Omega.{arith}
+use borrow.Author.Tests.{leb-true}
 use native.Mathlib.Numerals.{add-one}
+use lib.Dec.{eqb, leb}
 use lib.ListN.{length, take, drop, get_or, set, replicate, length-append}
 use lib.Seq.{drop-cons, set-append_seam}
+use Rattle.rules.specs.Lists.{verdict, first_of}
+use Rattle.rules.specs.declared.Discipline.TheVariants.{RTDG, RTVC}
+use Rattle.rules.specs.Bus.{code}
 use Rattle.words.specs.Words.{first_word, after_word, word_span}
 use Rattle.words.specs.declared.Span.{Span}
 use Rattle.words.proofs.Spans.{span_within, span_word, span_after}
-use Rattle.layout.specs.Layout.{Fields, fields_in, faulty, with_value}
+use Rattle.layout.specs.Layout.{label_table, label_bytes, labels_table, labels_of, Fields, fields_in, faulty, with_value}
 use Rattle.std.proofs.lemmas.List.{get_or-map}
 use Rattle.std.specs.Prelude.{map}
 use Rattle.layout.specs.declared.labels.Label.{Label}
 use Rattle.layout.specs.Faults.{label_number}
 use Rattle.layout.specs.Parts.{padded, before}
+
+-- ---- the words before numbers
+
+-- what holds of each verdict holds of the first
+abbrev Each : {Out : Type 0} → (Out → Type 0) → List (Out × Bool) → Type 0
+Each P [] = Unit {0}
+Each P (t ∷ ts) = P t.0 × Each P ts
+
+pub of_first : {Out : Type 0} (P : Out → Type 0) (d : Out) (ts : List (Out × Bool)) → P d → Each P ts → P (first_of d ts)
+of_first P d [] h each = h
+of_first P d (t ∷ ts) h each = go t.1 (of_first P d ts h each.1)
+  where
+    go : (b : Bool) → P (first_of d ts) → P (verdict b t.0 (first_of d ts))
+    go true later = each.0
+    go false later = later
+
+pub label_short : (code : ℕ) → length (label_bytes code) ≤ 10
+label_short code =
+    of_first
+    (λ (w : List ℕ). length w ≤ 10)
+    []
+    (label_table code)
+    (omega arith)
+    (omega arith, (omega arith, (omega arith, (omega arith, (omega arith, (omega arith, (omega arith, (omega arith, (omega arith, (omega arith, (omega arith, (omega arith, (omega arith, tt)))))))))))))
 
 -- ---- the first word of a line, by where it begins and ends
 
@@ -35,6 +65,57 @@ spanned line s e =
     })
 
 -- ---- the numbers found so far
+
+abbrev small : ℕ → List ℕ → Bool
+small n [] = true
+small zero (x ∷ codes) = false
+small (suc n) (x ∷ codes) = cond (leb x 13) (small n codes) false
+
+small_few : (n : ℕ) (codes : List ℕ) → small n codes ≡ true → length codes ≤ n
+small_few n [] h = omega arith
+small_few zero (x ∷ codes) h = absurd (true≢false (sym h))
+small_few (suc n) (x ∷ codes) h = go (leb x 13) h (small_few n codes)
+  where
+    go : (t : Bool) → cond t (small n codes) false ≡ true → (small n codes ≡ true → length codes ≤ n) → suc (length codes) ≤ suc n
+    go true h few = let less = few h in omega arith
+    go false h few = absurd (true≢false (sym h))
+
+small_each : (n : ℕ) (codes : List ℕ) → small n codes ≡ true → (i : ℕ) → get_or codes i 0 ≤ 13
+small_each n [] h zero = omega arith
+small_each n [] h (suc i) = omega arith
+small_each zero (x ∷ codes) h i = absurd (true≢false (sym h))
+small_each (suc n) (x ∷ codes) h i = go (leb x 13) refl h i (small_each n codes)
+  where
+    go :
+        (t : Bool) → leb x 13 ≡ t → cond t (small n codes) false ≡ true → (i : ℕ) → (small n codes ≡ true → (i : ℕ) → get_or codes i 0 ≤ 13)
+        → get_or (x ∷ codes) i 0 ≤ 13
+    go true e h zero each = leb-true x 13 e
+    go true e h (suc i) each = each h i
+    go false e h i each = absurd (true≢false (sym h))
+
+labels_pass : (kind discipline : ℕ) → small 6 (labels_of kind discipline) ≡ true
+labels_pass kind discipline =
+    of_first
+    (λ codes. small 6 codes ≡ true)
+    []
+    (labels_table kind discipline)
+    refl
+    (refl, (station (eqb discipline (code RTVC)), (refl, (six (eqb discipline (code RTDG)), (refl, (refl, tt))))))
+  where
+    station : (t : Bool) → small 6 (cond t (4 ∷ 5 ∷ []) (4 ∷ [])) ≡ true
+    station true = refl
+    station false = refl
+
+    six : (t : Bool) → small 6 (9 ∷ 10 ∷ 11 ∷ 4 ∷ cond t 12 7 ∷ 8 ∷ []) ≡ true
+    six true = refl
+    six false = refl
+
+-- a kind of line has no more than six words, each with a number up to 13
+pub labels_few : (kind discipline : ℕ) → length (labels_of kind discipline) ≤ 6
+labels_few kind discipline = small_few 6 (labels_of kind discipline) (labels_pass kind discipline)
+
+pub labels_small : (kind discipline i : ℕ) → get_or (labels_of kind discipline) i 0 ≤ 13
+labels_small kind discipline = small_each 6 (labels_of kind discipline) (labels_pass kind discipline)
 
 -- numbers found are stored before zeros
 pub padded_next : (found : List ℕ) (n : ℕ) → length found < 6 → set (padded found) (length found) n ≡ padded (found ++ (n ∷ []))

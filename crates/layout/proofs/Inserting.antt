@@ -1,12 +1,13 @@
 -- Arrivals inserted into a row of places, one after the other. Assumes nothing.
-use Prim.Native.Nat.{ℕ, suc, ◌+◌, ◌-◌, ◌≤◌, ◌<◌}
+use Prim.Native.Nat.{ℕ, suc, ◌+◌, ◌*◌, ◌-◌, ◌≤◌, ◌<◌}
 use mathlib.Core.Path.{◌≡◌, refl, sym, ap, ap₂, ◌∙◌}
 use mathlib.Core.Bool.{Bool, true, false, cond}
 use mathlib.Core.List.{List, [], ◌∷◌, ◌++◌, append-nil}
+use native.Mathlib.Nat.{div-mul-le_self}
 use native.Mathlib.Omega.{arith}
 use borrow.Rule.Slice.PartMut.{put_mid}
-use borrow.Author.Tests.{ltb-true, leb-true, leb-false, eqb-true, lt-ltb, le-ltb}
-use lib.Dec.{leb, ltb}
+use borrow.Author.Tests.{ltb-true, leb-true, leb-false, eqb-true, eq-eqb, ne_eqb, lt-ltb, le-ltb}
+use lib.Dec.{leb, ltb, eqb}
 use lib.ListN.{length, get_or, take, drop, set, length-drop}
 use lib.Seq.{drop-cons, set-append_seam, length-take-le}
 use Rattle.rules.specs.Bus.{clock_end}
@@ -17,7 +18,7 @@ use Rattle.std.specs.List.{prefix_len, take_while}
 use Rattle.std.proofs.lemmas.List.{drop-take, take-take, take_all, drop_all}
 use Rattle.std.proofs.lemmas.List.Folds.{length-prefix_len}
 use Rattle.state.specs.declared.Arrival.{Arrival}
-use Rattle.layout.specs.Layout.{inserted, arrival_of}
+use Rattle.layout.specs.Layout.{inserted, later, value_at, arrival_of}
 
 -- ---- one arrival
 
@@ -95,6 +96,25 @@ module _ (xs ys : List Arrival) (p : ℕ) (a : Arrival) (h : p < length xs) wher
       ∙ sym (inserted_at a others)
 
 -- ---- an arrival every so many slots
+
+module _ (discipline value time : ℕ) where
+  pub value_after : discipline ≡ 1 → value_at discipline value time ≡ time + value
+  value_after e = rw (eq-eqb discipline 1 e)
+
+  pub value_same : (discipline ≡ 1 → ⊥) → value_at discipline value time ≡ value
+  value_same e = rw (ne_eqb discipline 1 e)
+
+-- a later one's value is not below
+pub value_up : (discipline value time last : ℕ) → time ≤ last → value_at discipline value time ≤ value_at discipline value last
+value_up discipline value time last h = up (eqb discipline 1)
+  where
+    up : (datagram : Bool) → cond datagram (time + value) value ≤ cond datagram (last + value) value
+    up true = omega arith
+    up false = omega arith
+
+-- the last is not past the second slot
+pub last_within : (every from to : ℕ) → from ≤ to → from + later every from to * every ≤ to
+last_within every from to h = omega (arith, div-mul-le_self (to - from) every)
 
 -- ---- values
 

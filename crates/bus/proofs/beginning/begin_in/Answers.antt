@@ -9,7 +9,7 @@ use Rattle.bus.proofs.ClosingUp.{LeftIn}
 use Rattle.rules.specs.Begin.{drops_of}
 use Rattle.bus.proofs.OffersInPlace.{offering_to}
 use Rattle.bus.proofs.BeginningLaws.{in_time_at, all_formed}
-use Rattle.bus.proofs.InTurn.{fewer_left, drops_are, MayBegin, may_begin_so, begun_late, begun_on_time, none_dropped}
+use Rattle.bus.proofs.InTurn.{fewer_left, drops_are, MayBegin, may_begin_so, begun_late, begun_on_time, opened_late, opened_on_time, none_dropped}
 use Rattle.bus.proofs.beginning.begin_in.Goals as goal
 use Rattle.bus.proofs.beginning.begin_in.Goals.{After-offer_all}
 
@@ -129,9 +129,16 @@ drop_late-requires-clause-rows c =
     let at = (goal.at.drop_late-requires-clause-rows c).After-offer_all in
     subst IsRow (queues! at) ((r at).held.lengths, (r at).held.packets)
 
+-- the stations stay as they were, for the contention has begun in place
 pub returns-then-not-offer_all-clause-listed : goal.returns-then-not-offer_all-clause-listed
-returns-then-not-offer_all-clause-listed c = ap (λ (y : State). y.segment.listed) c.offer_all.ensures.offers
+returns-then-not-offer_all-clause-listed c =
+    let at = (goal.at.returns-then-not-offer_all-clause-listed c).After-offer_all in
+    (opened_on_time (s at) (r at) c.requires.between (c.offer_all.ensures.in_time c.if-not-offer_all.true) (x at) (x! at) c.opening-s.result c.opening-s.ensures).listed
 
 pub returns-clause-listed : goal.returns-clause-listed
 returns-clause-listed c =
-    ap (λ (y : Segment). y.listed) c.begun-s.ensures ∙ ap (λ (y : State). y.segment.listed) c.offer_all.ensures.offers
+    let at = (goal.at.returns-clause-listed c).After-offer_all in
+    let rest = c.drop_late.new.queues in
+    let drops = c.dropped-drops.result in
+    (opened_late (s at) (r at) c.requires.between rest (left! at rest c.drop_late.ensures.left) c.drop_late.ensures.rows drops (dropped! at rest drops c.dropped-drops.ensures)
+    (x at) (x! at) c.begun-s.result c.begun-s.ensures).listed

@@ -1,5 +1,5 @@
 -- `Plan::take_bus` meets its contract: its discipline, its words and numbers, and refusals 2 to 5.
-use Rattle.std.proofs.Common.{◌≡◌, ◌<◌, sym, ap, ap₂, subst, ◌∙◌, Ok, Err, rules, arith, get_or}
+use Rattle.std.proofs.Common.{◌≡◌, sym, ap, ap₂, subst, ◌∙◌, Ok, Err, rules, arith, get_or}
 use Rattle.rules.specs.Bus.{code}
 use Rattle.words.specs.Words.{first_word, after_word}
 use Rattle.layout.specs.Layout.{discipline_named, fields_in, labels_of, bus_line, Fields, settings_said, bus_fault, with_bus}
@@ -24,8 +24,9 @@ said c =
     c.in_ok-d.was
     (subst (λ fs. FieldsSaid c.fields_in.result fs) (ap₂ fields_in c.labels_of.ensures c.parted.ensures.after) c.fields_in.ensures)
 
-small : (c : In-Some) → discipline_named (first_word c.args.line.now) < 3
-small c = let d = code_small c.in-Some.discipline in omega (arith, named c)
+-- which is one of the three
+one_named : (c : In-Some) → discipline_named (first_word c.args.line.now) ≡ 3 → ⊥
+one_named c e = let d = code_small c.in-Some.discipline in omega (arith, named c)
 
 -- the settings that they give, and what refuses them
 settled : (c : After-bus_refused) → let x = x (goal.at.After-bus_refused c).Start in
@@ -51,7 +52,7 @@ returns-in_err-bus_refused c =
     let given : c.from_residual-in_err-bus_refused.result ≡ Err c.in_err-bus_refused.field-0.0 = search rules in
     ap (λ r. taken_of r c.args.self.now) given
     ∙ taken_faulty c.in_err-bus_refused.field-0.0 p (with_bus p (settings_said d (x at.Start).values)) (sym (ap fault_in c.in_err-bus_refused.was) ∙ refused at.After-bus_refused)
-    ∙ bus_said p d (x at.Start) (small at.In-Some) (said at.In_ok-d).0
+    ∙ bus_said p d (x at.Start) (one_named at.In-Some) (said at.In_ok-d).0
 
 pub invariant_of-self-clause-named : goal.invariant_of-self-clause-named
 invariant_of-self-clause-named c = c.number_of.ensures.upper_bound
@@ -66,4 +67,4 @@ returns c =
     let d = discipline_named (first_word c.args.line.now) in
     bus_planned c.args.self.now (settled at.After-bus_refused) (c.args.self.now.first c.requires)
     ∙ taken_fine p (with_bus p (settings_said d (x at.Start).values)) (sym (ap fault_in c.in_ok-bus_refused.was) ∙ refused at.After-bus_refused)
-    ∙ bus_said p d (x at.Start) (small at.In-Some) (said at.In_ok-d).0
+    ∙ bus_said p d (x at.Start) (one_named at.In-Some) (said at.In_ok-d).0
