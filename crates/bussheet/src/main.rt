@@ -2,7 +2,8 @@
 // error. It reads and writes; all else is the libraries'.
 #![tactic(auto)]
 
-ghost use Rattle.std.specs.Prelude.{◌≡◌, length};
+ghost use Rattle.std.specs.Prelude.{◌≤◌, ◌≡◌, length};
+ghost use Rattle.sheet.specs.Sheet.{most_runs};
 
 use page::{Entry, Refusal};
 use scenario::Refused;
@@ -27,7 +28,9 @@ const HANDED: usize = 600;
 // What becomes of a file: its scenario's run, or what refuses it; nothing where the file cannot be read.
 type Outcome = Option<Result<Run, Refused>>;
 
-// Says on standard error, in one line, what went wrong.
+// Says on standard error, in one line, what went wrong. It stays a function of its own in the compiled program: `main` would hold its room under
+// the runs that are measured.
+#[inline(never)]
 fn say(words: &[u8]) {
     let mut room = io::large_buffer();
     let mut line = Writer {
@@ -63,12 +66,14 @@ fn say_refused(name: &[u8], input: &[u8], refused: Refused) {
     say_of(name, &room[..length]);
 }
 
-// Says that more files are named than a sheet has runs.
+// Says that more files are named than a sheet has runs: in one room, where `say` would take another.
+#[inline(never)]
 fn say_too_many() {
     let mut room = io::large_buffer();
-    let named = text::letters(&mut room, 0, b"refused, number 23: ");
-    let end = meanings::meaning(&mut room, named, u32::from(sheet::Refused::TooMany));
-    say(&room[..end]);
+    let named = text::letters(&mut room, 0, b"bussheet: refused, number 23: ");
+    let said = meanings::meaning(&mut room, named, u32::from(sheet::Refused::TooMany));
+    let end = text::put(&mut room, said, b'\n');
+    io::write_all(STDERR, &room[..end]);
 }
 
 // Says that the text could not be written, unless its reader has closed it.
@@ -124,21 +129,29 @@ fn opened(rt: &HostRuntime, path: &str, name: &[u8]) -> Outcome {
     }
 }
 
+// The last digit of a number.
+fn digit(n: usize) -> u8 {
+    b'0' + (n % 10) as u8
+}
+
+// The path of the open file that is handed over for an argument. By its digits, in eleven bytes: a writer's room would lie on the stack under
+// the run that is measured.
+fn handed(i: usize) -> [u8; 11] {
+    let n = HANDED + i % 400;
+    let mut path = *b"/dev/fd/000";
+    path[8] = digit(n / 100);
+    path[9] = digit(n / 10);
+    path[10] = digit(n);
+    path
+}
+
 // What becomes of the file with this name, which an argument has. The library opens a file by text alone: one with a name that is no UTF-8 has
 // to be handed over.
 fn found(rt: &HostRuntime, i: usize, name: &[u8]) -> Outcome {
     if let Ok(path) = str::from_utf8(name) {
         return opened(rt, path, name);
     }
-    let mut room = io::large_buffer();
-    let mut path = Writer {
-        room: &mut room,
-        at: 0,
-    };
-    path.letters(b"/dev/fd/");
-    path.number((HANDED + i % 400) as u64);
-    let end = path.at;
-    match str::from_utf8(&room[..end]) {
+    match str::from_utf8(&handed(i)) {
         Ok(path) => opened(rt, path, name),
         Err(_) => {
             say_unread(name);
@@ -197,6 +210,8 @@ fn write_line(rt: &HostRuntime, i: usize, entry: Entry) -> Result<(), Error> {
     }
 }
 
+// A function of its own in the compiled program, as `say` is.
+#[inline(never)]
 fn write_heading(rt: &HostRuntime) -> Result<(), Error> {
     let mut room = io::large_buffer();
     let count = page::heading(&mut room);
@@ -263,20 +278,30 @@ fn file_count(rt: &HostRuntime) -> usize {
     usize::MAX
 }
 
+// Plays so many files and writes their sheet. A function of its own in the compiled program, so that its rows lie under no refusal.
+#[inline(never)]
+fn play_all(rt: &HostRuntime, count: usize)
+    requires { count ≤ most_runs }
+{
+    let mut files = [None; 256];
+    let mut runs = [sheet::NO_RUN; 256];
+    for (i, (file, its)) in files[..count].iter_mut().zip(&mut runs).enumerate() {
+        *file = played(rt, i + 1);
+        *its = run(*file);
+    }
+    // Nothing refuses them: they are no more than a sheet has runs, and a measured run balances (`fits` of measure/proofs/Promises).
+    if let Ok(sheet) = sheet::draw(runs, count) {
+        if let Err(e) = write(rt, sheet, &files[..count]) {
+            say_unwritten(e.kind());
+        }
+    }
+}
+
 fn main(rt: HostRuntime) {
     let count = file_count(&rt);
     if MOST_RUNS < count {
         refuse();
         return;
     }
-    let mut files = [None; 256];
-    for (i, file) in files[..count].iter_mut().enumerate() {
-        *file = played(&rt, i + 1);
-    }
-    // Nothing refuses them: they are no more than a sheet has runs, and a measured run balances (`fits` of measure/proofs/Promises).
-    if let Ok(sheet) = sheet::draw(files.map(run), count) {
-        if let Err(e) = write(&rt, sheet, &files[..count]) {
-            say_unwritten(e.kind());
-        }
-    }
+    play_all(&rt, count);
 }
