@@ -1,25 +1,41 @@
--- Bytes that go together at the start of a text: how they are counted, and how they stand in the text. Assumes nothing.
-use Prim.Native.Nat.{ℕ, suc, ◌+◌, ◌≤◌}
+-- Bytes that go together at the start of a text: a turn of the loop that passes them, and how they stand in the text. Assumes nothing.
+use Prim.Native.Nat.{ℕ, suc, ◌+◌, ◌≤◌, ◌<◌}
 use mathlib.Core.Path.{◌≡◌, refl, sym, ap, ap₂, ◌∙◌}
 use mathlib.Core.Bool.{Bool, true, false, cond}
 use mathlib.Core.List.{List, [], ◌∷◌, ◌++◌}
+use native.Mathlib.Numerals.{add-one}
 use native.Mathlib.Omega.{arith}
-use lib.ListN.{length, take, drop}
-use Rattle.std.specs.List.{take_while}
-use Rattle.std.proofs.lemmas.List.Sums.{take_while-cons}
+use lib.ListN.{length, take, drop, get_or, drop_of_length-le}
+use lib.Seq.{drop-cons}
 use Rattle.words.specs.Words.{while}
 
+-- ---- the loop
+
+-- what stands from an offset on, by whether the byte there passes the test
+while_here :
+    (test : ℕ → Bool) (text : List ℕ) (at : ℕ) {t : Bool} → at < length text → t ≡ test (get_or text at 0)
+    → while test (drop at text) ≡ cond t (get_or text at 0 ∷ while test (drop (suc at) text)) []
+while_here test text at h e =
+    ap (while test) (drop-cons text at 0 h) ∙ ap (λ t. cond t (get_or text at 0 ∷ while test (drop (suc at) text)) []) (sym e)
+
+-- the offset past the bytes from an offset on: that from the next on, where the byte passes; the offset itself, where it does not, or past the end
+pub past_more :
+    (test : ℕ → Bool) (text : List ℕ) (at : ℕ) {t : Bool} → at < length text → t ≡ test (get_or text at 0) → t ≡ true
+    → at + length (while test (drop at text)) ≡ at + 1 + length (while test (drop (at + 1) text))
+past_more test text at h e passed =
+    let here = ap length (while_here test text at h (sym passed ∙ e)) in
+    let next = ap (λ n. length (while test (drop n text))) (add-one at) in
+    omega arith
+
+pub past_stop :
+    (test : ℕ → Bool) (text : List ℕ) (at : ℕ) {t : Bool} → at < length text → t ≡ test (get_or text at 0) → t ≡ false
+    → at + length (while test (drop at text)) ≡ at
+past_stop test text at h e stopped = let here = ap length (while_here test text at h (sym stopped ∙ e)) in omega arith
+
+pub past_end : (test : ℕ → Bool) (text : List ℕ) (at : ℕ) → length text ≤ at → at + length (while test (drop at text)) ≡ at
+past_end test text at h = let none = ap (λ (l : List ℕ). length (while test l)) (drop_of_length-le text h) in omega arith
+
 -- ---- how they stand in the text
-
--- they are those that the library's `take_while` takes
-pub while_of_library : (test : ℕ → Bool) (text : List ℕ) → take_while test text ≡ while test text
-while_of_library test [] = refl
-while_of_library test (b ∷ rest) = take_while-cons test b rest ∙ ap (λ (l : List ℕ). cond (test b) (b ∷ l) []) (while_of_library test rest)
-
--- and as many
-pub counted : (test : ℕ → Bool) (at : ℕ) (text : List ℕ) {rest : List ℕ} {n : ℕ} → rest ≡ drop at text → n ≡ length (take_while test rest)
-    → at + n ≡ at + length (while test (drop at text))
-counted test at text r e = ap (λ n. at + n) (e ∙ ap length (while_of_library test _) ∙ ap (λ (l : List ℕ). length (while test l)) r)
 
 -- they are no more than the text, and its start
 pub while_few : (test : ℕ → Bool) (text : List ℕ) → length (while test text) ≤ length text

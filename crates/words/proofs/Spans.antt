@@ -1,15 +1,18 @@
 -- The words of a line: where the first from an offset on begins and ends, and what stands there. Assumes nothing.
-use Prim.Native.Nat.{ℕ, ◌+◌, ◌-◌, ◌≤◌}
-use mathlib.Core.Path.{◌≡◌, sym, ap, ap₂, ◌∙◌}
+use Prim.Native.Nat.{ℕ, ◌-◌, ◌≤◌}
+use mathlib.Core.Path.{◌≡◌, sym, ap, ◌∙◌}
 use mathlib.Core.List.{List}
 use native.Mathlib.Omega.{arith}
 use lib.ListN.{length, take, drop, length-drop}
 use lib.Seq.{drop-drop}
-use Rattle.words.specs.Words.{Span, while, blank, in_word, blanks, unblanked, first_word, after_word, word_span}
+use Rattle.words.specs.Words.{blank, in_word, blanks, unblanked, first_word, after_word, word_span}
 use Rattle.words.proofs.Runs.{while_few, while_taken}
 
 module _ (line : List ℕ) (at : ℕ) where
-  -- it ends where it begins or past that
+  -- it begins at the offset or past it, and ends there or past that
+  pub span_begins : at ≤ (word_span line at).from
+  span_begins = omega arith
+
   pub span_ends : (word_span line at).from ≤ (word_span line at).to
   span_ends = omega arith
 
@@ -36,15 +39,3 @@ module _ (line : List ℕ) (at : ℕ) where
   pub span_after : drop (word_span line at).to line ≡ after_word (drop at line)
   span_after =
       sym (drop-drop (length (first_word (drop at line))) (word_span line at).from line) ∙ ap (drop (length (first_word (drop at line)))) span_from
-
-  -- where the blanks are counted first, and the word from there on
-  pub span_counted :
-      {from to : ℕ} → from ≡ at + length (blanks (drop at line)) → to ≡ from + length (while in_word (drop from line))
-      → ◌≡◌ {A = Span} (record { from = from; to = to }) (word_span line at)
-  span_counted f t =
-      ap₂
-      (λ a b. record { from = a; to = b })
-      f
-      (t
-      ∙ ap (λ n. n + length (while in_word (drop n line))) f
-      ∙ ap (λ (l : List ℕ). (word_span line at).from + length (while in_word l)) span_from)
